@@ -1,0 +1,10 @@
+pub mod Value
+pub mod Tree
+pub mod Bytes
+pub mod Token
+pub mod Text
+pub mod Reading
+pub mod Printed
+pub mod Evaluation
+pub mod Meaning
+pub mod Command
