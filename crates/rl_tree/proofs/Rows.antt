@@ -6,7 +6,6 @@ use Rattle.rl_tree.specs.Tree.{Tree, Int, Id, Pair, nil, quoted}
 use Rattle.rl_tree.specs.Reading.{read_text}
 use Rattle.rl_tree.specs.Meaning.{meaning, Finished, Missing, Unbuilt, nothing_printed, Meaning}
 
-
 -- a pair of two integers is printed as a dotted pair
 pub prints_pair : meaning (Some (codes "(PRINT (CONS 1 2))")) ≡ record { outcome = Finished; output = codes "(1 . 2)\n" }
 unfolding digits

@@ -6,5 +6,6 @@ pub mod Text
 pub mod Reading
 pub mod Printed
 pub mod Evaluation
+pub mod Shown
 pub mod Meaning
 pub mod Command
