@@ -1,0 +1,5 @@
+pub mod Faults
+pub mod Told
+pub mod Pieces
+pub mod FileReads
+pub mod Folder

@@ -1,0 +1,9 @@
+//! The edge of the product: where bytes come from and go to. Three traits say what a read or a write did and count
+//! the faults; there are objects in memory, which tests and users make, and real ones over the runtime.
+#![tactic(auto)]
+
+mod errors;
+mod traits;
+
+pub use errors::{Failed, OutOfMemory};
+pub use traits::{FileRead, Files, Io, Sink, Source};
