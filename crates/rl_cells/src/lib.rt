@@ -1,0 +1,9 @@
+//! The store of objects: pairs in one block of memory, seen as a list of cells.
+#![tactic(auto)]
+
+mod store;
+
+pub use store::{Cells, Full, OutOfMemory};
+
+#[cfg(test)]
+mod tests;
