@@ -37,6 +37,12 @@ front_cuts test (b ∷ bs) =
       | inr e ↦ subst (IsCutBehind test (b ∷ bs)) (sym (front-no test b bs e)) (record { whole = refl; passes = refl; ends = e })
     ]
 
+-- the first byte is in the front if it passes
+pub cut_begins : (test : ℕ → Bool) (b : ℕ) (bs front rest : List ℕ) → test b ≡ true → IsCut test (b ∷ bs) front rest → (more : List ℕ) × (front ≡ b ∷ more)
+cut_begins test b bs (c ∷ cs) rest pass cut = let e = cut.whole in (cs, cc)
+cut_begins test b bs [] (c ∷ cs) pass cut = let e = cut.whole in let stop = cut.ends in absurd cc
+cut_begins test b bs [] [] pass cut = let e = cut.whole in absurd cc
+
 -- a cut's front is the front that is found
 pub front_is : (test : ℕ → Bool) (front rest : List ℕ) → list_all test front ≡ true → Ends test rest → front_of test (front ++ rest) ≡ front
 front_is test [] [] passes ends = refl
