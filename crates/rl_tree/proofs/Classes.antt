@@ -1,5 +1,5 @@
 -- The classes of bytes exclude one another.
-use Rattle.std.proofs.Common.{◌≡◌, ℕ, true, false, ◌||◌, ◌==◌, ◌⊎◌, ⊎_elim, inl, inr, arith}
+use Rattle.std.proofs.Common.{◌≡◌, ℕ, true, false, ◌||◌, ◌==◌, ◌⊎◌, inl, inr, arith}
 use Rattle.std.proofs.lemmas.Bool.{or_left, or_cases}
 use Rattle.std.proofs.lemmas.Bool.Decides.{nat_tests}
 use Rattle.rl_tree.specs.Bytes.{is_blank, is_letter, is_digit, is_name_byte}
@@ -15,10 +15,10 @@ blank_cases b blank =
     elim (or_cases (b == 9 || b == 10 || b == 12 || b == 13) (b == 32) blank) [
       | inr e ↦ inr e
       | inl four ↦ elim (or_cases (b == 9 || b == 10 || b == 12) (b == 13) four) [
-          | inr e ↦ inl (inr e)
-          | inl three ↦ elim (or_cases (b == 9 || b == 10) (b == 12) three) [
-              | inr e ↦ inl (inl (inr e))
-              | inl two ↦ inl (inl (inl (or_cases (b == 9) (b == 10) two)))
-            ]
+        | inr e ↦ inl (inr e)
+        | inl three ↦ elim (or_cases (b == 9 || b == 10) (b == 12) three) [
+          | inr e ↦ inl (inl (inr e))
+          | inl two ↦ inl (inl (inl (or_cases (b == 9) (b == 10) two)))
         ]
+      ]
     ]

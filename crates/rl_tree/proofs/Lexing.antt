@@ -1,5 +1,5 @@
 -- One token at the front of bytes: what is found is spelled, and what is spelled is found.
-use Rattle.std.proofs.Common.{◌≡◌, ℕ, ℤ, pos, ◌+◌, ◌^◌, ◌<◌, ◌≤◌, Bool, true, false, ◌&&◌, ◌||◌, ◌==◌, nat_le, nat_lt, if◌then◌else◌, List, [], ◌∷◌, ◌++◌, length, map, refl, ap, ap₂, ◌∙◌, subst, sym, inl, inr, ⊎_elim, arith, leb-true, ltb-true, eqb-true, le-leb, lt-ltb}
+use Rattle.std.proofs.Common.{◌≡◌, ℕ, ℤ, pos, ◌^◌, ◌<◌, ◌≤◌, true, false, ◌==◌, nat_le, nat_lt, if◌then◌else◌, List, [], ◌∷◌, ◌++◌, length, map, refl, ap, ap₂, ◌∙◌, subst, sym, inl, inr, ⊎_elim, arith, leb-true, ltb-true, eqb-true, le-leb, lt-ltb}
 use Rattle.std.specs.List.{list_all}
 use Rattle.std.proofs.lemmas.Bool.{cond_both, cond-true, cond-false, cases_Bool, and_parts}
 use Rattle.rl_tree.specs.Bytes.{is_blank, is_letter, is_digit, is_name_byte, raised}
@@ -42,25 +42,26 @@ mark_ends token (b ∷ bs) none = none b
 symbol_lexed : (text rest : List ℕ) → starts_name text ≡ true → list_all is_name_byte text ≡ true → Ends is_name_byte rest → IsLexed (text ++ rest) (symbol_at text rest)
 symbol_lexed text rest starts passes ends =
     cond_both (nat_le (length text) 255) (Found (Symbol (map raised text)) rest) Bad (IsLexed (text ++ rest))
-      (λ e. record { text = text; is = refl; spelled = record { starts = starts; goes_on = passes; short = leb-true _ _ e; is = refl }; ends = EndsBefore-from (Symbol (map raised text)) rest ends })
-      (λ e. tt)
+    (λ e. record { text = text; is = refl; spelled = record { starts = starts; goes_on = passes; short = leb-true _ _ e; is = refl }; ends = EndsBefore-from (Symbol (map raised text)) rest ends })
+    (λ e. tt)
 
 plain_lexed : (text rest : List ℕ) → AreDigits text → Ends is_digit rest → IsLexed (text ++ rest) (plain_number_at text rest)
 plain_lexed text rest are ends =
     cond_both (nat_lt (number_of text) (2 ^ 59)) (Found (Number (pos (number_of text))) rest) Bad (IsLexed (text ++ rest))
-      (λ e. record { text = text; is = refl; spelled = inl (record { digits = are; is = refl; fits = ltb-true _ _ e }); ends = EndsBefore-from (Number (pos (number_of text))) rest ends })
-      (λ e. tt)
+    (λ e. record { text = text; is = refl; spelled = inl (record { digits = are; is = refl; fits = ltb-true _ _ e }); ends = EndsBefore-from (Number (pos (number_of text))) rest ends })
+    (λ e. tt)
 
 signed_lexed : (digits rest : List ℕ) → list_all is_digit digits ≡ true → Ends is_digit rest → IsLexed (45 ∷ (digits ++ rest)) (signed_number_at digits rest)
 signed_lexed [] rest are ends = tt
 signed_lexed (d ∷ ds) rest are ends =
     cond_both (nat_le (number_of (d ∷ ds)) (2 ^ 59)) (Found (Number (negated (number_of (d ∷ ds)))) rest) Bad (IsLexed (45 ∷ ((d ∷ ds) ++ rest)))
-      (λ e. record {
-        text = 45 ∷ d ∷ ds; is = refl;
-        spelled = inr (record { digits = d ∷ ds; spelled = refl; are_digits = record { some = omega arith; digits = are }; is = refl; fits = leb-true _ _ e });
-        ends = EndsBefore-from (Number (negated (number_of (d ∷ ds)))) rest ends;
-      })
-      (λ e. tt)
+    (λ e. record {
+      text = 45 ∷ d ∷ ds;
+      is = refl;
+      spelled = inr (record { digits = d ∷ ds; spelled = refl; are_digits = record { some = omega arith; digits = are }; is = refl; fits = leb-true _ _ e });
+      ends = EndsBefore-from (Number (negated (number_of (d ∷ ds)))) rest ends;
+    })
+    (λ e. tt)
 
 -- the token that begins with a byte that passes is found at the cut
 symbol_from : (b : ℕ) (bs front rest : List ℕ) → is_letter b ≡ true → IsCut is_name_byte (b ∷ bs) front rest → IsLexed (b ∷ bs) (symbol_at front rest)
