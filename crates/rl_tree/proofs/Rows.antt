@@ -1,10 +1,10 @@
 -- The definitions, tried on examples: each side computes to the other.
-use Rattle.std.proofs.Common.{◌≡◌, ℕ, ◌++◌, List, [], ◌∷◌, Some, None, refl, replicate, pos, negsuc}
+use Rattle.std.proofs.Common.{◌≡◌, ◌++◌, [], ◌∷◌, Some, None, refl, replicate, pos, negsuc}
 use Rattle.std.specs.Prelude.{codes}
 use Rattle.std.specs.Fmt.{digits}
-use Rattle.rl_tree.specs.Tree.{Tree, Int, Id, Pair, nil, quoted}
+use Rattle.rl_tree.specs.Tree.{Int, Id, Pair, nil, quoted}
 use Rattle.rl_tree.specs.Reading.{read_text}
-use Rattle.rl_tree.specs.Meaning.{meaning, Finished, Missing, Unbuilt, nothing_printed, Meaning}
+use Rattle.rl_tree.specs.Meaning.{meaning, Finished, Missing, Unbuilt, nothing_printed}
 
 -- a pair of two integers is printed as a dotted pair
 pub prints_pair : meaning (Some (codes "(PRINT (CONS 1 2))")) ≡ record { outcome = Finished; output = codes "(1 . 2)\n" }

@@ -1,7 +1,7 @@
 -- Reading Lisp text: what the bytes spell, computed; None where they spell nothing.
-use Rattle.std.specs.Prelude.{ℕ, zero, suc, ℤ, pos, ◌+◌, ◌^◌, Bool, true, false, ◌&&◌, ◌==◌, nat_lt, nat_le, if◌then◌else◌, List, [], ◌∷◌, ◌++◌, length, map, reverse, take, drop, take_while, Option, Some, None, option_map, option_and_then}
+use Rattle.std.specs.Prelude.{ℕ, zero, suc, pos, ◌^◌, Bool, ◌==◌, nat_lt, nat_le, if◌then◌else◌, List, [], ◌∷◌, length, map, reverse, drop, take_while, Option, Some, None, option_map, option_and_then}
 use Rattle.rl_tree.specs.Bytes.{is_blank, is_letter, is_digit, is_name_byte, raised}
-use Rattle.rl_tree.specs.Tree.{Name, Tree, Int, Id, Pair, nil, quoted}
+use Rattle.rl_tree.specs.Tree.{Tree, Int, Id, Pair, nil, quoted}
 use Rattle.rl_tree.specs.Token.{Token, Open, Close, Dot, Quote, Number, Symbol, number_of, negated}
 
 -- what stands at the front of bytes: nothing but blanks, a token with what follows it, or something that is no token
