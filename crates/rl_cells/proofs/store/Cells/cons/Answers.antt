@@ -11,5 +11,5 @@ invariant_of-self c =
     let room : has_room c.args.self.now 1 ≡ true = search rules in
     let long : vec_len s.pairs ≡ length (cells_of s.pairs.items) = rw length-map (search rules) in
     rw (c.counted_more-self-inside.ensures, c.in-Ok.ensures.items, c.in-Ok.ensures.len, map-append)
-    (IsSound-new_pair (cells_of s.pairs.items) (vec_len s.pairs) (vec_capacity s.pairs) (vec_capacity c.push.new.self) s.most s.counted c.args.self.now c.args.car c.args.cdr
-    c.self.invariant c.self.view_is long c.in-Ok.ensures.capacity room c.requires.car_live c.requires.cdr_live)
+    (IsSound-new_pair (cells_of s.pairs.items) (vec_len s.pairs) (vec_capacity s.pairs) (vec_capacity c.push.new.self) s.most s.counted c.args.self.now _ _
+    c.self.invariant c.self.view_is long c.in-Ok.ensures.capacity room (search rules) (search rules))
