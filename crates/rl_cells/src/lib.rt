@@ -3,7 +3,7 @@
 
 mod store;
 
-pub use store::{Cells, Full, OutOfMemory};
+pub use store::{Cells, Full};
 
 #[cfg(test)]
 mod tests;

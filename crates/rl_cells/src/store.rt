@@ -3,13 +3,10 @@ ghost use Rattle.std.specs.Option.{ForSome};
 ghost use Rattle.rl_tags.specs.Tagged.{PairAt};
 ghost use Rattle.rl_cells.specs.Cell.{PairCell, is_live, is_pair, car_of, cdr_of, used_of, has_room, grown, more_counted, IsClosed};
 
+use rl_io::OutOfMemory;
 use rl_tags::{Tag, Val};
 use std::alloc::Global;
 use std::marker::Model;
-
-/// The memory for the cells could not be had.
-#[derive(Clone, Copy, Debug, PartialEq, Eq)]
-pub struct OutOfMemory;
 
 /// There is no room left.
 #[derive(Clone, Copy, Debug, PartialEq, Eq)]
