@@ -3,3 +3,5 @@ pub mod Told
 pub mod Pieces
 pub mod FileReads
 pub mod Folder
+pub mod Calls
+pub mod Memory

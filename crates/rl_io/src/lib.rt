@@ -2,8 +2,14 @@
 //! the faults; there are objects in memory, which tests and users make, and real ones over the runtime.
 #![tactic(auto)]
 
+mod calls;
+mod copies;
 mod errors;
+mod sinks;
+mod sources;
 mod traits;
 
 pub use errors::{Failed, OutOfMemory};
+pub use sinks::{MemSink, NullSink};
+pub use sources::{MemSource, SureSource};
 pub use traits::{FileRead, Files, Io, Sink, Source};
