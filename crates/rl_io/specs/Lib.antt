@@ -5,3 +5,5 @@ pub mod FileReads
 pub mod Folder
 pub mod Calls
 pub mod Memory
+pub mod Entries
+pub mod Layout

@@ -5,11 +5,14 @@
 mod calls;
 mod copies;
 mod errors;
+mod folders;
 mod sinks;
 mod sources;
+mod store;
 mod traits;
 
 pub use errors::{Failed, OutOfMemory};
+pub use folders::MemFiles;
 pub use sinks::{MemSink, NullSink};
 pub use sources::{MemSource, SureSource};
 pub use traits::{FileRead, Files, Io, Sink, Source};

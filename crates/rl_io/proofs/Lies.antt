@@ -1,0 +1,121 @@
+-- Files that lie one after another.
+use Rattle.std.proofs.Common.{◌≡◌, ℕ, ◌+◌, ◌-◌, ◌*◌, ◌<◌, ◌≤◌, Bool, false, List, [], ◌∷◌, ◌++◌, length, take, drop, slice_get, slice_set, Option, None, Some, refl, ap, sym, ◌∙◌, append_assoc, append-nil, suc, get_or, arith, length-append, length-drop}
+use Rattle.std.proofs.lemmas.List.{nil_from_length, take-append-le, drop-append-le, length-take-le}
+use Rattle.std.proofs.lemmas.List.{take-append-drop, take_more, take-take}
+use Rattle.std.proofs.lemmas.Option.{slice_get_within, get_or_from_slice_get}
+use Rattle.std.proofs.Math.Seq.{take-append_seam, drop-append_seam, drop-append-add, take-add, drop-cons}
+use Rattle.std.specs.Str.{bytes_eq}
+use Rattle.rl_io.proofs.Looks.{file_of-append, put_of-append, put_new, file_at, put_at, file_past}
+use Rattle.rl_io.specs.Entries.{Entry, file_of, put_of, used}
+use Rattle.rl_io.specs.Layout.{total, files_of}
+use Rattle.rl_io.specs.declared.store.Size.{Size}
+
+pub total-append : (xs ys : List Size) → total (xs ++ ys) ≡ total xs + total ys
+total-append [] ys = omega arith
+total-append (s ∷ xs) ys = omega (arith, total-append xs ys)
+
+-- the files of two pieces
+pub files_of-append : (xs ys : List Size) (a b : List ℕ) → total xs ≤ length a → length a ≤ total xs → files_of (xs ++ ys) (a ++ b) ≡ files_of xs a ++ files_of ys b
+files_of-append [] ys a b l h = let e : a ≡ [] = nil_from_length a (omega arith) in rw e refl
+files_of-append (s ∷ xs) ys a b l h =
+    rw (take-append-le s.name a b (omega arith),
+      drop-append-le s.name a b (omega arith),
+      take-append-le s.file (drop s.name a) b (omega (arith, length-drop s.name a)),
+      drop-append-le (s.name + s.file) a b (omega arith))
+    (ap (λ es. record { name = take s.name a; bytes = take s.file (drop s.name a) } ∷ es)
+      (files_of-append xs ys (drop (s.name + s.file) a) b (omega (arith, length-drop (s.name + s.file) a)) (omega (arith, length-drop (s.name + s.file) a))))
+
+pub used-files_of : (xs : List Size) (a : List ℕ) → total xs ≤ length a → used (files_of xs a) ≡ total xs + 16 * length xs
+used-files_of [] a h = refl
+used-files_of (s ∷ xs) a h =
+    let rest : length (drop (s.name + s.file) a) ≡ length a - (s.name + s.file) = length-drop (s.name + s.file) a in
+    omega (arith, length-take-le s.name a (omega arith),
+      length-take-le s.file (drop s.name a) (omega (arith, length-drop s.name a)),
+      used-files_of xs (drop (s.name + s.file) a) (omega arith))
+
+-- a name and a file at the front
+files_of-front : (ys : List Size) (n m : ℕ) (name file b : List ℕ) → length name ≡ n → length file ≡ m
+  → files_of (record { name = n; file = m } ∷ ys) (name ++ (file ++ b)) ≡ record { name = name; bytes = file } ∷ files_of ys b
+files_of-front ys n m name file b h k =
+    rw (← h, ← k, take-append_seam name (file ++ b), drop-append_seam name (file ++ b), take-append_seam file b,
+      drop-append-add name (file ++ b) (length file), drop-append_seam file b)
+    refl
+
+-- the file that was found: its sizes stand between others, and its name and its bytes behind those of the first
+pub found_file : (xs ys : List Size) (s : Size) (a rest name : List ℕ)
+  → length a ≡ total xs → file_of (files_of xs a) name ≡ None → take s.name rest ≡ name
+  → file_of (files_of (xs ++ s ∷ ys) (a ++ rest)) name ≡ Some (take s.file (drop s.name rest))
+found_file xs ys s a rest name l n h =
+    rw (files_of-append xs (s ∷ ys) a rest (omega arith) (omega arith),
+      file_of-append (files_of xs a) (files_of (s ∷ ys) rest) name n)
+    (file_at (record { name = take s.name rest; bytes = take s.file (drop s.name rest) }) (files_of ys (drop (s.name + s.file) rest)) name h)
+
+-- and what becomes of it once other bytes stand there
+pub found_put : (xs ys : List Size) (s : Size) (a rest name file : List ℕ)
+  → length a ≡ total xs → s.name ≤ length rest → file_of (files_of xs a) name ≡ None → take s.name rest ≡ name
+  → put_of (files_of (xs ++ s ∷ ys) (a ++ rest)) name file
+    ≡ files_of (xs ++ record { name = s.name; file = length file } ∷ ys)
+      (a ++ (take s.name rest ++ (file ++ drop (s.name + s.file) rest)))
+found_put xs ys s a rest name file l m n h =
+    rw (files_of-append xs (s ∷ ys) a rest (omega arith) (omega arith),
+      put_of-append (files_of xs a) (files_of (s ∷ ys) rest) name file n,
+      put_at (record { name = take s.name rest; bytes = take s.file (drop s.name rest) }) (files_of ys (drop (s.name + s.file) rest)) name file h,
+      files_of-append xs (record { name = s.name; file = length file } ∷ ys) a (take s.name rest ++ (file ++ drop (s.name + s.file) rest)) (omega arith) (omega arith),
+      files_of-front ys s.name (length file) (take s.name rest) file (drop (s.name + s.file) rest) (length-take-le s.name rest m) refl)
+    refl
+
+-- a new file behind the others
+pub new_put : (xs : List Size) (a name file : List ℕ) → length a ≡ total xs → file_of (files_of xs a) name ≡ None
+  → put_of (files_of xs a) name file
+    ≡ files_of (xs ++ record { name = length name; file = length file } ∷ []) (a ++ name ++ file)
+new_put xs a name file l n =
+    rw (put_new (files_of xs a) name file n, append_assoc a name file,
+      files_of-append xs (record { name = length name; file = length file } ∷ []) a (name ++ file) (omega arith) (omega arith))
+    (ap (λ es. files_of xs a ++ es)
+      (sym (files_of-front [] (length name) (length file) name file [] refl refl) ∙ ap (λ bs. files_of (record { name = length name; file = length file } ∷ []) (name ++ bs)) (append-nil file)))
+
+-- one more file has another name
+more_apart : (xs : List Size) (s : Size) (a piece name : List ℕ) → length a ≡ total xs
+  → file_of (files_of xs a) name ≡ None → bytes_eq (take s.name piece) name ≡ false
+  → file_of (files_of (xs ++ s ∷ []) (a ++ piece)) name ≡ None
+more_apart xs s a piece name l n h =
+    rw (files_of-append xs (s ∷ []) a piece (omega arith) (omega arith),
+      file_of-append (files_of xs a) (files_of (s ∷ []) piece) name n)
+    (file_past (record { name = take s.name piece; bytes = take s.file (drop s.name piece) }) name h)
+
+-- the sizes round one of them
+pub sizes_round : (sizes : List Size) (i : ℕ) (s : Size)
+  → slice_get sizes i ≡ Some s → sizes ≡ take i sizes ++ s ∷ drop (suc i) sizes
+sizes_round sizes i s h =
+    let l : i < length sizes = slice_get_within sizes i s h in
+    let e : get_or sizes i s ≡ s = get_or_from_slice_get sizes i s s h in
+    sym (take-append-drop i sizes) ∙ ap (λ ss. take i sizes ++ ss) (drop-cons sizes i s l ∙ ap (λ x. x ∷ drop (suc i) sizes) e)
+
+take_is : (sizes : List Size) (i : ℕ) (s : Size)
+  → slice_get sizes i ≡ Some s → take (i + 1) sizes ≡ take i sizes ++ s ∷ []
+take_is sizes i s h =
+    take_more sizes i s (slice_get_within sizes i s h) ∙ ap (λ x. take i sizes ++ x ∷ []) (get_or_from_slice_get sizes i s s h)
+
+-- what the first files take, and one more, and all
+pub total_more : (sizes : List Size) (i : ℕ) (s : Size)
+  → slice_get sizes i ≡ Some s → total (take (i + 1) sizes) ≡ total (take i sizes) + (s.name + s.file)
+total_more sizes i s h =
+    rw (take_is sizes i s h) (omega (arith, total-append (take i sizes) (s ∷ [])))
+
+pub total_within : (sizes : List Size) (i : ℕ) (s : Size)
+  → slice_get sizes i ≡ Some s → total (take i sizes) + (s.name + s.file) ≤ total sizes
+total_within sizes i s h =
+    let e : total sizes ≡ total (take i sizes ++ s ∷ drop (suc i) sizes) = ap total (sizes_round sizes i s h) in
+    omega (arith, e, total-append (take i sizes) (s ∷ drop (suc i) sizes))
+
+-- what a look-up knows after one more file
+pub look_more : (sizes : List Size) (bytes name : List ℕ) (i start : ℕ) (s : Size)
+  → slice_get sizes i ≡ Some s → length bytes ≡ total sizes → start ≡ total (take i sizes)
+  → file_of (files_of (take i sizes) (take start bytes)) name ≡ None
+  → bytes_eq (take s.name (drop start bytes)) name ≡ false
+  → file_of (files_of (take (i + 1) sizes) (take (start + (s.name + s.file)) bytes)) name ≡ None
+look_more sizes bytes name i start s h l t n d =
+    rw (take_is sizes i s h, take-add start (s.name + s.file) bytes)
+    (more_apart (take i sizes) s (take start bytes) (take (s.name + s.file) (drop start bytes)) name
+      (length-take-le start bytes (omega (arith, total_within sizes i s h)) ∙ t) n
+      (ap (λ xs. bytes_eq xs name) (take-take s.name (s.name + s.file) (drop start bytes) (omega arith)) ∙ d))
