@@ -1,13 +1,13 @@
 -- Files that lie one after another.
-use Rattle.std.proofs.Common.{◌≡◌, ℕ, ◌+◌, ◌-◌, ◌*◌, ◌<◌, ◌≤◌, Bool, false, List, [], ◌∷◌, ◌++◌, length, take, drop, slice_get, slice_set, Option, None, Some, refl, ap, sym, ◌∙◌, append_assoc, append-nil, suc, get_or, arith, length-append, length-drop}
-use Rattle.std.proofs.lemmas.List.{nil_from_length, take-append-le, drop-append-le, length-take-le}
-use Rattle.std.proofs.lemmas.List.{take-append-drop, take_more, take-take}
+use Rattle.std.proofs.Common.{◌≡◌, ℕ, ◌+◌, ◌-◌, ◌*◌, ◌<◌, ◌≤◌, Bool, false, List, [], ◌∷◌, ◌++◌, length, take, drop, slice_get, slice_set, Option, None, Some, refl, ap, sym, ◌∙◌, add_assoc, append_assoc, append-nil, suc, get_or, arith, length-append, length-drop}
+use Rattle.std.proofs.lemmas.List.{nil_from_length, take-append-le, drop-append-le, length-take-le, set_split}
+use Rattle.std.proofs.lemmas.List.{drop-drop, length-set, take-append-drop, take_more, take-take}
 use Rattle.std.proofs.lemmas.Option.{slice_get_within, get_or_from_slice_get}
 use Rattle.std.proofs.Math.Seq.{take-append_seam, drop-append_seam, drop-append-add, take-add, drop-cons}
 use Rattle.std.specs.Str.{bytes_eq}
-use Rattle.rl_io.proofs.Looks.{file_of-append, put_of-append, put_new, file_at, put_at, file_past}
+use Rattle.rl_io.proofs.Looks.{file_of-append, put_of-append, used-append, put_new, file_at, put_at, file_past}
 use Rattle.rl_io.specs.Entries.{Entry, file_of, put_of, used}
-use Rattle.rl_io.specs.Layout.{total, files_of}
+use Rattle.rl_io.specs.Layout.{total, files_of, IsFoundAt}
 use Rattle.rl_io.specs.declared.store.Size.{Size}
 
 pub total-append : (xs ys : List Size) → total (xs ++ ys) ≡ total xs + total ys
@@ -108,6 +108,11 @@ total_within sizes i s h =
     let e : total sizes ≡ total (take i sizes ++ s ∷ drop (suc i) sizes) = ap total (sizes_round sizes i s h) in
     omega (arith, e, total-append (take i sizes) (s ∷ drop (suc i) sizes))
 
+-- what a look-up knows of the files that it has passed
+pub record IsLookedThrough (sizes : List Size) (bytes name : List ℕ) (i start : ℕ) : Type 0 where
+  pub starts : start ≡ total (take i sizes)
+  pub new_before : file_of (files_of (take i sizes) (take start bytes)) name ≡ None
+
 -- what a look-up knows after one more file
 pub look_more : (sizes : List Size) (bytes name : List ℕ) (i start : ℕ) (s : Size)
   → slice_get sizes i ≡ Some s → length bytes ≡ total sizes → start ≡ total (take i sizes)
@@ -119,3 +124,99 @@ look_more sizes bytes name i start s h l t n d =
     (more_apart (take i sizes) s (take start bytes) (take (s.name + s.file) (drop start bytes)) name
       (length-take-le start bytes (omega (arith, total_within sizes i s h)) ∙ t) n
       (ap (λ xs. bytes_eq xs name) (take-take s.name (s.name + s.file) (drop start bytes) (omega arith)) ∙ d))
+
+-- what follows for a file that was found
+pub found_within : (sizes : List Size) (bytes name : List ℕ) (i start : ℕ) (s : Size)
+  → IsFoundAt sizes bytes name i start s → length bytes ≡ total sizes → start + (s.name + s.file) ≤ length bytes
+found_within sizes bytes name i start s f l = omega (arith, total_within sizes i s f.size_is, f.starts)
+
+front_is : (sizes : List Size) (bytes name : List ℕ) (i start : ℕ) (s : Size)
+  → IsFoundAt sizes bytes name i start s → length bytes ≡ total sizes → length (take start bytes) ≡ total (take i sizes)
+front_is sizes bytes name i start s f l =
+    length-take-le start bytes (omega (arith, found_within sizes bytes name i start s f l)) ∙ f.starts
+
+pub found_get : (sizes : List Size) (bytes name : List ℕ) (i start : ℕ) (s : Size)
+  → IsFoundAt sizes bytes name i start s → length bytes ≡ total sizes
+  → file_of (files_of sizes bytes) name ≡ Some (take s.file (drop (start + s.name) bytes))
+found_get sizes bytes name i start s f l =
+    let whole : take start bytes ++ drop start bytes ≡ bytes = take-append-drop start bytes in
+    let e : file_of (files_of (take i sizes ++ s ∷ drop (suc i) sizes) (take start bytes ++ drop start bytes)) name
+      ≡ Some (take s.file (drop s.name (drop start bytes)))
+      = found_file (take i sizes) (drop (suc i) sizes) s (take start bytes) (drop start bytes) name
+        (front_is sizes bytes name i start s f l) f.new_before f.here in
+    ap (λ ss. file_of (files_of ss bytes) name) (sizes_round sizes i s f.size_is)
+    ∙ ap (λ bs. file_of (files_of (take i sizes ++ s ∷ drop (suc i) sizes) bs) name) (sym whole)
+    ∙ e
+    ∙ ap (λ bs. Some (take s.file bs)) (drop-drop s.name start bytes)
+
+-- another file in its place
+pub found_new : (sizes : List Size) (bytes name file : List ℕ) (i start : ℕ) (s : Size)
+  → IsFoundAt sizes bytes name i start s → length bytes ≡ total sizes
+  → put_of (files_of sizes bytes) name file
+    ≡ files_of (slice_set sizes i (record { name = s.name; file = length file }))
+      (take (start + s.name) bytes ++ (file ++ drop (start + s.name + s.file) bytes))
+found_new sizes bytes name file i start s f l =
+    let a = take start bytes in
+    let rest = drop start bytes in
+    let whole : a ++ rest ≡ bytes = take-append-drop start bytes in
+    let set_is : slice_set sizes i (record { name = s.name; file = length file })
+      ≡ take i sizes ++ record { name = s.name; file = length file } ∷ drop (suc i) sizes
+      = set_split sizes i (record { name = s.name; file = length file }) (slice_get_within sizes i s f.size_is) in
+    let e : put_of (files_of (take i sizes ++ s ∷ drop (suc i) sizes) (a ++ rest)) name file
+      ≡ files_of (take i sizes ++ record { name = s.name; file = length file } ∷ drop (suc i) sizes)
+        (a ++ (take s.name rest ++ (file ++ drop (s.name + s.file) rest)))
+      = found_put (take i sizes) (drop (suc i) sizes) s a rest name file (front_is sizes bytes name i start s f l)
+        (omega (arith, length-drop start bytes, found_within sizes bytes name i start s f l)) f.new_before f.here in
+    let bytes_are : a ++ (take s.name rest ++ (file ++ drop (s.name + s.file) rest))
+      ≡ take (start + s.name) bytes ++ (file ++ drop (start + s.name + s.file) bytes)
+      = rw (take-add start s.name bytes, drop-drop (s.name + s.file) start bytes, append_assoc a (take s.name rest) (file ++ drop (start + s.name + s.file) bytes), add_assoc start s.name s.file) refl in
+    ap (λ ss. put_of (files_of ss bytes) name file) (sizes_round sizes i s f.size_is)
+    ∙ ap (λ bs. put_of (files_of (take i sizes ++ s ∷ drop (suc i) sizes) bs) name file) (sym whole)
+    ∙ e
+    ∙ ap (λ bs. files_of (take i sizes ++ record { name = s.name; file = length file } ∷ drop (suc i) sizes) bs) bytes_are
+    ∙ ap (λ ss. files_of ss (take (start + s.name) bytes ++ (file ++ drop (start + s.name + s.file) bytes))) (sym set_is)
+
+pub found_total : (sizes : List Size) (i m : ℕ) (s : Size) → slice_get sizes i ≡ Some s
+  → total (slice_set sizes i (record { name = s.name; file = m })) + s.file ≡ total sizes + m
+found_total sizes i m s h =
+    let s' : Size = record { name = s.name; file = m } in
+    let new : total (slice_set sizes i s') ≡ total (take i sizes ++ s' ∷ drop (suc i) sizes)
+      = ap total (set_split sizes i s' (slice_get_within sizes i s h)) in
+    let old : total sizes ≡ total (take i sizes ++ s ∷ drop (suc i) sizes) = ap total (sizes_round sizes i s h) in
+    omega (arith, new, old, total-append (take i sizes) (s' ∷ drop (suc i) sizes), total-append (take i sizes) (s ∷ drop (suc i) sizes))
+
+pub new_total : (sizes : List Size) (s : Size) → total (sizes ++ s ∷ []) ≡ total sizes + (s.name + s.file)
+new_total sizes s = omega (arith, total-append sizes (s ∷ []))
+
+-- the room that all files take
+pub used_all : (sizes : List Size) (bytes : List ℕ) → length bytes ≡ total sizes
+  → used (files_of sizes bytes) ≡ length bytes + 16 * length sizes
+used_all sizes bytes l = omega (arith, used-files_of sizes bytes (omega arith))
+
+pub put_length : (bytes file : List ℕ) (from n : ℕ) → from + n ≤ length bytes
+  → length (take from bytes ++ (file ++ drop (from + n) bytes)) ≡ from + (length file + (length bytes - (from + n)))
+put_length bytes file from n h =
+    omega (arith, length-append (take from bytes) (file ++ drop (from + n) bytes), length-append file (drop (from + n) bytes),
+      length-drop (from + n) bytes, length-take-le from bytes (omega arith))
+
+pub used_found : (sizes : List Size) (bytes name file : List ℕ) (i start : ℕ) (s : Size)
+  → IsFoundAt sizes bytes name i start s → length bytes ≡ total sizes
+  → used (put_of (files_of sizes bytes) name file) + s.file ≡ length bytes + 16 * length sizes + length file
+used_found sizes bytes name file i start s f l =
+    let s' : Size = record { name = s.name; file = length file } in
+    let new : List ℕ = take (start + s.name) bytes ++ (file ++ drop (start + s.name + s.file) bytes) in
+    let n : length new ≡ start + s.name + (length file + (length bytes - (start + s.name + s.file)))
+      = put_length bytes file (start + s.name) s.file (omega (arith, found_within sizes bytes name i start s f l)) in
+    let w : start + (s.name + s.file) ≤ length bytes = found_within sizes bytes name i start s f l in
+    let t : total (slice_set sizes i s') + s.file ≡ total sizes + length file = found_total sizes i (length file) s f.size_is in
+    let k : length (slice_set sizes i s') ≡ length sizes = length-set sizes i s' in
+    let u : used (files_of (slice_set sizes i s') new) ≡ total (slice_set sizes i s') + 16 * length (slice_set sizes i s')
+      = used-files_of (slice_set sizes i s') new (omega arith) in
+    rw (found_new sizes bytes name file i start s f l) (omega arith)
+
+pub used_new : (sizes : List Size) (bytes name file : List ℕ)
+  → length bytes ≡ total sizes → file_of (files_of sizes bytes) name ≡ None
+  → used (put_of (files_of sizes bytes) name file) ≡ length bytes + 16 * length sizes + (16 + length name + length file)
+used_new sizes bytes name file l n =
+    rw (put_new (files_of sizes bytes) name file n)
+    (omega (arith, used-append (files_of sizes bytes) (record { name = name; bytes = file } ∷ []), used_all sizes bytes l))
