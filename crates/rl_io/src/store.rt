@@ -1,7 +1,7 @@
 //! Files in one piece of memory, which was taken when the store was made.
 #![tactic(auto)]
 
-ghost use Rattle.std.specs.Prelude.{◌≡◌, ℕ, ◌+◌, ◌-◌, ◌*◌, ◌<◌, ◌≤◌, ◌++◌, ◌↔◌, ◌==◌, [], length, take, drop, None, IfOk, IsTrue, MatchOption, vec_len, vec_capacity, if◌then◌else◌};
+ghost use Rattle.std.specs.Prelude.{◌≡◌, ℕ, ◌+◌, ◌-◌, ◌*◌, ◌<◌, ◌≤◌, ◌++◌, ◌↔◌, ◌==◌, [], ◌∷◌, length, take, drop, None, Some, slice_set, IfOk, IsTrue, MatchOption, vec_len, vec_capacity, if◌then◌else◌};
 ghost use Rattle.std.specs.Str.{bytes_eq};
 ghost use Rattle.rl_io.specs.Entries.{file_of, put_of, used, stored};
 ghost use Rattle.rl_io.specs.Layout.{total, files_of, IsFoundAt};
@@ -92,6 +92,51 @@ fn splice(bytes: &mut Vec<u8>, start: usize, n: usize, piece: &[u8])
     bytes.rotate_left(behind);
 }
 
+/// Puts another file in place of the one that was found.
+fn replace(sizes: &mut Vec<Size>, bytes: &mut Vec<u8>, place: Place, file: &[u8])
+    requires index { place.index < vec_len sizes.old }
+    requires within { place.start + (place.size.name + place.size.file) ≤ vec_len bytes.old }
+    requires room { vec_len bytes.old - place.size.file + length file.now ≤ vec_capacity bytes.old }
+    ensures sizes { sizes.new.items
+        ≡ slice_set sizes.old.items place.index (record { name = place.size.name; file = length file.now }) }
+    ensures bytes { bytes.new.items ≡ take (place.start + place.size.name) bytes.old.items
+        ++ (file.now ++ drop (place.start + place.size.name + place.size.file) bytes.old.items) }
+    ensures places { vec_capacity sizes.new ≡ vec_capacity sizes.old }
+    ensures room { vec_capacity bytes.old ≤ vec_capacity bytes.new }
+{
+    let start = place.start + place.size.name;
+    splice(bytes, start, place.size.file, file);
+    sizes[place.index] = Size {
+        name: place.size.name,
+        file: file.len(),
+    };
+}
+
+/// Puts a new file behind the others.
+fn add(sizes: &mut Vec<Size>, bytes: &mut Vec<u8>, name: &[u8], file: &[u8])
+    requires place { vec_len sizes.old < vec_capacity sizes.old }
+    requires room { vec_len bytes.old + (length name.now + length file.now) ≤ vec_capacity bytes.old }
+    ensures sizes { sizes.new.items
+        ≡ sizes.old.items ++ record { name = length name.now; file = length file.now } ∷ [] }
+    ensures bytes { bytes.new.items ≡ bytes.old.items ++ name.now ++ file.now }
+    ensures places { vec_capacity sizes.new ≡ vec_capacity sizes.old }
+    ensures room { vec_capacity bytes.old ≤ vec_capacity bytes.new }
+{
+    append(bytes, name);
+    append(bytes, file);
+    sizes.push_reserved(Size {
+        name: name.len(),
+        file: file.len(),
+    });
+}
+
+/// Whether a name and a file of these lengths fit in so many bytes.
+fn has_room(free: usize, name: usize, file: usize) -> bool
+    ensures { IsTrue result ↔ (16 + name + file ≤ free) }
+{
+    free >= OVERHEAD && name <= free - OVERHEAD && file <= free - OVERHEAD - name
+}
+
 impl FileStore {
     pub fn new(alloc: Global, room: usize) -> Result<FileStore, OutOfMemory>
         ensures { IfOk result (λ store. store ≡ record { files = []; room = room }) }
@@ -106,9 +151,14 @@ impl FileStore {
         ensures { MatchOption result (file_of self.now.files name.now ≡ None)
             (λ file. file_of self.now.files name.now ≡ Some file.now) }
     {
-        let place = find(&self.sizes, &self.bytes, name)?;
-        let start = place.start + place.size.name;
-        Some(&self.bytes[start..start + place.size.file])
+        let bytes = self.bytes.as_slice();
+        match find(&self.sizes, bytes, name) {
+            Some(place) => {
+                let start = place.start + place.size.name;
+                Some(&bytes[start..start + place.size.file])
+            }
+            None => None,
+        }
     }
 
     /// Makes `file` the file of that name, where the room suffices, and says whether it does.
@@ -122,27 +172,14 @@ impl FileStore {
                 if file.len() > free + place.size.file {
                     return false;
                 }
-                let start = place.start + place.size.name;
-                splice(&mut self.bytes, start, place.size.file, file);
-                self.sizes[place.index] = Size {
-                    name: place.size.name,
-                    file: file.len(),
-                };
+                replace(&mut self.sizes, &mut self.bytes, place, file);
                 true
             }
             None => {
-                if free < OVERHEAD
-                    || name.len() > free - OVERHEAD
-                    || file.len() > free - OVERHEAD - name.len()
-                {
+                if !has_room(free, name.len(), file.len()) {
                     return false;
                 }
-                append(&mut self.bytes, name);
-                append(&mut self.bytes, file);
-                self.sizes.push_reserved(Size {
-                    name: name.len(),
-                    file: file.len(),
-                });
+                add(&mut self.sizes, &mut self.bytes, name, file);
                 true
             }
         }

@@ -1,26 +1,25 @@
-use Rattle.std.proofs.Common.{◌≡◌, ◌+◌, ◌≤◌, ◌<◌, length, slice_get, Some, arith, rules, slice_index_or}
-use Rattle.std.proofs.lemmas.Option.{slice_get-get_or}
-use Rattle.rl_io.specs.declared.store.Size.{Size}
-use Rattle.rl_io.proofs.Lies.{total_within, total_more, look_more}
+use Rattle.std.proofs.Common.{◌≡◌, ◌+◌, ◌-◌, ◌≤◌, ◌<◌, ◌∙◌, sym, length, arith, rules}
+use Rattle.rl_io.proofs.Lies.{read_within, found_here, found_later}
 use Rattle.rl_io.proofs.store.find.Goals as goal
 
 pub overflow_add-file : goal.overflow_add-file
 overflow_add-file c =
-    let i = c.loop-index.index in
-    let s = slice_index_or c.args.sizes.now i (record { name = 0; file = 0 }) in
-    let h : slice_get c.args.sizes.now i ≡ Some s = slice_get-get_or c.args.sizes.now i (record { name = 0; file = 0 }) (omega arith) in
-    grind (arith, total_within c.args.sizes.now i s h, c.loop-index.invariant.starts)
+    grind (arith, read_within c.args.sizes.now c.loop-index.index (record { name = 0; file = 0 }) (omega arith), c.loop-index.invariant.starts)
 
 pub slice_bounds-is_same-end : goal.slice_bounds-is_same-end
 slice_bounds-is_same-end c =
-    let i = c.loop-index.index in
-    let s = slice_index_or c.args.sizes.now i (record { name = 0; file = 0 }) in
-    let h : slice_get c.args.sizes.now i ≡ Some s = slice_get-get_or c.args.sizes.now i (record { name = 0; file = 0 }) (omega arith) in
-    grind (arith, total_within c.args.sizes.now i s h, c.loop-index.invariant.starts)
+    grind (arith, read_within c.args.sizes.now c.loop-index.index (record { name = 0; file = 0 }) (omega arith), c.loop-index.invariant.starts)
 
 pub overflow_add-start : goal.overflow_add-start
 overflow_add-start c =
-    let i = c.loop-index.index in
-    let s = slice_index_or c.args.sizes.now i (record { name = 0; file = 0 }) in
-    let h : slice_get c.args.sizes.now i ≡ Some s = slice_get-get_or c.args.sizes.now i (record { name = 0; file = 0 }) (omega arith) in
-    grind (arith, total_within c.args.sizes.now i s h, c.loop-index.invariant.starts)
+    grind (arith, read_within c.args.sizes.now c.loop-index.index (record { name = 0; file = 0 }) (omega arith), c.loop-index.invariant.starts)
+
+pub returns-then-is_same : goal.returns-then-is_same
+returns-then-is_same c =
+    found_here c.args.sizes.now c.args.bytes.now c.args.name.now c.loop-index.index c.loop-index.start (record { name = 0; file = 0 })
+    (omega arith) c.loop-index.invariant (sym c.is_same.ensures ∙ c.if-is_same.true)
+
+pub loop-index-preserved : goal.loop-index-preserved
+loop-index-preserved c =
+    found_later c.args.sizes.now c.args.bytes.now c.args.name.now c.loop-index.index c.loop-index.start (record { name = 0; file = 0 })
+    (omega arith) c.requires c.loop-index.invariant (sym c.is_same.ensures ∙ c.if-is_same.false)
