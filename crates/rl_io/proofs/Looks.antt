@@ -3,6 +3,7 @@ use Rattle.std.proofs.Common.{◌≡◌, ◌≢◌, ℕ, ◌+◌, ◌*◌, ◌�
 use Rattle.std.specs.Str.{bytes_eq}
 use Rattle.std.proofs.lemmas.Slice.Eq.{bytes_eq-Decides}
 use Rattle.rl_io.specs.Entries.{Entry, file_of, put_of, used}
+use Rattle.rl_io.specs.Folder.{Replaces}
 
 past : {X : Type 0} (b : Bool) (x : List ℕ) (r : Option (List ℕ)) (u v w : X)
     → (if b then Some x else r) ≡ None → (r ≡ None → v ≡ w) → (if b then u else v) ≡ w
@@ -90,3 +91,15 @@ room_no A n = ((λ h. absurd (cc)), (λ a. absurd (n a)))
 
 pub room_yes : (A : Type 0) → A → (IsTrue true → A) × (A → IsTrue true)
 room_yes A a = ((λ h. a), (λ h. refl))
+
+pub never : IsTrue false → ⊥
+never h = cc
+
+-- a put in terms of a folder
+pub replaces : (files now : List Entry) (name bytes : List ℕ)
+  → now ≡ put_of files name bytes → Replaces name bytes (file_of files) (file_of now)
+replaces files now name bytes e =
+    record {
+      file = rw e (file_of-put_same files name bytes);
+      others = λ q n. rw e (file_of-put_other files name bytes q n)
+    }
