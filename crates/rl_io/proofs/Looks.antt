@@ -97,9 +97,9 @@ never h = cc
 
 -- a put in terms of a folder
 pub replaces : (files now : List Entry) (name bytes : List ℕ)
-  → now ≡ put_of files name bytes → Replaces name bytes (file_of files) (file_of now)
+    → now ≡ put_of files name bytes → Replaces name bytes (file_of files) (file_of now)
 replaces files now name bytes e =
     record {
       file = rw e (file_of-put_same files name bytes);
-      others = λ q n. rw e (file_of-put_other files name bytes q n)
+      others = λ q n. rw e (file_of-put_other files name bytes q n);
     }

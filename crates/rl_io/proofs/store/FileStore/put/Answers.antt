@@ -41,17 +41,28 @@ pub replace-requires-clause-room : goal.replace-requires-clause-room
 replace-requires-clause-room c =
     let a = c.self.inside in
     let f = rw (c.deref.ensures.value, c.deref-2.ensures.value) at c.in-Some.ensures in
-    omega (arith, found_within a.sizes.items a.bytes.items _ _ _ _ f c.self.invariant.0.filled,
-      a.bytes.ok.0, a.sizes.ok.0, c.len.ensures, c.len-2.ensures, c.self.invariant.0.filled, c.self.invariant.0.fits, c.self.invariant.1)
+    omega (
+      arith,
+      found_within a.sizes.items a.bytes.items _ _ _ _ f c.self.invariant.0.filled,
+      a.bytes.ok.0,
+      a.sizes.ok.0,
+      c.len.ensures,
+      c.len-2.ensures,
+      c.self.invariant.0.filled,
+      c.self.invariant.0.fits,
+      c.self.invariant.1,
+    )
 
 pub invariant_of-self : goal.invariant_of-self
 invariant_of-self c =
     let a = c.self.inside in
     let f = rw (c.deref.ensures.value, c.deref-2.ensures.value) at c.in-Some.ensures in
-    rw (c.replace.ensures.sizes, c.replace.ensures.bytes, c.replace.ensures.places)
-    (laid_replaced a.sizes.items a.bytes.items c.args.name.now c.args.file.now _ _ a.room _ c.self.invariant.0 f
-      (omega (arith, a.bytes.ok.0, a.sizes.ok.0, c.len.ensures, c.len-2.ensures, c.self.invariant.0.filled, c.self.invariant.0.fits)),
-     omega (arith, c.self.invariant.1, c.replace.ensures.room), c.self.invariant.2)
+    rw (c.replace.ensures.sizes, c.replace.ensures.bytes, c.replace.ensures.places) (
+      laid_replaced a.sizes.items a.bytes.items c.args.name.now c.args.file.now _ _ a.room _ c.self.invariant.0 f
+          (omega (arith, a.bytes.ok.0, a.sizes.ok.0, c.len.ensures, c.len-2.ensures, c.self.invariant.0.filled, c.self.invariant.0.fits)),
+      omega (arith, c.self.invariant.1, c.replace.ensures.room),
+      c.self.invariant.2,
+    )
 
 pub returns-then-not-has_room-clause-room : goal.returns-then-not-has_room-clause-room
 returns-then-not-has_room-clause-room c =
@@ -65,10 +76,12 @@ pub invariant_of-self-in-None : goal.invariant_of-self-in-None
 invariant_of-self-in-None c =
     let a = c.self.inside in
     let h = (c.if-not-has_room.ensures).0 refl in
-    rw (c.add.ensures.sizes, c.add.ensures.bytes, c.add.ensures.places)
-    (laid_added a.sizes.items a.bytes.items c.args.name.now c.args.file.now a.room c.self.invariant.0
-      (omega (arith, h, a.bytes.ok.0, a.sizes.ok.0, c.len.ensures, c.len-2.ensures)),
-     omega (arith, c.self.invariant.1, c.add.ensures.room), c.self.invariant.2)
+    rw (c.add.ensures.sizes, c.add.ensures.bytes, c.add.ensures.places) (
+      laid_added a.sizes.items a.bytes.items c.args.name.now c.args.file.now a.room c.self.invariant.0
+          (omega (arith, h, a.bytes.ok.0, a.sizes.ok.0, c.len.ensures, c.len-2.ensures)),
+      omega (arith, c.self.invariant.1, c.add.ensures.room),
+      c.self.invariant.2,
+    )
 
 pub returns-else-file-free-clause-room : goal.returns-else-file-free-clause-room
 returns-else-file-free-clause-room c =
