@@ -1,5 +1,5 @@
 -- Files that lie one after another.
-use Rattle.std.proofs.Common.{◌≡◌, ℕ, ◌+◌, ◌-◌, ◌*◌, ◌<◌, ◌≤◌, Bool, true, false, List, [], ◌∷◌, ◌++◌, length, take, drop, slice_get, slice_set, Option, None, Some, refl, ap, sym, ◌∙◌, add_assoc, append_assoc, append-nil, suc, get_or, arith, length-append, length-drop}
+use Rattle.std.proofs.Common.{◌≡◌, ℕ, ◌+◌, ◌-◌, ◌*◌, ◌<◌, ◌≤◌, true, false, List, [], ◌∷◌, ◌++◌, length, take, drop, slice_get, slice_set, None, Some, refl, ap, sym, ◌∙◌, add_assoc, append_assoc, append-nil, suc, get_or, arith, length-append, length-drop}
 use Rattle.std.proofs.lemmas.List.{nil_from_length, take-append-le, drop-append-le, length-take-le, set_split, length_push}
 use Rattle.std.proofs.lemmas.List.{drop-drop, length-set, take-append-drop, take_more, take-take}
 use Rattle.std.proofs.lemmas.Option.{slice_get_within, get_or_from_slice_get, slice_get-get_or}
@@ -7,7 +7,7 @@ use Rattle.std.proofs.lemmas.Slice.Eq.{bytes_eq-Decides}
 use Rattle.std.proofs.Math.Seq.{take-append_seam, drop-append_seam, drop-append-add, take-add, drop-cons}
 use Rattle.std.specs.Str.{bytes_eq}
 use Rattle.rl_io.proofs.Looks.{file_of-append, put_of-append, used-append, put_new, file_at, put_at, file_past}
-use Rattle.rl_io.specs.Entries.{Entry, file_of, put_of, used}
+use Rattle.rl_io.specs.Entries.{file_of, put_of, used}
 use Rattle.rl_io.specs.Layout.{total, files_of, IsFoundAt, IsLaidOut}
 use Rattle.rl_io.specs.declared.store.Size.{Size}
 

@@ -1,5 +1,5 @@
 -- Files in memory, as a list of names with bytes.
-use Rattle.std.specs.Prelude.{ℕ, ◌+◌, ◌-◌, ◌≤◌, List, [], ◌∷◌, ◌++◌, length, take, drop, min, nat_le, Option, None, Some, if◌then◌else◌}
+use Rattle.std.specs.Prelude.{ℕ, ◌+◌, ◌-◌, List, [], ◌∷◌, ◌++◌, length, take, drop, min, nat_le, Option, None, Some, if◌then◌else◌}
 use Rattle.std.specs.Str.{bytes_eq}
 use Rattle.rl_io.specs.Calls.{Calls, passed, missed}
 use Rattle.rl_io.specs.declared.traits.FileRead.{FileRead}

@@ -1,5 +1,5 @@
 -- How the names and the files lie in memory, one after another.
-use Rattle.std.specs.Prelude.{◌≡◌, ℕ, ◌+◌, ◌*◌, ◌<◌, ◌≤◌, List, [], ◌∷◌, length, take, drop, slice_get, None, Some}
+use Rattle.std.specs.Prelude.{◌≡◌, ℕ, ◌+◌, ◌*◌, ◌≤◌, List, [], ◌∷◌, length, take, drop, slice_get, None, Some}
 use Rattle.rl_io.specs.Entries.{Entry, file_of}
 use Rattle.rl_io.specs.declared.store.Size.{Size}
 

@@ -1,5 +1,5 @@
 -- What is seen of a source and of a sink in memory.
-use Rattle.std.specs.Prelude.{ℕ, ◌-◌, List, ◌++◌, length, drop}
+use Rattle.std.specs.Prelude.{ℕ, List, ◌++◌, drop}
 use Rattle.rl_io.specs.Calls.{Calls, passed, missed}
 
 -- the bytes that are left of a source

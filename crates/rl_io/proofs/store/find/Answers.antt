@@ -1,4 +1,4 @@
-use Rattle.std.proofs.Common.{◌≡◌, ◌+◌, ◌-◌, ◌≤◌, ◌<◌, ◌∙◌, sym, length, arith, rules}
+use Rattle.std.proofs.Common.{◌∙◌, sym, arith}
 use Rattle.rl_io.proofs.Lies.{read_within, found_here, found_later}
 use Rattle.rl_io.proofs.store.find.Goals as goal
 

@@ -1,6 +1,3 @@
-use Rattle.std.proofs.Common.{◌≡◌, take, None}
-use Rattle.rl_io.specs.Entries.{file_of}
-use Rattle.rl_io.specs.Layout.{total, files_of}
 use Rattle.rl_io.proofs.Lies.{IsLookedThrough}
 use Rattle.rl_io.proofs.store.find.Given as goal
 

@@ -1,4 +1,4 @@
-use Rattle.std.proofs.Common.{◌≡◌, ◌+◌, ◌-◌, ◌≤◌, length, take, drop, ◌++◌, ◌∙◌, ap, arith, length-drop}
+use Rattle.std.proofs.Common.{◌≡◌, ◌+◌, ◌-◌, length, take, drop, ◌++◌, ◌∙◌, ap, arith, length-drop}
 use Rattle.std.proofs.lemmas.List.{take-take}
 use Rattle.rl_io.proofs.Splices.{spliced}
 use Rattle.rl_io.proofs.store.splice.Goals as goal

@@ -1,5 +1,4 @@
-use Rattle.std.proofs.Common.{◌≡◌, ap, refl, ◌∙◌}
-use Rattle.rl_io.specs.Entries.{put_of}
+use Rattle.std.proofs.Common.{ap}
 use Rattle.rl_io.proofs.Looks.{replaces}
 use Rattle.rl_io.proofs.folders.MemFilesFiles.write.Goals as goal
 

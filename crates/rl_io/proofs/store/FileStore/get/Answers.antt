@@ -1,5 +1,4 @@
-use Rattle.std.proofs.Common.{◌≡◌, ◌+◌, ◌-◌, ◌≤◌, length, take, drop, refl, Some, arith}
-use Rattle.rl_io.specs.Entries.{file_of}
+use Rattle.std.proofs.Common.{◌≡◌, ◌+◌, ◌-◌, length, refl, arith}
 use Rattle.rl_io.specs.Layout.{total, files_of}
 use Rattle.rl_io.proofs.Lies.{found_within, found_get}
 use Rattle.rl_io.proofs.store.FileStore.get.Goals as goal

@@ -1,7 +1,6 @@
-use Rattle.std.proofs.Common.{◌≡◌, ℕ, ◌+◌, ◌-◌, ◌*◌, ◌≤◌, ◌<◌, length, take, drop, refl, Some, vec_len, List, ap, sym, arith}
+use Rattle.std.proofs.Common.{ℕ, ◌+◌, ◌≤◌, length, refl, List, ap, sym, arith}
 use Rattle.std.proofs.lemmas.Option.{slice_get_within}
-use Rattle.rl_io.specs.Entries.{Entry, Store, file_of, put_of, used}
-use Rattle.rl_io.specs.Layout.{total, files_of, IsFoundAt}
+use Rattle.rl_io.specs.Entries.{Entry, Store}
 use Rattle.rl_io.proofs.Looks.{room_no, room_yes, never}
 use Rattle.rl_io.proofs.Lies.{found_within, found_new, used_found, used_new, new_put, laid_replaced, laid_added}
 use Rattle.rl_io.proofs.store.FileStore.put.Goals as goal
