@@ -4,6 +4,7 @@ pub mod Pieces
 pub mod FileReads
 pub mod Folder
 pub mod Calls
+pub mod Counted
 pub mod Memory
 pub mod Entries
 pub mod Layout

@@ -1,8 +1,9 @@
 //! Sources, sinks and files of the system. Nothing is told of their content: what a file, a pipe or a terminal gives
-//! or takes is the system's. Each is seen as its count of faults.
+//! or takes is the system's. Each counts its faults.
 #![tactic(auto)]
 
 ghost use Rattle.std.specs.Prelude.{◌≡◌, ℕ, ◌≤◌, length, None, Ok, IsErr, IsUtf8, IfOk, OnOk, OnErr};
+ghost use Rattle.std.specs.Io.KnownBytes.{ReadConsumes, Appends};
 ghost use Rattle.rl_io.specs.Faults.{Rose};
 ghost use Rattle.rl_io.specs.FileReads.{FitsBuffer};
 ghost use Rattle.rl_io.specs.Calls.{raised};
@@ -21,32 +22,34 @@ pub struct StdSource<R: Read + Drop> {
 }
 
 impl<R: Read + Drop> Model for StdSource<R> {
-    ghost use Rattle.std.specs.Prelude.{ℕ};
+    ghost use Rattle.rl_io.specs.Counted.{Counted};
 
-    ghost Value = { ℕ };
+    ghost Value = { Counted R };
 
-    ghost view = { λ a. a.faults };
+    ghost view = { λ a. record { inner = a.reader; faults = a.faults } };
 }
 
 impl<R: Read + Drop> StdSource<R> {
     /// A source that reads from `reader`.
     pub fn new(reader: R) -> StdSource<R>
-        ensures { result ≡ 0 }
+        ensures { result ≡ record { inner = reader; faults = 0 } }
     {
         StdSource { reader, faults: 0 }
     }
 }
 
 impl<R: Read + Drop> Source for StdSource<R> {
-    ghost faults = { λ s. s };
+    ghost faults = { λ s. s.faults };
 
     ghost left = { λ _. None };
 
     fn read(&mut self, buf: &mut [u8]) -> Result<usize, Failed>
+        // Where the reader tells its bytes, these are they.
+        ensures bytes { ReadConsumes (R.remaining self.old.inner) (R.remaining self.new.inner) result buf.new }
         ensures fits { IfOk result (λ n. n ≤ length buf.old) }
-        ensures steady { OnOk result (self.new ≡ self.old) }
-        ensures failed { OnErr result (Rose self.old self.new) }
-        ensures one { OnErr result (self.new ≡ raised self.old) }
+        ensures steady { OnOk result (self.new.faults ≡ self.old.faults) }
+        ensures failed { OnErr result (Rose self.old.faults self.new.faults) }
+        ensures one { OnErr result (self.new.faults ≡ raised self.old.faults) }
     {
         match self.reader.read(buf) {
             Ok(n) => Ok(n),
@@ -66,36 +69,40 @@ pub struct StdSink<W: Write + Drop> {
 }
 
 impl<W: Write + Drop> Model for StdSink<W> {
-    ghost use Rattle.std.specs.Prelude.{ℕ};
+    ghost use Rattle.rl_io.specs.Counted.{Counted};
 
-    ghost Value = { ℕ };
+    ghost Value = { Counted W };
 
-    ghost view = { λ a. a.faults };
+    ghost view = { λ a. record { inner = a.writer; faults = a.faults } };
 }
 
 impl<W: Write + Drop> StdSink<W> {
     /// A sink that writes to `writer`.
     pub fn new(writer: W) -> StdSink<W>
-        ensures { result ≡ 0 }
+        ensures { result ≡ record { inner = writer; faults = 0 } }
     {
         StdSink { writer, faults: 0 }
     }
 }
 
-fn write_and_flush<W: Write>(writer: &mut W, piece: &[u8]) -> io::Result<()> {
+fn write_and_flush<W: Write>(writer: &mut W, piece: &[u8]) -> io::Result<()>
+    ensures { OnOk result (Appends (W.contents writer.old) (W.contents writer.new) piece.now) }
+{
     writer.write_all(piece)?;
     writer.flush()
 }
 
 impl<W: Write + Drop> Sink for StdSink<W> {
-    ghost faults = { λ s. s };
+    ghost faults = { λ s. s.faults };
 
     ghost contents = { λ _. None };
 
     fn write(&mut self, piece: &[u8]) -> Result<(), Failed>
-        ensures steady { OnOk result (self.new ≡ self.old) }
-        ensures failed { OnErr result (Rose self.old self.new) }
-        ensures one { OnErr result (self.new ≡ raised self.old) }
+        // Where the writer tells its bytes, the piece comes behind them.
+        ensures bytes { OnOk result (Appends (W.contents self.old.inner) (W.contents self.new.inner) piece.now) }
+        ensures steady { OnOk result (self.new.faults ≡ self.old.faults) }
+        ensures failed { OnErr result (Rose self.old.faults self.new.faults) }
+        ensures one { OnErr result (self.new.faults ≡ raised self.old.faults) }
     {
         match write_and_flush(&mut self.writer, piece) {
             Ok(()) => Ok(()),
