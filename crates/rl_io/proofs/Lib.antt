@@ -1,0 +1,4 @@
+pub mod Sure
+pub mod Splices
+pub mod Looks
+pub mod Lies

@@ -3,3 +3,8 @@ pub mod Told
 pub mod Pieces
 pub mod FileReads
 pub mod Folder
+pub mod Calls
+pub mod Counted
+pub mod Memory
+pub mod Entries
+pub mod Layout

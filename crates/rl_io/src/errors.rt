@@ -1,7 +1,6 @@
 //! What a call answers that could not do its work.
 #![tactic(auto)]
 
-ghost use Rattle.rl_io.specs.declared.errors.OutOfMemory.{OutOfMemory as no_memory};
 ghost use Rattle.std.specs.Prelude.{◌≡◌};
 
 use std::alloc::{AllocError, AllocFailed};
@@ -15,12 +14,16 @@ pub struct Failed;
 pub struct OutOfMemory;
 
 impl From<AllocError> for OutOfMemory {
+    ghost from_gives = { λ _ e. e ≡ record {} };
+
     fn from(_e: AllocError) -> OutOfMemory {
         OutOfMemory
     }
 }
 
 impl<T: Drop> From<AllocFailed<T>> for OutOfMemory {
+    ghost from_gives = { λ _ e. e ≡ record {} };
+
     fn from(_e: AllocFailed<T>) -> OutOfMemory {
         OutOfMemory
     }

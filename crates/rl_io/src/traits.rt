@@ -84,6 +84,7 @@ pub trait Files {
 }
 
 /// All that a running system reads and writes.
+#[derive(Drop)]
 pub struct Io<'a, I: Source, O: Sink, N: Sink, F: Files> {
     /// The characters that the system reads.
     pub input: &'a mut I,
