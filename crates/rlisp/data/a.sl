@@ -1,0 +1,1 @@
+(PRINT (CONS 1 2))

@@ -1,0 +1,11 @@
+pub mod Lexing
+pub mod Trees
+pub mod Named
+pub mod Memories
+pub mod Keeping
+pub mod Appends
+pub mod Commands
+pub mod Endings
+pub mod Evaluating
+pub mod Loading
+pub mod Turns

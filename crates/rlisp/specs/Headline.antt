@@ -1,0 +1,37 @@
+-- What a status says of a run, against the meaning of the run.
+use Rattle.std.specs.Prelude.{◌≡◌, ◌⊎◌, ℕ, List, Option, Some, None, IfSome}
+use Rattle.std.specs.Option.{IsSomeAnd}
+use Rattle.rl_tree.specs.Command.{Word, IsCommand}
+use Rattle.rl_tree.specs.Meaning.{Meaning, Finished, meaning, nothing_printed, IsUnbuilt}
+use Rattle.rl_tree.specs.Meaning as meaning
+use Rattle.rlisp.specs.Status.{outcome_told}
+use Rattle.rlisp.specs.Appending.{Appended, AppendedFront}
+use Rattle.rlisp.specs.declared.status.Status.{Status}
+use Rattle.rlisp.specs.declared.status.Status.TheVariants.{Done, Usage, Missing, WriteFault, FileFault, OutOfMemory, Unbuilt}
+
+-- the file of each name, where there is one
+abbrev pub Folder : Type 0
+Folder = List ℕ → Option (List ℕ)
+
+-- where the words are a command and the folder is told, this holds of the file that the command names, or of there being none
+abbrev pub OfFile : List Word → Option Folder → (Option (List ℕ) → Type 0) → Type 0
+OfFile words folder P = (path : Word) → IsCommand words path → IfSome folder (λ file_of. P (file_of path))
+
+-- the run ends at the end of the source, and just its output was appended
+pub record Prints (file old new : Option (List ℕ)) : Type 0 where
+  pub finished : (meaning file).outcome ≡ Finished
+  pub output : Appended old new (meaning file).output
+
+-- the status is that of the meaning, or there was no memory
+abbrev pub Agrees : Status → Option (List ℕ) → Type 0
+Agrees status file = (outcome_told status ≡ Some (meaning file).outcome) ⊎ (status ≡ OutOfMemory)
+
+-- how a run over this file, or over none, ends: what its status says, and what was appended to its output
+abbrev pub Ends : Option (List ℕ) → Option (List ℕ) → Option (List ℕ) → Status → Type 0
+Ends file old new Done = Prints file old new
+Ends file old new (Usage word) = ⊥
+Ends file old new (Missing name) = file ≡ None
+Ends file old new WriteFault = AppendedFront old new (meaning file).output
+Ends file old new FileFault = Unit {0}
+Ends file old new OutOfMemory = Unit {0}
+Ends file old new Unbuilt = IsSomeAnd file (λ bytes. (meaning (Some bytes)).outcome ≡ meaning.Unbuilt)

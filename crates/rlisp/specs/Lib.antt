@@ -1,0 +1,13 @@
+pub mod Texts
+pub mod Tokens
+pub mod World
+pub mod Looks
+pub mod Frames
+pub mod Printing
+pub mod Status
+pub mod Loads
+pub mod Appending
+pub mod Headline
+pub mod Outputs
+pub mod Forms
+pub mod Tasks

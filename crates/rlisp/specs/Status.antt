@@ -1,0 +1,44 @@
+-- How a run ends, as its status says it.
+use Rattle.std.specs.Prelude.{ℕ, zero, suc, List, [], ◌∷◌, ◌++◌, Option, Some, None, Bool, true, false, codes, decimal}
+use Rattle.rl_tree.specs.Meaning.{Outcome, Finished}
+use Rattle.rl_tree.specs.Meaning as meaning
+use Rattle.rlisp.specs.declared.status.Status.{Status}
+use Rattle.rlisp.specs.declared.status.Status.TheVariants.{Done, Usage, Missing, WriteFault, FileFault, OutOfMemory, Unbuilt}
+
+-- the number by which a program ends with it
+abbrev pub number_of : Status → ℕ
+number_of Done = 0
+number_of (Usage word) = 2
+number_of (Missing name) = 3
+number_of WriteFault = 5
+number_of FileFault = 6
+number_of OutOfMemory = 12
+number_of Unbuilt = 13
+
+-- the outcome that it tells of; None where the words, a fault or want of memory ended the run
+abbrev pub outcome_told : Status → Option Outcome
+outcome_told Done = Some Finished
+outcome_told (Usage word) = None
+outcome_told (Missing name) = Some meaning.Missing
+outcome_told WriteFault = None
+outcome_told FileFault = None
+outcome_told OutOfMemory = None
+outcome_told Unbuilt = Some meaning.Unbuilt
+
+-- what is reported of a number: nothing of 0, and a line of any other
+abbrev pub report_of_number : ℕ → List ℕ
+report_of_number zero = []
+report_of_number (suc n) = codes "rlisp: status " ++ (decimal (suc n) ++ 10 ∷ [])
+
+abbrev pub report_of : Status → List ℕ
+report_of status = report_of_number (number_of status)
+
+-- a run with this status appended nothing to its output
+abbrev pub is_silent : Status → Bool
+is_silent Done = false
+is_silent (Usage word) = true
+is_silent (Missing name) = true
+is_silent WriteFault = false
+is_silent FileFault = true
+is_silent OutOfMemory = true
+is_silent Unbuilt = true
