@@ -8,7 +8,7 @@ use Rattle.std.proofs.lemmas.Bool.Decides.{nat_tests}
 use Rattle.std.proofs.lemmas.Option.{get_or_from_slice_get, slice_get_within}
 use Rattle.rl_tags.specs.Tagged.{Tagged, Number, IdAt, StrAt, PairAt, VectorAt, BigAt, FunAt, tag_of, index_of, number_of}
 use Rattle.rl_tags.specs.declared.Tag.TheVariants as Tag
-use Rattle.rl_cells.specs.Cell.{Cell, PairCell, More, Store, cell_at, is_live, is_pair, is_pair_cell, car_in, cdr_in, car_of, cdr_of, grown}
+use Rattle.rl_pairs.specs.Cell.{Cell, PairCell, More, Store, cell_at, is_live, is_pair, is_pair_cell, car_in, cdr_in, car_of, cdr_of, grown}
 use Rattle.rl_tree.specs.Tree.{Name, Tree, Int, Id, Pair, nil, nil_name}
 use Rattle.rlisp.specs.World.{Memory, is_known_among, is_known, tree_among, cell_tree, trees_after, tree_in, IsOlderCell, IsMemory, Keeps, Stands}
 use Rattle.rlisp.specs.Texts.{Extends}

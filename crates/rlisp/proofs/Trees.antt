@@ -5,7 +5,7 @@ use Rattle.std.proofs.lemmas.List.{get_or_append_left, append-nil}
 use Rattle.std.proofs.Math.Seq.{get_or-append_seam}
 use Rattle.std.proofs.lemmas.Bool.Decides.{nat_tests}
 use Rattle.rl_tags.specs.Tagged.{Tagged, Number, IdAt, StrAt, PairAt, VectorAt, BigAt, FunAt}
-use Rattle.rl_cells.specs.Cell.{Cell, PairCell, More, cell_at}
+use Rattle.rl_pairs.specs.Cell.{Cell, PairCell, More, cell_at}
 use Rattle.rl_tree.specs.Tree.{Name, Tree, Id, nil, nil_name}
 use Rattle.rlisp.specs.World.{is_known_among, tree_among, cell_tree, trees_after, IsOlderCell}
 

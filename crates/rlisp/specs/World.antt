@@ -1,7 +1,7 @@
 -- What the program's memory stands for: the trees of its values.
 use Rattle.std.specs.Prelude.{◌≡◌, ℕ, ◌<◌, ◌^◌, Bool, true, false, nat_lt, List, [], ◌∷◌, ◌++◌, length, slice_index_or, slice_get, Some}
 use Rattle.rl_tags.specs.Tagged.{Tagged, Number, IdAt, StrAt, PairAt, VectorAt, BigAt, FunAt}
-use Rattle.rl_cells.specs.Cell.{Cell, PairCell, More, Store, cell_at}
+use Rattle.rl_pairs.specs.Cell.{Cell, PairCell, More, Store, cell_at}
 use Rattle.rl_tree.specs.Tree.{Name, Tree, Int, Id, Pair, nil, nil_name, quote_name}
 
 -- the store of pairs, and the names of the identifiers by their numbers

@@ -1,7 +1,7 @@
 ghost use Rattle.std.specs.Prelude.{◌≡◌, ◌+◌, ◌≤◌, ◌<◌, ◌^◌, [], length, IsTrue, IfOk, OnErr, is_ok};
 ghost use Rattle.std.specs.Option.{ForSome};
 ghost use Rattle.rl_tags.specs.Tagged.{PairAt};
-ghost use Rattle.rl_cells.specs.Cell.{PairCell, is_live, is_pair, car_of, cdr_of, used_of, has_room, grown, more_counted, IsClosed};
+ghost use Rattle.rl_pairs.specs.Cell.{PairCell, is_live, is_pair, car_of, cdr_of, used_of, has_room, grown, more_counted, IsClosed};
 
 use rl_io::OutOfMemory;
 use rl_tags::{Tag, Val};
@@ -29,8 +29,8 @@ pub struct Cells {
 
 impl Model for Cells {
     ghost use Rattle.std.specs.Prelude.{vec_len, vec_capacity};
-    ghost use Rattle.rl_cells.specs.Cell.{Store};
-    ghost use Rattle.rl_cells.specs.Stored.{cells_of, IsSound};
+    ghost use Rattle.rl_pairs.specs.Cell.{Store};
+    ghost use Rattle.rl_pairs.specs.Stored.{cells_of, IsSound};
 
     ghost Value = { Store };
 

@@ -1,5 +1,5 @@
 ghost use Rattle.std.specs.Prelude.{IsTrue};
-ghost use Rattle.rl_cells.specs.Cell.{is_live};
+ghost use Rattle.rl_pairs.specs.Cell.{is_live};
 
 use crate::{Cells, Full};
 use rl_tags::{Tag, Val};

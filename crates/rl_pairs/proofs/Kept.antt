@@ -3,7 +3,7 @@ use Rattle.std.proofs.Common.{◌≡◌, ℕ, ◌+◌, ◌-◌, ◌<◌, Bool, t
 use Rattle.std.proofs.lemmas.List.{get_or_append_left, get_or_past, length-replicate, get_or-replicate}
 use Rattle.std.proofs.lemmas.Bool.{cases_lt}
 use Rattle.rl_tags.specs.Tagged.{Tagged, Number, IdAt, StrAt, PairAt, VectorAt, BigAt, FunAt}
-use Rattle.rl_cells.specs.Cell.{Cell, PairCell, More, cost_of, cell_at, placed, is_live, is_pair, is_pair_cell, is_closed_cell, car_of, cdr_of, car_in, cdr_in, IsClosed}
+use Rattle.rl_pairs.specs.Cell.{Cell, PairCell, More, cost_of, cell_at, placed, is_live, is_pair, is_pair_cell, is_closed_cell, car_of, cdr_of, car_in, cdr_in, IsClosed}
 
 pub cell_at-append : (cells more : List Cell) (k : ℕ) → k < length cells → cell_at (cells ++ more) k ≡ cell_at cells k
 cell_at-append cells more k l = get_or_append_left cells more More k l

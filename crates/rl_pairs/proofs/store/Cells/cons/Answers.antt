@@ -1,9 +1,9 @@
 use Rattle.std.proofs.Common.{◌≡◌, true, rules, vec_len, vec_capacity, length}
 use Rattle.std.proofs.lemmas.List.{length-map, map-append}
-use Rattle.rl_cells.specs.Cell.{has_room}
-use Rattle.rl_cells.specs.Stored.{cells_of}
-use Rattle.rl_cells.proofs.Sound.{IsSound-new_pair}
-use Rattle.rl_cells.proofs.store.Cells.cons.Goals as goal
+use Rattle.rl_pairs.specs.Cell.{has_room}
+use Rattle.rl_pairs.specs.Stored.{cells_of}
+use Rattle.rl_pairs.proofs.Sound.{IsSound-new_pair}
+use Rattle.rl_pairs.proofs.store.Cells.cons.Goals as goal
 
 pub invariant_of-self : goal.invariant_of-self
 invariant_of-self c =

@@ -2,9 +2,9 @@
 use Rattle.std.proofs.Common.{◌≡◌, ℕ, ◌+◌, ◌≤◌, true, List, ◌++◌, length, Option, Some, None, refl, sym, ap, ◌∙◌, arith}
 use Rattle.std.proofs.lemmas.Bool.Decides.{nat_tests}
 use Rattle.rl_tags.specs.Tagged.{Tagged}
-use Rattle.rl_cells.specs.Cell.{Cell, Store, PairCell, placed, is_live, is_closed_cell, room_in, has_room, more_counted}
-use Rattle.rl_cells.specs.Stored.{IsSound, IsWithin}
-use Rattle.rl_cells.proofs.Kept.{IsClosed-append}
+use Rattle.rl_pairs.specs.Cell.{Cell, Store, PairCell, placed, is_live, is_closed_cell, room_in, has_room, more_counted}
+use Rattle.rl_pairs.specs.Stored.{IsSound, IsWithin}
+use Rattle.rl_pairs.proofs.Kept.{IsClosed-append}
 
 -- an object that has room is within the bound
 within_room : (op : Option ℕ) (bound n cost : ℕ) → IsWithin op bound n → room_in op n bound cost ≡ true → IsWithin (more_counted op cost) bound (n + cost)

@@ -1,7 +1,7 @@
 -- How the pairs in memory hold the cells: one pair for each cell.
 use Rattle.std.specs.Prelude.{ℕ, ◌+◌, ◌≤◌, List, map, Option, Some, None}
-use Rattle.rl_cells.specs.declared.store.Pair.{Pair}
-use Rattle.rl_cells.specs.Cell.{Cell, PairCell, IsClosed}
+use Rattle.rl_pairs.specs.declared.store.Pair.{Pair}
+use Rattle.rl_pairs.specs.Cell.{Cell, PairCell, IsClosed}
 
 abbrev pub cell_of : Pair → Cell
 cell_of p = PairCell p.car p.cdr
