@@ -1,9 +1,9 @@
 -- Where the identifiers of opening stand: each takes five cells, the block at the third.
-use Rattle.std.proofs.Common.{◌≡◌, ◌≢◌, ℕ, zero, suc, ◌+◌, ◌*◌, ◌<◌, ◌≤◌, Bool, true, false, ◌==◌, ◌&&◌, nat_lt, nat_le, List, [], ◌∷◌, map, length, slice_index_or, get_or, refl, sym, ◌∙◌, arith, None}
-use Rattle.std.specs.List.{list_all, range_with_len}
+use Rattle.std.proofs.Common.{◌≡◌, ◌≢◌, ℕ, zero, suc, ◌+◌, ◌*◌, ◌<◌, Bool, true, false, ◌==◌, ◌&&◌, nat_lt, nat_le, List, [], ◌∷◌, map, length, slice_index_or, get_or, refl, sym, ◌∙◌, arith, None}
+use Rattle.std.specs.List.{list_all}
 use Rattle.std.proofs.lemmas.Bool.Decides.{nat_tests}
 use Rattle.std.proofs.lemmas.List.{get_or-map}
-use Rattle.rl_tags.specs.Opening.{Row, Plain, name_of, arguments_of, opening_rows, byte_names, names_at_opening, opening_names, name_cells, place_in, place_of, native_in, native_at, arguments_at}
+use Rattle.rl_tags.specs.Opening.{Row, Plain, name_of, arguments_of, opening_rows, byte_names, names_at_opening, name_cells, place_in, place_of, native_in, native_at, arguments_at}
 
 -- an element's part stands in the list of the parts
 pub part_at : {X Y : Type 0} (part : X → Y) (xs : List X) (i : ℕ) (d : X) (e : Y) → i < length xs → part (get_or xs i d) ≡ get_or (map part xs) i e

@@ -49,14 +49,14 @@ fn read_refuses_unused_tags(rt: HostRuntime) {
 fn identifiers_of_opening_have_fixed_places(rt: HostRuntime) {
     assert_eq!(rt; NIL, Val::at(Tag::Id, 2));
     assert_eq!(rt; opening_id(0), NIL);
-    assert_eq!(rt; opening_name(0), b"NIL");
+    assert_eq!(rt; opening_name(0), b"NIL".as_slice());
     assert_eq!(rt; opening_id(1), T);
     assert_eq!(rt; opening_id(2), QUOTE);
-    assert_eq!(rt; opening_name(3), b"EMSG*");
+    assert_eq!(rt; opening_name(3), b"EMSG*".as_slice());
     assert_eq!(rt; opening_id(3), EMSG_STAR);
     assert_eq!(rt; OPENING_NAMES, 167);
     assert_eq!(rt; opening_id(166), DOLLAR_B);
-    assert_eq!(rt; opening_name(166), b"$B");
+    assert_eq!(rt; opening_name(166), b"$B".as_slice());
     assert_eq!(rt; DOLLAR_B.index(), 832);
 }
 

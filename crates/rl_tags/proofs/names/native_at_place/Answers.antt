@@ -1,4 +1,4 @@
-use Rattle.std.proofs.Common.{◌≡◌, ℕ, ◌/◌, ◌∙◌, sym, arith}
+use Rattle.std.proofs.Common.{◌/◌, ◌∙◌, sym, arith}
 use Rattle.rl_tags.proofs.Places.{native_at-here, native_at-none}
 use Rattle.rl_tags.proofs.names.native_at_place.Goals as goal
 

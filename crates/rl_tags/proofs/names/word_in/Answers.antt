@@ -1,4 +1,4 @@
-use Rattle.std.proofs.Common.{ℕ, List, [], Option, None}
+use Rattle.std.proofs.Common.{ℕ, List, Option}
 use Rattle.std.specs.Borrow.{Bor}
 use Rattle.rl_tags.proofs.Places.{part_at}
 use Rattle.rl_tags.proofs.names.word_in.Goals as goal
