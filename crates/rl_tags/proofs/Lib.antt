@@ -1,2 +1,3 @@
+pub mod Differ
 pub mod Ids
 pub mod Places
