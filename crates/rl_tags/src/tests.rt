@@ -1,6 +1,9 @@
 ghost use Rattle.std.specs.Prelude.{◌≡◌, ◌↔◌, IsTrue};
 
-use crate::{Tag, Val};
+use crate::{
+    CADDR, CDDDDR, COND, CONS, DOLLAR_B, EMSG_STAR, EVAL, GENSYM, LINELENGTH, NIL, OPENING_NAMES,
+    PUTV, QUOTE, T, Tag, Val, native_of, opening_id, opening_name,
+};
 
 /// Values are equal exactly where they are the same integer, or the same place under the same tag.
 fn are_same(a: Val, b: Val) -> bool
@@ -40,4 +43,51 @@ fn read_refuses_unused_tags(rt: HostRuntime) {
     assert_eq!(rt; Val::read(7), None);
     assert_eq!(rt; Val::read(15), None);
     assert_eq!(rt; Val::read(16), Some(Val::small(1)));
+}
+
+#[test]
+fn identifiers_of_opening_have_fixed_places(rt: HostRuntime) {
+    assert_eq!(rt; NIL, Val::at(Tag::Id, 2));
+    assert_eq!(rt; opening_id(0), NIL);
+    assert_eq!(rt; opening_name(0), b"NIL".as_slice());
+    assert_eq!(rt; opening_id(1), T);
+    assert_eq!(rt; opening_id(2), QUOTE);
+    assert_eq!(rt; opening_name(3), b"EMSG*".as_slice());
+    assert_eq!(rt; opening_id(3), EMSG_STAR);
+    assert_eq!(rt; OPENING_NAMES, 167);
+    assert_eq!(rt; opening_id(166), DOLLAR_B);
+    assert_eq!(rt; opening_name(166), b"$B".as_slice());
+    assert_eq!(rt; DOLLAR_B.index(), 832);
+}
+
+#[test]
+fn natives_have_their_numbers_of_arguments(rt: HostRuntime) {
+    assert_eq!(rt; native_of(GENSYM), Some(0));
+    assert_eq!(rt; native_of(CADDR), Some(1));
+    assert_eq!(rt; native_of(CDDDDR), Some(1));
+    assert_eq!(rt; native_of(CONS), Some(2));
+    assert_eq!(rt; native_of(PUTV), Some(3));
+    assert_eq!(rt; native_of(LINELENGTH), Some(1));
+    assert_eq!(rt; native_of(COND), None);
+    assert_eq!(rt; native_of(EVAL), None);
+    assert_eq!(rt; native_of(Val::at(Tag::Pair, CONS.index())), None);
+    assert_eq!(rt; native_of(Val::at(Tag::Id, CONS.index() + 1)), None);
+    assert_eq!(rt; native_of(Val::at(Tag::Id, 1152921504606846972)), None);
+    assert_eq!(rt; native_of(Val::small(3)), None);
+}
+
+#[test]
+fn nodes_of_functions_round_trip(rt: HostRuntime) {
+    let holder = Val::at(Tag::Fun, 4294967295);
+    let last = Val::part(holder, 268435454);
+    assert_eq!(rt; last.tag(), Tag::Fun);
+    assert_eq!(rt; last.index(), 1152921504606846975);
+    assert_eq!(rt; last.part_of(), Some((holder, 268435454)));
+    assert_eq!(rt; Val::part(Val::at(Tag::Fun, 7), 0).index(), 4294967303);
+    assert_eq!(rt;
+        Val::at(Tag::Fun, 4294967296).part_of(),
+        Some((Val::at(Tag::Fun, 0), 0))
+    );
+    assert_eq!(rt; holder.part_of(), None);
+    assert_eq!(rt; Val::at(Tag::Pair, 4294967303).part_of(), None);
 }
