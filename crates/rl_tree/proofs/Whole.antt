@@ -1,5 +1,5 @@
 -- The whole lists of nodes are the preorder lists of trees.
-use Rattle.std.proofs.Common.{◌≡◌, ℕ, zero, suc, ◌+◌, ◌≤◌, List, [], ◌∷◌, ◌++◌, length, Option, Some, None, refl, sym, ap, ◌∙◌, append_assoc, arith}
+use Rattle.std.proofs.Common.{◌≡◌, ℕ, zero, suc, ◌+◌, ◌-◌, ◌<◌, ◌≤◌, List, [], ◌∷◌, ◌++◌, length, drop, Option, Some, None, refl, sym, ap, ◌∙◌, append_assoc, length-drop, arith}
 use Rattle.std.proofs.lemmas.List.{append-nil}
 use Rattle.rl_tree.specs.declared.nodes.Node.{Node}
 use Rattle.rl_tree.specs.declared.nodes.Node.TheVariants.{Int, Id, Str, Pair, Vector, Quoted}
@@ -79,7 +79,7 @@ vector_front : (n k : ℕ) (nodes : List Node) (ts : NodeTrees) → count_of ts 
 vector_front n k nodes ts many are =
     let s = split n k ts many in
     with_front (VectorOf s.front) k s.rest (Vector n ∷ nodes) s.rest_many
-      (ap (λ m. Vector m ∷ (preorders s.front ++ preorders s.rest)) s.front_many ∙ ap (λ ns. Vector n ∷ ns) (s.are ∙ are))
+    (ap (λ m. Vector m ∷ (preorders s.front ++ preorders s.rest)) s.front_many ∙ ap (λ ns. Vector n ∷ ns) (s.are ∙ are))
 
 node_front : (node : Node) (k : ℕ) (nodes : List Node) → AreTrees (k + arity_of node) nodes → AreTrees (suc k) (node ∷ nodes)
 node_front (Int z) k nodes h = with_front (IntLeaf z) k h.trees (Int z ∷ nodes) (h.many ∙ omega arith) (ap (λ ns. Int z ∷ ns) h.are)
@@ -109,3 +109,23 @@ pub at_most_left : (k : ℕ) (nodes : List Node) → wanted k nodes ≡ Some 0 �
 at_most_left k [] e = let none : k ≡ 0 = cc in omega arith
 at_most_left zero (node ∷ nodes) e = omega arith
 at_most_left (suc k) (node ∷ nodes) e = let more = at_most_left (k + arity_of node) nodes e in omega arith
+
+-- the nodes from a place on have the trees that are to come there
+at_place : (nodes : List Node) (i k : ℕ) → wanted 1 nodes ≡ wanted k (drop i nodes) → IsWholeTree nodes → wanted k (drop i nodes) ≡ Some 0
+at_place nodes i k e whole = sym e ∙ whole
+
+past_end : (nodes : List Node) → 0 < length nodes → wanted 0 nodes ≡ Some 0 → ⊥
+past_end [] some e = omega arith
+past_end (node ∷ nodes) some e = cc
+
+-- what is left at a place before the end is not nothing, so that some tree has to be to come
+pub none_to_come : (nodes : List Node) (i k : ℕ) → wanted 1 nodes ≡ wanted k (drop i nodes) → i < length nodes → k ≡ 0 → IsWholeTree nodes → ⊥
+none_to_come nodes i k e h z whole =
+    let left = rw z at (at_place nodes i k e whole) in
+    let some : 0 < length (drop i nodes) = omega (arith, length-drop i nodes) in
+    past_end (drop i nodes) some left
+
+pub too_many_to_come : (nodes : List Node) (i k : ℕ) → wanted 1 nodes ≡ wanted k (drop i nodes) → length nodes - i < k → IsWholeTree nodes → ⊥
+too_many_to_come nodes i k e h whole =
+    let most = at_most_left k (drop i nodes) (at_place nodes i k e whole) in
+    omega (arith, length-drop i nodes)

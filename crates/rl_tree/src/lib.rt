@@ -2,11 +2,10 @@
 #![tactic(auto)]
 
 pub mod evaluation;
-pub mod preorder;
-pub mod text;
-
 mod held;
 mod nodes;
+pub mod preorder;
+pub mod text;
 mod trees;
 
 pub use held::{HeldTree, Kept, Kind, Names, VarKind};

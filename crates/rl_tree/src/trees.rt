@@ -32,7 +32,7 @@ impl Tree {
         ensures nodes { result.now ≡ self.now }
         ensures whole { IsWholeTree self.now }
     {
-        &self.nodes
+        self.nodes.as_slice()
     }
 
     /// An equal tree; `OutOfMemory` if there is no memory for it.
