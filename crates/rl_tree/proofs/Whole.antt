@@ -1,5 +1,5 @@
 -- The whole lists of nodes are the preorder lists of trees.
-use Rattle.std.proofs.Common.{◌≡◌, ℕ, zero, suc, ◌+◌, ◌-◌, ◌<◌, ◌≤◌, List, [], ◌∷◌, ◌++◌, length, drop, Option, Some, None, refl, sym, ap, ◌∙◌, append_assoc, length-drop, arith}
+use Rattle.std.proofs.Common.{◌≡◌, ℕ, zero, suc, ◌+◌, ◌-◌, ◌<◌, ◌≤◌, List, [], ◌∷◌, ◌++◌, length, drop, Some, refl, sym, ap, ◌∙◌, append_assoc, length-drop, arith}
 use Rattle.std.proofs.lemmas.List.{append-nil}
 use Rattle.rl_tree.specs.declared.nodes.Node.{Node}
 use Rattle.rl_tree.specs.declared.nodes.Node.TheVariants.{Int, Id, Str, Pair, Vector, Quoted}
