@@ -9,3 +9,4 @@ pub mod Evaluation
 pub mod Shown
 pub mod Meaning
 pub mod Command
+pub mod Preorder

@@ -36,14 +36,19 @@ nil = Id nil_name
 abbrev pub quoted : Tree → Tree
 quoted e = Pair (Id quote_name) (Pair e nil)
 
--- the tree of a value, by the names of the identifiers and the trees of the objects that were made before it
+-- the tree of a value, by the names of the identifiers and the trees of the objects that were made before it; no form that is built makes
+-- a string or a function pointer, which have no tree here
 abbrev pub tree_among : List Name → List Tree → Value → Tree
 tree_among names trees (value.Int z) = Int z
 tree_among names trees (value.Id i) = Id (slice_index_or names i nil_name)
+tree_among names trees (value.Str bytes) = nil
 tree_among names trees (value.Ref r) = slice_index_or trees r nil
+tree_among names trees (value.Fun h) = nil
 
+-- the tree of an object; no form that is built makes a vector, which has no tree here
 abbrev pub object_tree : List Name → List Tree → Object → Tree
 object_tree names trees (value.Pair a d) = Pair (tree_among names trees a) (tree_among names trees d)
+object_tree names trees (value.Vector elements) = nil
 
 -- the trees of objects in the order of their making, after those that were made before; the parts of an object are older than it
 abbrev pub trees_after : List Name → List Tree → Store → List Tree

@@ -1,5 +1,16 @@
-//! The definitions that the contracts of the layers above cite, in `specs/`, and laws about them. A law is the contract of a function that does nothing.
+//! The definitions that the contracts of the layers above cite, in `specs/`, with laws about them, and owned trees. A law is the contract of a function that does nothing.
 #![tactic(auto)]
 
 pub mod evaluation;
+mod held;
+mod nodes;
+pub mod preorder;
 pub mod text;
+mod trees;
+
+pub use held::{HeldTree, Kept, Kind, Names, VarKind};
+pub use nodes::{Node, Text};
+pub use trees::{Tree, TreeBuilder};
+
+#[cfg(test)]
+mod tests;

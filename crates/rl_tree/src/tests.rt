@@ -1,0 +1,84 @@
+use crate::{HeldTree, Kept, Kind, Names, Node, Text, TreeBuilder, VarKind};
+use rl_io::OutOfMemory;
+use rl_tags::{Tag, Val};
+use std::alloc::Global;
+use std::test::Fail;
+
+/// `(1 . [x "ab"])`, but for the string.
+fn begun(alloc: Global) -> Result<TreeBuilder, OutOfMemory> {
+    let mut builder = TreeBuilder::new(alloc);
+    builder.push(Node::Pair)?;
+    builder.push(Node::Int(1))?;
+    builder.push(Node::Vector(2))?;
+    builder.push(Node::Id(Val::at(Tag::Id, 7)))?;
+    Ok(builder)
+}
+
+fn is_text(node: &Node, bytes: &[u8]) -> bool {
+    match node {
+        Node::Str(text) => text.bytes() == bytes,
+        _ => false,
+    }
+}
+
+/// How many elements a vector has; 99 for any other node.
+fn elements(node: &Node) -> u32 {
+    match node {
+        Node::Vector(length) => *length,
+        _ => 99,
+    }
+}
+
+#[test]
+fn builds_whole_tree(rt: HostRuntime) -> Result<(), Fail> {
+    let mut builder = begun(rt.alloc())?;
+    builder.push(Node::Str(Text::from_bytes(rt.alloc(), b"ab")?))?;
+    let tree = builder.finish().ok_or("no tree")?;
+    assert_eq!(rt; tree.nodes().len(), 5);
+    assert_eq!(rt; elements(&tree.nodes()[2]), 2);
+    assert!(rt; is_text(&tree.nodes()[4], b"ab"));
+    Ok(())
+}
+
+#[test]
+fn refuses_other_lists(rt: HostRuntime) -> Result<(), Fail> {
+    assert!(rt; TreeBuilder::new(rt.alloc()).finish().is_none());
+    assert!(rt; begun(rt.alloc())?.finish().is_none());
+    let mut builder = begun(rt.alloc())?;
+    builder.push(Node::Vector(0))?;
+    builder.push(Node::Quoted(Val::at(Tag::Pair, 3)))?;
+    assert!(rt; builder.finish().is_none());
+    let mut builder = TreeBuilder::new(rt.alloc());
+    builder.push(Node::Vector(4_294_967_295))?;
+    assert!(rt; builder.finish().is_none());
+    Ok(())
+}
+
+#[test]
+fn copies_held_tree(rt: HostRuntime) -> Result<(), Fail> {
+    let x = Val::at(Tag::Id, 7);
+    let mut params = Names::new(rt.alloc());
+    params.push(x)?;
+    let mut kept = Kept::new(rt.alloc());
+    kept.push(x, VarKind::Fluid)?;
+    let mut builder = begun(rt.alloc())?;
+    builder.push(Node::Str(Text::from_bytes(rt.alloc(), b"ab")?))?;
+    let held = HeldTree {
+        holder: Val::at(Tag::Fun, 9),
+        base: 4,
+        kind: Kind::Fexpr,
+        params,
+        body: builder.finish().ok_or("no tree")?,
+        kept,
+    };
+    let copy = held.copy(rt.alloc())?;
+    assert_eq!(rt; copy.holder, held.holder);
+    assert_eq!(rt; copy.base, 4);
+    assert_eq!(rt; copy.kind, Kind::Fexpr);
+    assert_eq!(rt; copy.params.items(), [x].as_slice());
+    assert_eq!(rt; copy.kept.items().len(), 1);
+    assert_eq!(rt; copy.kept.items()[0].1, VarKind::Fluid);
+    assert_eq!(rt; copy.body.nodes().len(), 5);
+    assert!(rt; is_text(&copy.body.nodes()[4], b"ab"));
+    Ok(())
+}
