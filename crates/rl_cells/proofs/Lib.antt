@@ -1,0 +1,6 @@
+pub mod Walks
+pub mod Kept
+pub mod Cut
+pub mod Sound
+pub mod Bytes
+pub mod Places

@@ -1,0 +1,10 @@
+//! The store of objects: a bump allocator over words, seen as a list of cells, two words each.
+#![tactic(auto)]
+
+mod objects;
+mod store;
+
+pub use store::{Cells, Full, Mark};
+
+#[cfg(test)]
+mod tests;
