@@ -6,8 +6,8 @@ ghost use Rattle.rlisp.specs.World.{is_known, tree_in, Keeps, Stands};
 ghost use Rattle.rlisp.specs.Looks.{Sees};
 
 use crate::names::Names;
-use rl_pairs::Cells;
 use rl_io::OutOfMemory;
+use rl_pairs::Cells;
 use rl_tags::{Tag, Val};
 use std::alloc::Global;
 use std::marker::Model;
