@@ -1,0 +1,90 @@
+-- The table is kept by whatever leaves the blocks.
+use Rattle.std.proofs.Common.{◌≡◌, ℕ, Bool, true, false, List, [], length, get_or, Option, Some, None, refl, sym, ap, ◌∙◌}
+use Rattle.rl_tags.specs.Tagged.{Tagged, Number, IdAt, StrAt, PairAt, VectorAt, BigAt, FunAt, index_of}
+use Rattle.rl_tags.specs.declared.Tag.{Tag}
+use Rattle.rl_tags.specs.declared.Tag.TheVariants as tag
+use Rattle.rl_cells.specs.Cell.{Cell, PairCell, StrCell, VectorCell, BigCell, BlockCell, More, cell_at, is_id_cell, is_str, words_in}
+use Rattle.rl_syms.specs.Table.{IsTable, IsNamed, is_id, held_in, symbol_at, symbol_of, nil_value}
+use Rattle.rl_syms.specs.Frame.{KeepsBlocks, block_in}
+use Rattle.rl_syms.proofs.Carried.{Carries, chained_same, named_stays}
+
+id_from : Option (Tag × List ℕ) → Bool
+id_from (Some (tag.Id, words)) = true
+id_from _ = false
+
+words_from : Option (Tag × List ℕ) → List ℕ
+words_from (Some p) = p.1
+words_from None = []
+
+id_is : (c : Cell) → is_id_cell c ≡ id_from (block_in c)
+unfolding id_from
+id_is (PairCell a d) = refl
+id_is (StrCell bytes) = refl
+id_is (VectorCell xs) = refl
+id_is (BigCell z) = refl
+id_is (BlockCell tag.Int words) = refl
+id_is (BlockCell tag.Id words) = refl
+id_is (BlockCell tag.Str words) = refl
+id_is (BlockCell tag.Pair words) = refl
+id_is (BlockCell tag.Vector words) = refl
+id_is (BlockCell tag.Big words) = refl
+id_is (BlockCell tag.Fun words) = refl
+id_is More = refl
+
+words_is : (c : Cell) → words_in c ≡ words_from (block_in c)
+unfolding words_from
+words_is (PairCell a d) = refl
+words_is (StrCell bytes) = refl
+words_is (VectorCell xs) = refl
+words_is (BigCell z) = refl
+words_is (BlockCell t words) = refl
+words_is More = refl
+
+id_same : (old new : List Cell) (k : ℕ) → KeepsBlocks old new → is_id_cell (cell_at new k) ≡ is_id_cell (cell_at old k)
+id_same old new k b = id_is (cell_at new k) ∙ ap id_from (b.blocks k) ∙ sym (id_is (cell_at old k))
+
+words_same : (old new : List Cell) (k : ℕ) → KeepsBlocks old new → words_in (cell_at new k) ≡ words_in (cell_at old k)
+words_same old new k b = words_is (cell_at new k) ∙ ap words_from (b.blocks k) ∙ sym (words_is (cell_at old k))
+
+pub symbol_same : (old new : List Cell) (k : ℕ) → KeepsBlocks old new → symbol_at new k ≡ symbol_at old k
+symbol_same old new k b = ap symbol_of (words_same old new k b)
+
+pub is_id_same : (old new : List Cell) (v : Tagged) → KeepsBlocks old new → is_id new v ≡ is_id old v
+is_id_same old new (IdAt k) b = id_same old new k b
+is_id_same old new (Number k) b = refl
+is_id_same old new (StrAt k) b = refl
+is_id_same old new (PairAt k) b = refl
+is_id_same old new (VectorAt k) b = refl
+is_id_same old new (BigAt k) b = refl
+is_id_same old new (FunAt k) b = refl
+
+string_same : (old new : List Cell) (v : Tagged) → KeepsBlocks old new → is_str old v ≡ true → is_str new v ≡ true
+string_same old new (StrAt k) b h = b.live (StrAt k) h
+string_same old new (Number k) b h = h
+string_same old new (IdAt k) b h = h
+string_same old new (PairAt k) b h = h
+string_same old new (VectorAt k) b h = h
+string_same old new (BigAt k) b h = h
+string_same old new (FunAt k) b h = h
+
+keeps_carries : (old new : List Cell) → KeepsBlocks old new → Carries old new
+keeps_carries old new b = record {
+  id = λ k h. id_same old new k b ∙ h;
+  name = λ k h. ap (λ ws. get_or ws 0 0) (words_same old new k b);
+  next = λ k h. ap (λ ws. held_in (get_or ws 5 0)) (words_same old new k b);
+  string = λ v h. string_same old new v b h;
+  text = λ v h. b.texts v h;
+}
+
+pub table_same : (old new : List Cell) (head : Option Tagged) → KeepsBlocks old new → IsTable old head → IsTable new head
+table_same old new head b t = record {
+  chained = chained_same old new head (keeps_carries old new b) (λ k h. sym (id_same old new k b) ∙ h) (λ k h. ap length (words_same old new k b)) (λ k h. rw (words_same old new k b) (t.chained.listed k h)) t.chained;
+  nil = b.live nil_value t.nil;
+}
+
+pub names_same : (old new : List Cell) (head : Option Tagged) (bytes : List ℕ) (id : Tagged) → KeepsBlocks old new → IsTable old head → IsNamed old head bytes id → IsNamed new head bytes id
+names_same old new head bytes id b t n = named_stays old new head bytes id (keeps_carries old new b) t.chained n
+
+pub one_name : (cells : List Cell) (head : Option Tagged) (bytes : List ℕ) (one two : Tagged) → IsTable cells head → IsNamed cells head bytes one → IsNamed cells head bytes two → one ≡ two
+one_name cells head bytes one two t m n =
+    m.interned.0 ∙ ap IdAt (t.chained.distinct (index_of one) (index_of two) m.interned.1 n.interned.1 (m.name_is ∙ sym n.name_is)) ∙ sym n.interned.0

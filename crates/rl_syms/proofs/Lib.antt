@@ -1,0 +1,9 @@
+pub mod Chained
+pub mod Carried
+pub mod Filled
+pub mod New
+pub mod Entered
+pub mod Field
+pub mod BlocksKept
+pub mod OpenedNames
+pub mod Opened

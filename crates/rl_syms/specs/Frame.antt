@@ -1,0 +1,30 @@
+-- What the calls leave as it was.
+use Rattle.std.specs.Prelude.{◌≡◌, ◌≢◌, ℕ, ◌<◌, List, length, Option, Some, None, true}
+use Rattle.rl_tags.specs.Tagged.{Tagged, index_of}
+use Rattle.rl_tags.specs.declared.Tag.{Tag}
+use Rattle.rl_cells.specs.Cell.{Cell, BlockCell, cell_at, is_live, is_str, bytes_of}
+use Rattle.rl_syms.specs.Table.{Symbol, symbol_at, is_id}
+
+-- the block that begins at a cell
+abbrev pub block_in : Cell → Option (Tag × List ℕ)
+block_in (BlockCell t words) = Some (t, words)
+block_in _ = None
+
+-- what makes or changes pairs, vectors, strings and wide integers alone: identifiers and held functions stay as they were, none is made, and strings keep their bytes
+pub record KeepsBlocks (old new : List Cell) : Type 0 where
+  pub live : (v : Tagged) → is_live old v ≡ true → is_live new v ≡ true
+  pub texts : (v : Tagged) → is_str old v ≡ true → bytes_of new v ≡ bytes_of old v
+  pub blocks : (k : ℕ) → block_in (cell_at new k) ≡ block_in (cell_at old k)
+
+-- objects may have been made; those that stood are as they were
+pub record Adds (old new : List Cell) : Type 0 where
+  pub live : (v : Tagged) → is_live old v ≡ true → is_live new v ≡ true
+  pub ids : (v : Tagged) → is_id old v ≡ true → is_id new v ≡ true
+  pub stands : (k : ℕ) → k < length old → cell_at new k ≡ cell_at old k
+
+-- one identifier alone has changed, and is this now
+pub record Sets (old new : List Cell) (id : Tagged) (s : Symbol) : Type 0 where
+  pub live : (v : Tagged) → is_live old v ≡ true → is_live new v ≡ true
+  pub ids : (v : Tagged) → is_id old v ≡ true → is_id new v ≡ true
+  pub symbol : symbol_at new (index_of id) ≡ s
+  pub others : (k : ℕ) → k ≢ index_of id → cell_at new k ≡ cell_at old k

@@ -1,0 +1,17 @@
+-- What the crates above may say of the table.
+use Rattle.std.specs.Prelude.{◌≡◌, ℕ, List, Option}
+use Rattle.rl_tags.specs.Tagged.{Tagged}
+use Rattle.rl_cells.specs.Cell.{Cell}
+use Rattle.rl_syms.specs.Table.{IsTable, IsNamed, is_id, symbol_at}
+use Rattle.rl_syms.specs.Frame.{KeepsBlocks}
+
+-- what makes or changes other objects keeps the table, its names, and what its identifiers have
+pub record IsKept : Type 0 where
+  pub table : (old new : List Cell) (head : Option Tagged) → KeepsBlocks old new → IsTable old head → IsTable new head
+  pub names : (old new : List Cell) (head : Option Tagged) (bytes : List ℕ) (id : Tagged) → KeepsBlocks old new → IsTable old head → IsNamed old head bytes id → IsNamed new head bytes id
+  pub ids : (old new : List Cell) (v : Tagged) → KeepsBlocks old new → is_id new v ≡ is_id old v
+  pub symbols : (old new : List Cell) (k : ℕ) → KeepsBlocks old new → symbol_at new k ≡ symbol_at old k
+
+-- a name is that of one interned identifier
+abbrev pub IsDistinct : Type 0
+IsDistinct = (cells : List Cell) (head : Option Tagged) (bytes : List ℕ) (one other : Tagged) → IsTable cells head → IsNamed cells head bytes one → IsNamed cells head bytes other → one ≡ other

@@ -1,0 +1,6 @@
+pub mod Table
+pub mod Made
+pub mod Frame
+pub mod Gensym
+pub mod Laws
+pub mod Opened

@@ -1,0 +1,13 @@
+//! The table of names: identifiers in cells, and the chain of those that are interned.
+#![tactic(auto)]
+
+mod fields;
+mod gensym;
+pub mod laws;
+mod made;
+mod opening;
+mod table;
+#[cfg(test)]
+mod tests;
+
+pub use table::Syms;
