@@ -4,6 +4,6 @@ pub mod Filled
 pub mod New
 pub mod Entered
 pub mod Field
+pub mod Names
 pub mod BlocksKept
-pub mod OpenedNames
-pub mod Opened
+pub mod Blank

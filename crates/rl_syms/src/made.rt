@@ -8,7 +8,7 @@ ghost use Rattle.rl_syms.specs.Table.{held_in, nil_value};
 ghost use Rattle.rl_syms.specs.Made.{id_cost, new_id, new_words, option_word, with_id};
 
 use rl_cells::{Cells, Full};
-use rl_tags::{Tag, Val};
+use rl_tags::{NIL, Tag, Val};
 
 /// A word that holds no value.
 pub(crate) const NOTHING: u64 = 15;
@@ -17,7 +17,7 @@ pub(crate) const NOTHING: u64 = 15;
 pub(crate) fn nil() -> Val
     ensures { result ≡ nil_value }
 {
-    Val::at(Tag::Id, 2)
+    NIL
 }
 
 /// The word of a value, or one that holds nothing.

@@ -17,7 +17,7 @@ loop-byte-preserved c =
       table = c.letter.ensures.table;
       bytes = below_more P c.loop-byte.byte (λ b l. let was = c.loop-byte.invariant.bytes b l in (was.0, c.letter.ensures.keeps (b ∷ []) was.0 was.1)) (c.in_ok-letter.field-0, c.in_ok-letter.ensures.named);
       keeps = λ bytes id n. c.letter.ensures.keeps bytes id (c.loop-byte.invariant.keeps bytes id n);
-      objects = c.in_ok-letter.ensures.objects c.loop-byte.invariant.objects;
       opening = c.letter.ensures.opening c.args.c.now.bound c.loop-byte.invariant.opening;
+      opened = c.in_ok-letter.ensures.opened;
       made = c.letter.ensures.made ∙ c.loop-byte.invariant.made;
     }

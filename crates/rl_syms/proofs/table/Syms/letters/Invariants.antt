@@ -2,7 +2,7 @@ use Rattle.std.proofs.Common.{◌≡◌, ℕ, ◌<◌, List, [], ◌∷◌}
 use Rattle.rl_tags.specs.Tagged.{Tagged}
 use Rattle.rl_syms.specs.Table.{IsTable, IsNamed}
 use Rattle.rl_syms.specs.Made.{IsOpening}
-use Rattle.rl_syms.specs.Opened.{HasNamesAlone}
+use Rattle.rl_syms.specs.Opened.{IsOpened}
 use Rattle.rl_syms.proofs.table.Syms.letters.Given as goal
 
 abbrev pub invariant-loop-byte : goal.invariant-loop-byte
@@ -10,7 +10,7 @@ invariant-loop-byte l = record {
   table : IsTable l.c.cells l.self.head;
   bytes : (b : ℕ) → b < l.byte → (id : Tagged) × IsNamed l.c.cells l.self.head (b ∷ []) id;
   keeps : (bytes : List ℕ) (id : Tagged) → IsNamed l.fn.c.cells l.fn.self.head bytes id → IsNamed l.c.cells l.self.head bytes id;
-  objects : HasNamesAlone l.c.cells;
   opening : IsOpening l.c l.fn.c.bound;
+  opened : IsOpened l.c.cells l.self.head;
   made : l.self.made ≡ l.fn.self.made;
 }
