@@ -7,3 +7,4 @@ pub mod Field
 pub mod Names
 pub mod BlocksKept
 pub mod Blank
+pub mod Rows

@@ -4,3 +4,4 @@ pub mod Frame
 pub mod Gensym
 pub mod Laws
 pub mod Opened
+pub mod Contents

@@ -1,0 +1,38 @@
+-- What a list of cells means: its values, and the objects in the order of their making. Strings and integers are what they hold, pairs and vectors have the number of their making, and identifiers and held functions that of their place.
+use Rattle.std.specs.Prelude.{ℕ, ◌+◌, List, [], ◌∷◌, length, map, take}
+use Rattle.std.specs.List.{flat_map}
+use Rattle.rl_tags.specs.Tagged.{Tagged, Number, IdAt, StrAt, PairAt, VectorAt, BigAt, FunAt}
+use Rattle.rl_cells.specs.Cell.{Cell, PairCell, VectorCell, cell_at, bytes_in, big_in}
+use Rattle.rl_tree.specs.Value.{Value, Int, Id, Str, Ref, Fun, Object, Pair, Vector, Store}
+
+-- a pair or a vector begins here
+abbrev pub object_count : Cell → ℕ
+object_count (PairCell a d) = 1
+object_count (VectorCell xs) = 1
+object_count _ = 0
+
+abbrev pub objects_among : List Cell → ℕ
+objects_among [] = 0
+objects_among (c ∷ cells) = object_count c + objects_among cells
+
+-- how many pairs and vectors were made before the place k
+abbrev pub number_at : List Cell → ℕ → ℕ
+number_at cells k = objects_among (take k cells)
+
+abbrev pub value_of : List Cell → Tagged → Value
+value_of cells (Number n) = Int n
+value_of cells (IdAt k) = Id k
+value_of cells (StrAt k) = Str (bytes_in (cell_at cells k))
+value_of cells (PairAt k) = Ref (number_at cells k)
+value_of cells (VectorAt k) = Ref (number_at cells k)
+value_of cells (BigAt k) = Int (big_in (cell_at cells k))
+value_of cells (FunAt k) = Fun k
+
+-- the object that a cell begins, by the meaning of the values in it
+abbrev pub object_in : (Tagged → Value) → Cell → List Object
+object_in meaning (PairCell a d) = Pair (meaning a) (meaning d) ∷ []
+object_in meaning (VectorCell xs) = Vector (map meaning xs) ∷ []
+object_in meaning _ = []
+
+abbrev pub store_of : List Cell → Store
+store_of cells = flat_map (object_in (value_of cells)) cells
