@@ -8,3 +8,4 @@ pub mod Names
 pub mod BlocksKept
 pub mod Blank
 pub mod Rows
+pub mod Meant

@@ -13,7 +13,7 @@ use Rattle.rl_syms.specs.Frame.{Adds}
 use Rattle.rl_syms.proofs.Chained.{within, ids_of}
 use Rattle.rl_syms.proofs.Carried.{Carries, IsNew}
 
-tested_inside : (test : Cell → Bool) → test More ≡ false → (cells : List Cell) (k : ℕ) → test (cell_at cells k) ≡ true → k < length cells
+pub tested_inside : (test : Cell → Bool) → test More ≡ false → (cells : List Cell) (k : ℕ) → test (cell_at cells k) ≡ true → k < length cells
 tested_inside test fails cells k h = elim (cases_lt k (length cells)) [
   | inl l ↦ l
   | inr l ↦ let e : true ≡ false = sym h ∙ ap test (get_or_past cells k More l) ∙ fails in cc
