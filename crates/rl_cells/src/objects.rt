@@ -20,7 +20,7 @@ impl Model for Objects {
 pub(crate) enum Change<'a> {
     Pair(Val, Val),
     Str(&'a [u8]),
-    Vector(u32, Val),
+    Vector(u32),
     SetCar(usize, Val),
     SetCdr(usize, Val),
     Put(usize, usize, Val),

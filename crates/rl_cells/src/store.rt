@@ -1,12 +1,13 @@
 ghost use Rattle.std.specs.Prelude.{◌≡◌, ◌⊎◌, ℕ, ◌+◌, ◌*◌, ◌/◌, ◌^◌, ◌<◌, ◌≤◌, List, [], ◌∷◌, ◌++◌, length, replicate, slice_index, slice_get, slice_set, IsTrue, IfOk, OnErr, is_ok};
 ghost use Rattle.rl_tags.specs.Tagged.{PairAt, StrAt, VectorAt, BigAt, at_tag, index_of};
+ghost use Rattle.rl_tags.specs.Ids.{nil_id};
 ghost use Rattle.rl_cells.specs.Cell.{Store, Cell, PairCell, StrCell, VectorCell, BigCell, BlockCell, block_with, is_block, is_block_tag, words_of, cost_of, cell_at, placed, changed_at, is_live, is_live_word, is_pair, is_str, is_vector, is_big, is_wide, big_of, take_cells, bytes_of, vector_of, car_of, cdr_of, used_of, has_room, grown, more_counted, IsClosed};
 ghost use Rattle.rl_cells.specs.Stored.{byte_in, signed128};
 ghost use Rattle.std.specs.Option.{ForSome};
 
 use crate::objects::{Change, Objects};
 use rl_io::OutOfMemory;
-use rl_tags::{Tag, Val};
+use rl_tags::{NIL, Tag, Val};
 use rl_words::Words;
 use std::alloc::Global;
 use std::marker::Model;
@@ -215,14 +216,14 @@ impl Cells {
         self.words.get(2 * at + 2 + i / 8).to_le_bytes()[i % 8]
     }
 
-    /// A new vector of this many places, each with the value `fill`. It takes one cell, and one for each two places
-    /// begun. `Full` if there is no room; the store is then as before.
-    pub fn vector(&mut self, places: u32, fill: Val) -> Result<Val, Full>
+    /// A new vector of this many places, each of them NIL. It takes one cell, and one for each two places begun.
+    /// `Full` if there is no room; the store is then as before.
+    pub fn vector(&mut self, places: u32) -> Result<Val, Full>
         requires short { places ≤ 2147483648 }
-        requires fill_live { IsTrue (is_live self.old.cells fill) }
-        ensures full { is_ok result ≡ has_room self.old (cost_of (VectorCell (replicate places fill))) }
+        requires nil_live { IsTrue (is_live self.old.cells nil_id) }
+        ensures full { is_ok result ≡ has_room self.old (cost_of (VectorCell (replicate places nil_id))) }
         ensures names { IfOk result (λ v. v ≡ VectorAt (length self.old.cells)) }
-        ensures ok { IfOk result (λ _. self.new ≡ grown self.old (VectorCell (replicate places fill))) }
+        ensures ok { IfOk result (λ _. self.new ≡ grown self.old (VectorCell (replicate places nil_id))) }
         ensures err { OnErr result (self.new ≡ self.old) }
         ensures live { IfOk result (λ v. IsTrue (is_live self.new.cells v)) }
         ensures closed { IsClosed self.old.cells }
@@ -233,8 +234,8 @@ impl Cells {
         }
         let at = self.taken as usize;
         self.words.set(2 * at, places as u64);
-        fill_words(&mut self.words, 2 * at + 2, places as usize, fill.word());
-        self.objects = self.objects.then(&Change::Vector(places, fill));
+        fill_words(&mut self.words, 2 * at + 2, places as usize, NIL.word());
+        self.objects = self.objects.then(&Change::Vector(places));
         self.taken += cost;
         self.counted = counted_more(self.counted, self.mark, cost);
         Ok(Val::at(Tag::Vector, at as u64))

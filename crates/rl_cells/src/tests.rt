@@ -1,9 +1,10 @@
 ghost use Rattle.std.specs.Prelude.{◌≡◌, None, IsTrue};
 ghost use Rattle.rl_tags.specs.Tagged.{Tagged};
+ghost use Rattle.rl_tags.specs.Ids.{nil_id};
 ghost use Rattle.rl_cells.specs.Cell.{is_live, is_wide};
 
 use crate::{Cells, Full};
-use rl_tags::{Tag, Val};
+use rl_tags::{NIL, Tag, Val};
 use std::test::Fail;
 
 /// The car of a pair, and -1 for any other value.
@@ -48,11 +49,14 @@ fn string(cells: &mut Cells, bytes: &[u8]) -> Option<(u32, u8, u32)> {
 }
 
 /// Makes a vector of at most 1,000 places. Its length, its last value or else -1, and what is used after it.
-fn vector(cells: &mut Cells, places: u32) -> Option<(u32, Val, u32)> {
+fn vector(cells: &mut Cells, places: u32) -> Option<(u32, Val, u32)>
+    requires { IsTrue (is_live cells.old.cells nil_id) }
+    ensures { IsTrue (is_live cells.new.cells nil_id) }
+{
     if places > 1000 {
         return None;
     }
-    match cells.vector(places, Val::small(5)) {
+    match cells.vector(places) {
         Ok(v) => {
             let long = cells.vector_len(v);
             let last = if long > 0 {
@@ -61,6 +65,19 @@ fn vector(cells: &mut Cells, places: u32) -> Option<(u32, Val, u32)> {
                 Val::small(-1)
             };
             Some((long, last, cells.used()))
+        }
+        Err(Full) => None,
+    }
+}
+
+/// Makes a vector of two places and puts 5 into the second. What it holds then.
+fn put_second(cells: &mut Cells) -> Option<(Val, Val)>
+    requires { IsTrue (is_live cells.old.cells nil_id) }
+{
+    match cells.vector(2) {
+        Ok(v) => {
+            cells.put(v, 1, Val::small(5));
+            Some((cells.get(v, 0), cells.get(v, 1)))
         }
         Err(Full) => None,
     }
@@ -167,11 +184,22 @@ fn strings_take_a_cell_for_16_bytes(rt: HostRuntime) -> Result<(), Fail> {
 #[test]
 fn vectors_take_a_cell_for_two_places(rt: HostRuntime) -> Result<(), Fail> {
     let mut cells = Cells::new(rt.alloc(), 5)?;
+    let _name = cells.string(b"sixteen letters.")?;
+    assert_eq!(rt; cells.block(Tag::Id, 6)?, NIL);
     cells.settle();
     assert_eq!(rt; vector(&mut cells, 0), Some((0, Val::small(-1), 1)));
-    assert_eq!(rt; vector(&mut cells, 1), Some((1, Val::small(5), 3)));
-    assert_eq!(rt; vector(&mut cells, 2), Some((2, Val::small(5), 5)));
+    assert_eq!(rt; vector(&mut cells, 1), Some((1, NIL, 3)));
+    assert_eq!(rt; vector(&mut cells, 2), Some((2, NIL, 5)));
     assert_eq!(rt; vector(&mut cells, 0), None);
+    Ok(())
+}
+
+#[test]
+fn put_changes_one_place(rt: HostRuntime) -> Result<(), Fail> {
+    let mut cells = Cells::new(rt.alloc(), 5)?;
+    let _name = cells.string(b"sixteen letters.")?;
+    assert_eq!(rt; cells.block(Tag::Id, 6)?, NIL);
+    assert_eq!(rt; put_second(&mut cells), Some((NIL, Val::small(5))));
     Ok(())
 }
 

@@ -1,6 +1,7 @@
 -- Identifiers: blocks of six words, which are the name, the value or none, the property list, the definition or none, the two kinds, and the next identifier of the chain or none. The chain goes from the newest interned identifier to the oldest.
 use Rattle.std.specs.Prelude.{◌≡◌, ◌≢◌, ℕ, zero, suc, ◌/◌, ◌%◌, ◌<◌, ◌≤◌, ◌==◌, ◌⊎◌, nat_le, cond, Bool, true, false, List, [], ◌∷◌, length, slice_index, Option, Some, None, IsSome}
 use Rattle.rl_tags.specs.Tagged.{Tagged, IdAt, tagged_of, index_of}
+use Rattle.rl_tags.specs.Ids.{nil_id}
 use Rattle.rl_cells.specs.Cell.{Cell, cell_at, is_id_cell, is_live, is_str, words_in, bytes_of}
 use Rattle.rl_tree.specs.declared.held.Kind.{Kind}
 use Rattle.rl_tree.specs.declared.held.Kind.TheVariants.{Expr, Fexpr, Macro}
@@ -103,7 +104,7 @@ pub record IsChained (cells : List Cell) (head : Option Tagged) : Type 0 where
 
 -- where NIL stands
 abbrev pub nil_value : Tagged
-nil_value = IdAt 2
+nil_value = nil_id
 
 -- the chain begins at head, and NIL stands, which is the property list of a new identifier
 pub record IsTable (cells : List Cell) (head : Option Tagged) : Type 0 where
