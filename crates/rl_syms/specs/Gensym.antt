@@ -1,5 +1,5 @@
 -- The names that are made up: G and the number, of four digits at least.
-use Rattle.std.specs.Prelude.{◌≡◌, ℕ, zero, suc, ◌+◌, ◌-◌, ◌/◌, ◌%◌, ◌^◌, ◌<◌, ◌≤◌, true, false, List, [], ◌∷◌, ◌++◌, None}
+use Rattle.std.specs.Prelude.{◌≡◌, ℕ, zero, suc, ◌+◌, ◌-◌, ◌/◌, ◌%◌, ◌^◌, ◌<◌, ◌≤◌, min, true, false, List, [], ◌∷◌, ◌++◌, None}
 use Rattle.rl_tags.specs.Tagged.{Tagged}
 use Rattle.rl_cells.specs.Cell.{Store, has_room}
 use Rattle.rl_syms.specs.Table.{nil_value}
@@ -21,6 +21,10 @@ pub record IsGensym (name : List ℕ) (n : ℕ) : Type 0 where
   pub width : ℕ
   pub is_width : IsWidth width n
   pub is : name ≡ 71 ∷ digits width n
+
+-- the number of the name that comes after the n-th of these; 2^64 - 1 stays
+abbrev pub next_number : ℕ → ℕ
+next_number n = min (n + 1) (2 ^ 64 - 1)
 
 -- the identifier with the n-th of these names is made; it is not interned
 pub record MakesGensym (old new : Store) (n : ℕ) (id : Tagged) : Type 0 where

@@ -1,25 +1,25 @@
 //! Identifiers with names that are made up: G0001, G0002 and so on.
-ghost use Rattle.std.specs.Prelude.{◌≡◌, ◌<◌, ◌≤◌, ◌+◌, ◌-◌, ◌^◌, ◌∷◌, ℕ, IsTrue, List, length, take, slice_index, IfOk, OnOk, OnErr};
+ghost use Rattle.std.specs.Prelude.{◌≡◌, ◌<◌, ◌≤◌, ◌+◌, ◌∷◌, ℕ, IsTrue, List, length, take, slice_index, IfOk, OnOk, OnErr};
 ghost use Rattle.rl_tags.specs.Tagged.{Tagged};
 ghost use Rattle.rl_cells.specs.Cell.{is_live};
 ghost use Rattle.rl_syms.specs.Table.{IsTable, IsNamed, is_id};
 ghost use Rattle.rl_syms.specs.Frame.{Adds};
-ghost use Rattle.rl_syms.specs.Gensym.{IsWidth, LacksGensym, MakesGensym, digits};
+ghost use Rattle.rl_syms.specs.Gensym.{IsWidth, LacksGensym, MakesGensym, digits, next_number};
 
 use crate::Syms;
 use rl_cells::{Cells, Full};
 use rl_tags::Val;
 
 impl Syms {
-    /// A new identifier that is not interned, with the next of the names G0001, G0002 and so on. `Full`, and everything is
-    /// as before, exactly where 3 cells and those of its name pass the cells.
+    /// A new identifier that is not interned, with the next of the names G0001, G0002 and so on; from number 2^64 - 1 on
+    /// the name stays the same, and only the identifiers differ. `Full`, and everything is as before, exactly where 3 cells
+    /// and those of its name pass the cells.
     pub fn gensym(&mut self, c: &mut Cells) -> Result<Val, Full>
         requires table { IsTable c.old.cells self.old.head }
-        requires countable { self.old.made + 1 < 2 ^ 64 }
-        ensures ok { IfOk result (λ v. MakesGensym c.old c.new (self.old.made + 1) v) }
-        ensures no_room { OnErr result (LacksGensym c.old (self.old.made + 1)) }
+        ensures ok { IfOk result (λ v. MakesGensym c.old c.new (next_number self.old.made) v) }
+        ensures no_room { OnErr result (LacksGensym c.old (next_number self.old.made)) }
         ensures err { OnErr result (c.new ≡ c.old) }
-        ensures counted { OnOk result (self.new.made ≡ self.old.made + 1) }
+        ensures counted { OnOk result (self.new.made ≡ next_number self.old.made) }
         ensures uncounted { OnErr result (self.new.made ≡ self.old.made) }
         ensures head { self.new.head ≡ self.old.head }
         ensures table { IsTable c.new.cells self.new.head }
@@ -28,7 +28,7 @@ impl Syms {
         ensures keeps { (bytes : List ℕ) (id : Tagged) → IsNamed c.old.cells self.old.head bytes id → IsNamed c.new.cells self.new.head bytes id }
         ensures adds { Adds c.old.cells c.new.cells }
     {
-        let number = self.made + 1;
+        let number = self.made.saturating_add(1);
         let mut name = [b'G'; 21];
         let places = width(number);
         write_digits(&mut name, places, number);

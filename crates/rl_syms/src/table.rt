@@ -11,7 +11,7 @@ use crate::made::{identifier, nil};
 use rl_cells::{Cells, Full};
 use rl_tags::Val;
 
-/// The table of names: where the chain of interned identifiers begins, and how many identifiers `gensym` made.
+/// The table of names: where the chain of interned identifiers begins, and the number of the name that `gensym` made last.
 #[derive(Drop)]
 pub struct Syms {
     pub head: Option<Val>,
