@@ -1,11 +1,12 @@
 -- What an append and a change of one object keep.
 use Rattle.std.specs.Prelude.{nat_le}
-use Rattle.std.proofs.Common.{◌≡◌, ◌≢◌, ℕ, ◌+◌, ◌-◌, ◌*◌, ◌/◌, ◌%◌, ◌^◌, ◌<◌, ◌≤◌, Bool, true, false, ◌&&◌, List, [], ◌∷◌, ◌++◌, length, get_or, set, replicate, refl, sym, ap, ◌∙◌, ◌⊎◌, inl, inr, arith, length-append, add-one, cond}
+use Rattle.std.proofs.Common.{◌≡◌, ◌≢◌, ℕ, ◌+◌, ◌-◌, ◌*◌, ◌/◌, ◌%◌, ◌^◌, ◌<◌, ◌≤◌, Bool, true, false, List, [], ◌∷◌, ◌++◌, length, get_or, set, replicate, refl, sym, ap, ◌∙◌, ◌⊎◌, inl, inr, arith, length-append, add-one, cond}
 use Rattle.std.proofs.lemmas.List.{get_or_append_left, get_or_past, get_or-set_same, get_or-set_other, length-set, length-replicate, get_or-replicate}
-use Rattle.std.proofs.lemmas.Bool.{cases_lt, cases_eq}
+use Rattle.std.proofs.lemmas.Bool.{cases_lt, cases_eq, and_from, and_parts}
 use Rattle.std.specs.List.{list_all}
 use Rattle.rl_tags.specs.Tagged.{Tagged, Number, IdAt, StrAt, PairAt, VectorAt, BigAt, FunAt, tagged_of}
 use Rattle.rl_cells.specs.Cell.{Cell, PairCell, StrCell, VectorCell, BigCell, BlockCell, More, cost_of, cell_at, placed, is_live, is_pair_cell, is_str_cell, is_vector_cell, is_big_cell, is_id_cell, is_fun_cell, is_closed_cell, is_live_word, is_pair, changed_at, IsClosed}
+use Rattle.rl_cells.specs.Laws.{SameKind}
 use Rattle.rl_cells.specs.Stored.{IsLaid, IsStored}
 
 -- the words agree on the cells from k on
@@ -89,18 +90,10 @@ is_live-append cells more (VectorAt k) h = tested-append is_vector_cell refl cel
 is_live-append cells more (BigAt k) h = tested-append is_big_cell refl cells more k h
 is_live-append cells more (FunAt k) h = tested-append is_fun_cell refl cells more (k % 2 ^ 32) h
 
-both : (a b : Bool) → a ≡ true → b ≡ true → (a && b) ≡ true
-both a b p q = rw (p, q) refl
-
-pub both_of : (a b : Bool) → (a && b) ≡ true → (a ≡ true) × (b ≡ true)
-both_of true true h = (refl, refl)
-both_of true false h = absurd (cc)
-both_of false b h = absurd (cc)
-
 list_all-implied : (p q : Tagged → Bool) → ((v : Tagged) → p v ≡ true → q v ≡ true) → (xs : List Tagged) → list_all p xs ≡ true → list_all q xs ≡ true
 list_all-implied p q f [] h = refl
 list_all-implied p q f (x ∷ xs) h =
-    let parts = both_of (p x) (list_all p xs) h in both (q x) (list_all q xs) (f x parts.0) (list_all-implied p q f xs parts.1)
+    let parts = and_parts (p x) (list_all p xs) h in and_from (q x) (list_all q xs) (f x parts.0) (list_all-implied p q f xs parts.1)
 
 pub word_implied : (old new : List Cell) → ((v : Tagged) → is_live old v ≡ true → is_live new v ≡ true) → (w : ℕ) → is_live_word old w ≡ true → is_live_word new w ≡ true
 word_implied old new f w h = go (nat_le (w % 16) 6) h
@@ -112,12 +105,12 @@ word_implied old new f w h = go (nat_le (w % 16) 6) h
 words_implied : (old new : List Cell) → ((v : Tagged) → is_live old v ≡ true → is_live new v ≡ true) → (ws : List ℕ) → list_all (is_live_word old) ws ≡ true → list_all (is_live_word new) ws ≡ true
 words_implied old new f [] h = refl
 words_implied old new f (w ∷ ws) h =
-    let parts = both_of (is_live_word old w) (list_all (is_live_word old) ws) h in
-    both (is_live_word new w) (list_all (is_live_word new) ws) (word_implied old new f w parts.0) (words_implied old new f ws parts.1)
+    let parts = and_parts (is_live_word old w) (list_all (is_live_word old) ws) h in
+    and_from (is_live_word new w) (list_all (is_live_word new) ws) (word_implied old new f w parts.0) (words_implied old new f ws parts.1)
 
 is_closed_cell-implied : (old new : List Cell) → ((v : Tagged) → is_live old v ≡ true → is_live new v ≡ true) → (c : Cell) → is_closed_cell old c ≡ true → is_closed_cell new c ≡ true
 is_closed_cell-implied old new f (PairCell a d) h =
-    let parts = both_of (is_live old a) (is_live old d) h in both (is_live new a) (is_live new d) (f a parts.0) (f d parts.1)
+    let parts = and_parts (is_live old a) (is_live old d) h in and_from (is_live new a) (is_live new d) (f a parts.0) (f d parts.1)
 is_closed_cell-implied old new f (StrCell bytes) h = refl
 is_closed_cell-implied old new f (VectorCell xs) h = list_all-implied (is_live old) (is_live new) f xs h
 is_closed_cell-implied old new f (BigCell z) h = h
@@ -159,16 +152,6 @@ IsStored-append ws vs cells c s cost e new = record {
     | after l is ↦ let p' : 0 < cost_of More = rw is at p in absurd (omega arith)
   ];
 }
-
--- two objects of one kind
-pub record SameKind (c d : Cell) : Type 0 where
-  pub cost : cost_of c ≡ cost_of d
-  pub pair : is_pair_cell c ≡ is_pair_cell d
-  pub str : is_str_cell c ≡ is_str_cell d
-  pub vector : is_vector_cell c ≡ is_vector_cell d
-  pub big : is_big_cell c ≡ is_big_cell d
-  pub id : is_id_cell c ≡ is_id_cell d
-  pub «fun» : is_fun_cell c ≡ is_fun_cell d
 
 pub pair_like : (c : Cell) (a d : Tagged) → is_pair_cell c ≡ true → SameKind (PairCell a d) c
 pair_like (PairCell x y) a d h = record { cost = refl; pair = refl; str = refl; vector = refl; big = refl; id = refl; «fun» = refl }

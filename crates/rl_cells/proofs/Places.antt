@@ -2,7 +2,7 @@
 use Rattle.std.proofs.Common.{◌≡◌, ◌≢◌, ℕ, ℤ, pos, zero, suc, ◌+◌, ◌*◌, ◌/◌, ◌%◌, ◌<◌, ◌≤◌, ◌^◌, Bool, true, false, List, [], ◌∷◌, ◌++◌, length, get_or, set, replicate, Option, Some, refl, sym, ap, ◌∙◌, ◌⊎◌, inl, inr, arith, w64}
 use Rattle.std.proofs.lemmas.List.{get_or-set_same, get_or-set_other, length-set, length-replicate, get_or-replicate, get_or_past}
 use Rattle.std.proofs.lemmas.Option.{get_or_from_slice_get}
-use Rattle.std.proofs.lemmas.Bool.{cases_lt, cases_eq}
+use Rattle.std.proofs.lemmas.Bool.{cases_lt, cases_eq, and_parts}
 use Rattle.std.specs.List.{list_all}
 use Rattle.std.specs.Int.{to_le_bytes}
 use Rattle.std.specs.Prelude.{slice_get}
@@ -10,9 +10,10 @@ use Rattle.rl_tags.specs.Tagged.{Tagged, Number, IdAt, StrAt, PairAt, VectorAt, 
 use Rattle.rl_cells.specs.Cell.{Cell, Store, PairCell, StrCell, VectorCell, BigCell, BlockCell, More, cost_of, cell_at, placed, is_live, is_vector, is_vector_cell, is_closed_cell, IsClosed, vector_in, vector_of, room_in, has_room, more_counted, is_id_cell, is_fun_cell, words_in, words_of, is_block, block_with, is_live_word, is_wide, is_str, is_str_cell, bytes_in, bytes_of}
 use Rattle.rl_tags.specs.declared.Tag.{Tag}
 use Rattle.rl_tags.specs.declared.Tag.TheVariants.{Int, Id, Str, Pair, Vector, Big, Fun}
+use Rattle.rl_cells.specs.Laws.{SameKind}
 use Rattle.rl_cells.specs.Stored.{IsLaid, IsSound, byte_in, signed128}
 use Rattle.rl_cells.proofs.Cut.{IsCut-append, IsCut-set}
-use Rattle.rl_cells.proofs.Kept.{SameKind, IsStored-append, IsStored-set, IsClosed-append, IsClosed-set, length-placed, both_of}
+use Rattle.rl_cells.proofs.Kept.{IsStored-append, IsStored-set, IsClosed-append, IsClosed-set, length-placed}
 use Rattle.rl_cells.proofs.Sound.{within_room, capacity}
 
 abbrev Viewed : List Cell → ℕ → Option ℕ → Option ℕ → Store → Type 0
@@ -162,13 +163,13 @@ vector_like xs ys e = record { cost = ap (λ n. 1 + (n + 1) / 2) e; pair = refl;
 
 list_all-set : (p : Tagged → Bool) (xs : List Tagged) (i : ℕ) (x : Tagged) → list_all p xs ≡ true → p x ≡ true → list_all p (set xs i x) ≡ true
 list_all-set p [] i x h q = refl
-list_all-set p (y ∷ ys) zero x h q = let parts = both_of (p y) (list_all p ys) h in rw (q, parts.1) refl
-list_all-set p (y ∷ ys) (suc i) x h q = let parts = both_of (p y) (list_all p ys) h in rw (parts.0, list_all-set p ys i x parts.1 q) refl
+list_all-set p (y ∷ ys) zero x h q = let parts = and_parts (p y) (list_all p ys) h in rw (q, parts.1) refl
+list_all-set p (y ∷ ys) (suc i) x h q = let parts = and_parts (p y) (list_all p ys) h in rw (parts.0, list_all-set p ys i x parts.1 q) refl
 
 pub list_all-get_or : (p : Tagged → Bool) (xs : List Tagged) (i : ℕ) (d : Tagged) → list_all p xs ≡ true → i < length xs → p (get_or xs i d) ≡ true
 list_all-get_or p [] i d h l = absurd (omega arith)
-list_all-get_or p (y ∷ ys) zero d h l = (both_of (p y) (list_all p ys) h).0
-list_all-get_or p (y ∷ ys) (suc i) d h l = list_all-get_or p ys i d (both_of (p y) (list_all p ys) h).1 (omega arith)
+list_all-get_or p (y ∷ ys) zero d h l = (and_parts (p y) (list_all p ys) h).0
+list_all-get_or p (y ∷ ys) (suc i) d h l = list_all-get_or p ys i d (and_parts (p y) (list_all p ys) h).1 (omega arith)
 
 -- a vector's place, its cell and its list
 pub record AtVector (cells : List Cell) (s : Store) (v : Tagged) (k : ℕ) : Type 0 where
@@ -255,13 +256,13 @@ live_zeros cells (suc n) = live_zeros cells n
 
 words_set : (p : ℕ → Bool) (xs : List ℕ) (i x : ℕ) → list_all p xs ≡ true → p x ≡ true → list_all p (set xs i x) ≡ true
 words_set p [] i x h q = refl
-words_set p (y ∷ ys) zero x h q = let parts = both_of (p y) (list_all p ys) h in rw (q, parts.1) refl
-words_set p (y ∷ ys) (suc i) x h q = let parts = both_of (p y) (list_all p ys) h in rw (parts.0, words_set p ys i x parts.1 q) refl
+words_set p (y ∷ ys) zero x h q = let parts = and_parts (p y) (list_all p ys) h in rw (q, parts.1) refl
+words_set p (y ∷ ys) (suc i) x h q = let parts = and_parts (p y) (list_all p ys) h in rw (parts.0, words_set p ys i x parts.1 q) refl
 
 word_at : (p : ℕ → Bool) (xs : List ℕ) (i : ℕ) → list_all p xs ≡ true → i < length xs → p (get_or xs i 0) ≡ true
 word_at p [] i h l = absurd (omega arith)
-word_at p (y ∷ ys) zero h l = (both_of (p y) (list_all p ys) h).0
-word_at p (y ∷ ys) (suc i) h l = word_at p ys i (both_of (p y) (list_all p ys) h).1 (omega arith)
+word_at p (y ∷ ys) zero h l = (and_parts (p y) (list_all p ys) h).0
+word_at p (y ∷ ys) (suc i) h l = word_at p ys i (and_parts (p y) (list_all p ys) h).1 (omega arith)
 
 closed_block : (cells : List Cell) (c : Cell) (t : Tag) (xs : List ℕ) → c ≡ BlockCell t xs → is_closed_cell cells c ≡ true → list_all (is_live_word cells) xs ≡ true
 closed_block cells c t xs e h = rw e at h

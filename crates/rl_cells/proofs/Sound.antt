@@ -6,9 +6,9 @@ use Rattle.rl_tags.specs.Tagged.{Tagged, Number, IdAt, StrAt, PairAt, VectorAt, 
 use Rattle.rl_cells.specs.Cell.{Cell, Store, PairCell, StrCell, VectorCell, BigCell, BlockCell, More, cell_at, is_live, is_pair, is_pair_cell, is_closed_cell, IsClosed, car_in, cdr_in, car_of, cdr_of, room_in, more_counted}
 use Rattle.rl_cells.specs.Stored.{IsLaid, IsSound, IsWithin}
 use Rattle.rl_cells.proofs.Cut.{IsCut-set}
-use Rattle.rl_cells.proofs.Kept.{IsStored-set, IsClosed-set, pair_like, both_of}
+use Rattle.rl_cells.proofs.Kept.{IsStored-set, IsClosed-set, pair_like}
 use Rattle.std.proofs.lemmas.List.{get_or_past}
-use Rattle.std.proofs.lemmas.Bool.{cases_lt}
+use Rattle.std.proofs.lemmas.Bool.{cases_lt, and_parts}
 use Rattle.std.proofs.lemmas.Option.{get_or_from_slice_get}
 use Rattle.std.specs.Prelude.{MatchOption, slice_get}
 
@@ -49,7 +49,7 @@ laid_pair ws k (BlockCell t words) h l = cc
 laid_pair ws k More h l = cc
 
 closed_pair : (cells : List Cell) (c : Cell) → is_pair_cell c ≡ true → is_closed_cell cells c ≡ true → (is_live cells (car_in c) ≡ true) × (is_live cells (cdr_in c) ≡ true)
-closed_pair cells (PairCell a d) h l = both_of (is_live cells a) (is_live cells d) l
+closed_pair cells (PairCell a d) h l = and_parts (is_live cells a) (is_live cells d) l
 closed_pair cells (StrCell bytes) h l = cc
 closed_pair cells (VectorCell xs) h l = cc
 closed_pair cells (BigCell z) h l = cc

@@ -3,6 +3,7 @@ use Rattle.std.proofs.Common.{◌≡◌, ℕ, ◌+◌, ◌≤◌, true, List, []
 use Rattle.std.specs.Prelude.{IsSome}
 use Rattle.rl_tags.specs.Tagged.{Tagged, Number, IdAt, index_of, word_of}
 use Rattle.rl_cells.specs.Cell.{Cell, Store, StrCell, cost_of, cell_at, is_id_cell}
+use Rattle.rl_cells.specs.Laws.{IsAdded}
 use Rattle.rl_syms.specs.Table.{IsChained, IsTable, IsNamed, IsFree, IsLink, ids_from, held_in, rank_of, nil_value}
 use Rattle.rl_syms.specs.Made.{new_id, with_id, IsOpening}
 use Rattle.rl_syms.specs.Frame.{Adds}
@@ -10,54 +11,54 @@ use Rattle.rl_syms.proofs.Chained.{within}
 use Rattle.rl_syms.proofs.Carried.{chained_loose, chained_new, ids_new, among_along, among_id, name_carried, named_stays}
 use Rattle.rl_syms.proofs.New.{adds_carries, with_id_adds, with_id_new}
 
-pub made_adds : (old new : Store) (name : List ℕ) (plist : Tagged) (next : Option Tagged) → new ≡ with_id old name plist next → Adds old.cells new.cells
-made_adds old new name plist next made = rw made (with_id_adds old name plist next)
+pub made_adds : IsAdded → (old new : Store) (name : List ℕ) (plist : Tagged) (next : Option Tagged) → new ≡ with_id old name plist next → Adds old.cells new.cells
+made_adds law old new name plist next made = rw made (with_id_adds law old name plist next)
 
 -- the table with a new identifier on the chain
-pub entered_chained : (old new : Store) (head : Option Tagged) (name : List ℕ) (plist id : Tagged) → 1 ≤ length name → length name ≤ 255 → IsSome (held_in (word_of plist)) → IsChained old.cells head → IsFree old.cells head name
+pub entered_chained : IsAdded → (old new : Store) (head : Option Tagged) (name : List ℕ) (plist id : Tagged) → 1 ≤ length name → length name ≤ 255 → IsSome (held_in (word_of plist)) → IsChained old.cells head → IsFree old.cells head name
     → new ≡ with_id old name plist head → id ≡ new_id old name → IsChained new.cells (Some id)
-entered_chained old new head name plist id some short listed t free made is =
+entered_chained law old new head name plist id some short listed t free made is =
     rw (made, is) (chained_new old.cells (with_id old name plist head).cells head name (length old.cells + cost_of (StrCell name))
-    (adds_carries old.cells (with_id old name plist head).cells (with_id_adds old name plist head)) (with_id_new old name plist head some short listed t.first) free t)
+    (adds_carries old.cells (with_id old name plist head).cells (with_id_adds law old name plist head)) (with_id_new law old name plist head some short listed t.first) free t)
 
-pub entered_named : (old new : Store) (head : Option Tagged) (name : List ℕ) (plist id : Tagged) → 1 ≤ length name → length name ≤ 255 → IsSome (held_in (word_of plist)) → IsChained old.cells head
+pub entered_named : IsAdded → (old new : Store) (head : Option Tagged) (name : List ℕ) (plist id : Tagged) → 1 ≤ length name → length name ≤ 255 → IsSome (held_in (word_of plist)) → IsChained old.cells head
     → new ≡ with_id old name plist head → id ≡ new_id old name → IsNamed new.cells (Some id) name id
-entered_named old new head name plist id some short listed t made is =
+entered_named law old new head name plist id some short listed t made is =
     let n = length old.cells + cost_of (StrCell name) in
     let fresh = (with_id old name plist head).cells in
-    let i = with_id_new old name plist head some short listed t.first in
-    let ids = ids_new old.cells fresh head name n (adds_carries old.cells fresh (with_id_adds old name plist head)) i t in
+    let i = with_id_new law old name plist head some short listed t.first in
+    let ids = ids_new old.cells fresh head name n (adds_carries old.cells fresh (with_id_adds law old name plist head)) i t in
     rw (made, is) record { interned = (refl, among_along n (n ∷ ids_from old.cells head) (ids_from fresh (Some (IdAt n))) (sym ids) (inl refl)); name_is = i.name_is }
 
 -- the table with a new identifier beside the chain
-pub loose_chained : (old new : Store) (head next : Option Tagged) (name : List ℕ) (plist : Tagged) → 1 ≤ length name → length name ≤ 255 → IsSome (held_in (word_of plist)) → IsChained old.cells head → IsLink old.cells (rank_of next) next
+pub loose_chained : IsAdded → (old new : Store) (head next : Option Tagged) (name : List ℕ) (plist : Tagged) → 1 ≤ length name → length name ≤ 255 → IsSome (held_in (word_of plist)) → IsChained old.cells head → IsLink old.cells (rank_of next) next
     → new ≡ with_id old name plist next → IsChained new.cells head
-loose_chained old new head next name plist some short listed t link made =
+loose_chained law old new head next name plist some short listed t link made =
     rw made (chained_loose old.cells (with_id old name plist next).cells head next name (length old.cells + cost_of (StrCell name))
-    (adds_carries old.cells (with_id old name plist next).cells (with_id_adds old name plist next)) (with_id_new old name plist next some short listed link) link t)
+    (adds_carries old.cells (with_id old name plist next).cells (with_id_adds law old name plist next)) (with_id_new law old name plist next some short listed link) link t)
 
 -- with NIL
-pub entered_table : (old new : Store) (head : Option Tagged) (name : List ℕ) (id : Tagged) → 1 ≤ length name → length name ≤ 255 → IsTable old.cells head → IsFree old.cells head name
+pub entered_table : IsAdded → (old new : Store) (head : Option Tagged) (name : List ℕ) (id : Tagged) → 1 ≤ length name → length name ≤ 255 → IsTable old.cells head → IsFree old.cells head name
     → new ≡ with_id old name nil_value head → id ≡ new_id old name → IsTable new.cells (Some id)
-entered_table old new head name id some short t free made is = record {
-  chained = entered_chained old new head name nil_value id some short refl t.chained free made is;
-  nil = (made_adds old new name nil_value head made).live nil_value t.nil;
+entered_table law old new head name id some short t free made is = record {
+  chained = entered_chained law old new head name nil_value id some short refl t.chained free made is;
+  nil = (made_adds law old new name nil_value head made).live nil_value t.nil;
 }
 
-pub loose_table : (old new : Store) (head : Option Tagged) (name : List ℕ) → 1 ≤ length name → length name ≤ 255 → IsTable old.cells head → new ≡ with_id old name nil_value None → IsTable new.cells head
-loose_table old new head name some short t made = record {
-  chained = loose_chained old new head None name nil_value some short refl t.chained tt made;
-  nil = (made_adds old new name nil_value None made).live nil_value t.nil;
+pub loose_table : IsAdded → (old new : Store) (head : Option Tagged) (name : List ℕ) → 1 ≤ length name → length name ≤ 255 → IsTable old.cells head → new ≡ with_id old name nil_value None → IsTable new.cells head
+loose_table law old new head name some short t made = record {
+  chained = loose_chained law old new head None name nil_value some short refl t.chained tt made;
+  nil = (made_adds law old new name nil_value None made).live nil_value t.nil;
 }
 
 -- names that were interned stay so
-pub entered_keeps : (old new : Store) (head : Option Tagged) (name : List ℕ) (plist id : Tagged) → 1 ≤ length name → length name ≤ 255 → IsSome (held_in (word_of plist)) → IsChained old.cells head
+pub entered_keeps : IsAdded → (old new : Store) (head : Option Tagged) (name : List ℕ) (plist id : Tagged) → 1 ≤ length name → length name ≤ 255 → IsSome (held_in (word_of plist)) → IsChained old.cells head
     → new ≡ with_id old name plist head → id ≡ new_id old name → (bytes : List ℕ) (other : Tagged) → IsNamed old.cells head bytes other → IsNamed new.cells (Some id) bytes other
-entered_keeps old new head name plist id some short listed t made is bytes other h =
+entered_keeps law old new head name plist id some short listed t made is bytes other h =
     let n = length old.cells + cost_of (StrCell name) in
     let fresh = (with_id old name plist head).cells in
-    let c = adds_carries old.cells fresh (with_id_adds old name plist head) in
-    let i = with_id_new old name plist head some short listed t.first in
+    let c = adds_carries old.cells fresh (with_id_adds law old name plist head) in
+    let i = with_id_new law old name plist head some short listed t.first in
     let ids = ids_new old.cells fresh head name n c i t in
     let k = index_of other in
     rw (made, is) record {
@@ -65,10 +66,10 @@ entered_keeps old new head name plist id some short listed t made is bytes other
       name_is = name_carried old.cells fresh head k c t (among_id old.cells head k t h.interned.1) ∙ h.name_is;
     }
 
-pub loose_keeps : (old new : Store) (head : Option Tagged) (name : List ℕ) (plist : Tagged) (next : Option Tagged) → IsChained old.cells head → new ≡ with_id old name plist next
+pub loose_keeps : IsAdded → (old new : Store) (head : Option Tagged) (name : List ℕ) (plist : Tagged) (next : Option Tagged) → IsChained old.cells head → new ≡ with_id old name plist next
     → (bytes : List ℕ) (other : Tagged) → IsNamed old.cells head bytes other → IsNamed new.cells head bytes other
-loose_keeps old new head name plist next t made bytes other h =
-    rw made (named_stays old.cells (with_id old name plist next).cells head bytes other (adds_carries old.cells (with_id old name plist next).cells (with_id_adds old name plist next)) t h)
+loose_keeps law old new head name plist next t made bytes other h =
+    rw made (named_stays old.cells (with_id old name plist next).cells head bytes other (adds_carries old.cells (with_id old name plist next).cells (with_id_adds law old name plist next)) t h)
 
 pub entered_opening : (old new : Store) (name : List ℕ) (plist : Tagged) (next : Option Tagged) → new ≡ with_id old name plist next → (bound : ℕ) → IsOpening old bound → IsOpening new bound
 entered_opening old new name plist next made bound o = rw made record {
@@ -90,17 +91,17 @@ chained_empty cells e =
       distinct = λ j k a b e. absurd a;
     }
 
-pub first_table : (old new : Store) (name : List ℕ) (id : Tagged) → 1 ≤ length name → length name ≤ 255 → old.cells ≡ [] → new ≡ with_id old name (Number (pos 0)) None → id ≡ new_id old name → id ≡ nil_value → IsTable new.cells (Some id)
-first_table old new name id some short empty made is nil =
+pub first_table : IsAdded → (old new : Store) (name : List ℕ) (id : Tagged) → 1 ≤ length name → length name ≤ 255 → old.cells ≡ [] → new ≡ with_id old name (Number (pos 0)) None → id ≡ new_id old name → id ≡ nil_value → IsTable new.cells (Some id)
+first_table law old new name id some short empty made is nil =
     let t = chained_empty old.cells empty in
     let fresh = (with_id old name (Number (pos 0)) None).cells in
     let n = length old.cells + cost_of (StrCell name) in
-    let i = with_id_new old name (Number (pos 0)) None some short refl tt in
+    let i = with_id_new law old name (Number (pos 0)) None some short refl tt in
     let place : n ≡ 2 = ap index_of (sym is ∙ nil) in
     record {
-      chained = entered_chained old new None name (Number (pos 0)) id some short refl t (record { other = λ k a. absurd a }) made is;
+      chained = entered_chained law old new None name (Number (pos 0)) id some short refl t (record { other = λ k a. absurd a }) made is;
       nil = rw made (ap (λ k. is_id_cell (cell_at fresh k)) (sym place) ∙ i.id);
     }
 
-pub first_named : (old new : Store) (name : List ℕ) (id : Tagged) → 1 ≤ length name → length name ≤ 255 → old.cells ≡ [] → new ≡ with_id old name (Number (pos 0)) None → id ≡ new_id old name → IsNamed new.cells (Some id) name id
-first_named old new name id some short empty made is = entered_named old new None name (Number (pos 0)) id some short refl (chained_empty old.cells empty) made is
+pub first_named : IsAdded → (old new : Store) (name : List ℕ) (id : Tagged) → 1 ≤ length name → length name ≤ 255 → old.cells ≡ [] → new ≡ with_id old name (Number (pos 0)) None → id ≡ new_id old name → IsNamed new.cells (Some id) name id
+first_named law old new name id some short empty made is = entered_named law old new None name (Number (pos 0)) id some short refl (chained_empty old.cells empty) made is

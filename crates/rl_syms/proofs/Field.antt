@@ -6,7 +6,7 @@ use Rattle.std.specs.Prelude.{IsSome}
 use Rattle.rl_tags.specs.Tagged.{Tagged, Number, IdAt, StrAt, PairAt, VectorAt, BigAt, FunAt, index_of}
 use Rattle.rl_tags.specs.declared.Tag.TheVariants as tag
 use Rattle.rl_cells.specs.Cell.{Cell, PairCell, StrCell, VectorCell, BigCell, BlockCell, More, cell_at, changed_at, block_with, is_block, is_id_cell, is_str, is_str_cell, is_live, words_in, words_of, bytes_of, bytes_in}
-use Rattle.rl_cells.proofs.Kept.{SameKind, is_live-set}
+use Rattle.rl_cells.specs.Laws.{IsChanged, SameKind}
 use Rattle.rl_tree.specs.declared.held.Kind.{Kind}
 use Rattle.rl_syms.specs.Table.{IsTable, IsNamed, is_id, held_in, word_in, nil_value, symbol_at, symbol_of, kind_in, var_kind_in, of_kind}
 use Rattle.rl_syms.proofs.Chained.{AtId, within}
@@ -123,8 +123,8 @@ pub set_keeps : (old new : List Cell) (head : Option Tagged) (k i w : ℕ) → I
 set_keeps old new head k i w t h s some within_ bytes id n = named_stays old new head bytes id (set_carries old new head k i w h s some within_) t.chained n
 
 -- a word of a block that is an identifier is set
-pub set_at : (old new : List Cell) (head : Option Tagged) (v : Tagged) (i w : ℕ) → IsTable old head → is_id old v ≡ true → new ≡ changed_at old v (block_with (cell_at old (index_of v)) i w) → SetAt old new head (index_of v) i w
-set_at old new head v i w t h changed =
+pub set_at : IsChanged → (old new : List Cell) (head : Option Tagged) (v : Tagged) (i w : ℕ) → IsTable old head → is_id old v ≡ true → new ≡ changed_at old v (block_with (cell_at old (index_of v)) i w) → SetAt old new head (index_of v) i w
+set_at law old new head v i w t h changed =
     let a = is_at_id old v h in
     let k = index_of v in
     let ws = words_in (cell_at old k) in
@@ -132,13 +132,13 @@ set_at old new head v i w t h changed =
     let inside = within old k a.cell in
     let c : Cell = BlockCell tag.Id (set ws i w) in
     let is : new ≡ set old k c = changed ∙ ap (λ u. changed_at old u (block_with (cell_at old k) i w)) a.is ∙ ap (λ b. set old k (block_with b i w)) block in
-    let here : cell_at new k ≡ c = ap (λ cs. cell_at cs k) is ∙ get_or-set_same old k c More inside in
+    let here : cell_at new k ≡ c = ap (λ cs. cell_at cs k) is ∙ law.here old k c inside in
     let kind : SameKind c (cell_at old k) = rw block (like ws (set ws i w) (length-set ws i w)) in
     record {
       id = ap is_id_cell here;
       words = ap words_in here;
-      others = λ j n. ap (λ cs. cell_at cs j) is ∙ get_or-set_other old k j c More n;
-      live = λ u p. ap (λ cs. is_live cs u) is ∙ is_live-set old k c u inside kind ∙ p;
+      others = λ j n. ap (λ cs. cell_at cs j) is ∙ law.others old k j c n;
+      live = λ u p. ap (λ cs. is_live cs u) is ∙ law.live old k c u inside kind ∙ p;
     }
 
 list_six : (ws : List ℕ) → length ws ≡ 6 → ws ≡ get_or ws 0 0 ∷ get_or ws 1 0 ∷ get_or ws 2 0 ∷ get_or ws 3 0 ∷ get_or ws 4 0 ∷ get_or ws 5 0 ∷ []

@@ -177,6 +177,7 @@ impl Syms {
         ensures table { IsTable c.new.cells self.now.head }
         ensures ids { (v : Tagged) → is_id c.old.cells v ≡ true → is_id c.new.cells v ≡ true }
     {
+        rl_cells::laws::objects_are_changed();
         c.set_word(id, i, word);
     }
 }

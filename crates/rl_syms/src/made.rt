@@ -41,6 +41,7 @@ fn block(c: &mut Cells, text: Val, plist: Val, next: Option<Val>) -> Result<Val,
     ensures ok { IfOk result (λ _. c.new ≡ grown c.old (BlockCell tag.Id (new_words text plist next))) }
     ensures err { OnErr result (c.new ≡ c.old) }
 {
+    rl_cells::laws::objects_are_added();
     let id = c.block(Tag::Id, 6)?;
     c.set_word(id, 0, text.word());
     c.set_word(id, 1, NOTHING);
@@ -69,6 +70,7 @@ pub(crate) fn identifier(
     if !c.fits(cost) {
         return Err(Full);
     }
+    rl_cells::laws::objects_are_added();
     let text = c.string(name)?;
     block(c, text, plist, next)
 }

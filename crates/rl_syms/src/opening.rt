@@ -62,6 +62,7 @@ impl Syms {
         ensures made { self.new.made ≡ self.old.made }
         ensures opened { OnOk result (IsOpened c.new.cells self.new.head) }
     {
+        rl_cells::laws::objects_are_added();
         let Ok(id) = self.intern(c, opening_name(number)) else {
             return Err(OutOfMemory);
         };
@@ -83,6 +84,7 @@ impl Syms {
         ensures made { self.new.made ≡ self.old.made }
         ensures opened { OnOk result (IsOpened c.new.cells self.new.head) }
     {
+        rl_cells::laws::objects_are_added();
         let Ok(id) = self.intern(c, &[byte]) else {
             return Err(OutOfMemory);
         };
@@ -117,6 +119,7 @@ fn first(c: &mut Cells) -> Result<Syms, OutOfMemory>
     ensures opening { OnOk result (IsOpening c.new c.old.bound) }
     ensures opened { IfOk result (λ s. IsOpened c.new.cells s.head) }
 {
+    rl_cells::laws::objects_are_added();
     let Ok(id) = identifier(c, opening_name(0), Val::small(0), None) else {
         return Err(OutOfMemory);
     };

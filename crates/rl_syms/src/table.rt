@@ -116,6 +116,7 @@ impl Syms {
         ensures opening { (bound : ℕ) → IsOpening c.old bound → IsOpening c.new bound }
         ensures adds { Adds c.old.cells c.new.cells }
     {
+        rl_cells::laws::objects_are_added();
         let id = identifier(c, name, nil(), self.head)?;
         self.head = Some(id);
         Ok(id)
@@ -138,6 +139,7 @@ impl Syms {
         ensures keeps { (bytes : List ℕ) (id : Tagged) → IsNamed c.old.cells self.old.head bytes id → IsNamed c.new.cells self.new.head bytes id }
         ensures adds { Adds c.old.cells c.new.cells }
     {
+        rl_cells::laws::objects_are_added();
         let id = identifier(c, name, nil(), None)?;
         Ok(id)
     }

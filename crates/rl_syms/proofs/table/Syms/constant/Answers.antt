@@ -12,6 +12,6 @@ intern-requires-clause-short c = name_short c.args.number c.opening_name.result.
 pub returns-then-eq-clause-opened : goal.returns-then-eq-clause-opened
 returns-then-eq-clause-opened c =
     let name = c.opening_name.result.now in
-    opened_step c.args.c.now c.intern.new.c c.args.self.now.head c.intern.new.self.head name c.in-Ok.id
+    opened_step c.objects_are_added.ensures c.args.c.now c.intern.new.c c.args.self.now.head c.intern.new.self.head name c.in-Ok.id
     (name_some c.args.number name c.requires.number c.opening_name.ensures) (name_short c.args.number name c.requires.number c.opening_name.ensures)
     c.requires.table (inl (c.args.number, c.requires.number, c.opening_name.ensures)) c.in-Ok.ensures.ok c.requires.opened
