@@ -9,3 +9,4 @@ pub mod BlocksKept
 pub mod Blank
 pub mod Rows
 pub mod Meant
+pub mod Changed

@@ -1,9 +1,9 @@
 -- The meaning of cells, tried on examples: each side computes to the other.
-use Rattle.std.proofs.Common.{◌≡◌, ◌++◌, [], ◌∷◌, pos, refl}
+use Rattle.std.proofs.Common.{◌≡◌, List, ◌++◌, [], ◌∷◌, pos, set, refl}
 use Rattle.std.specs.Prelude.{codes}
 use Rattle.rl_tags.specs.Tagged.{Number, IdAt, StrAt, PairAt, VectorAt}
-use Rattle.rl_cells.specs.Cell.{PairCell, StrCell, VectorCell, placed}
-use Rattle.rl_tree.specs.Value.{Int, Id, Str, Ref, Pair, Vector, cons_store, cons_value}
+use Rattle.rl_cells.specs.Cell.{Cell, PairCell, StrCell, VectorCell, placed, changed_at, cdr_of, vector_of}
+use Rattle.rl_tree.specs.Value.{Int, Id, Str, Ref, Pair, Vector, new_value, cons_store, cons_value, vector_store, changed_store}
 use Rattle.rl_syms.specs.Contents.{value_of, store_of}
 
 -- (1 . "ab") is made after its string, and is the first object
@@ -25,3 +25,38 @@ pair_made = refl
 -- and the value that names it is that of CONS
 pub pair_named : value_of (placed (PairCell (Number (pos 1)) (Number (pos 2))) ++ placed (PairCell (PairAt 0) (Number (pos 3)))) (PairAt 1) ≡ cons_value (store_of (placed (PairCell (Number (pos 1)) (Number (pos 2)))))
 pair_named = refl
+
+-- a new vector is the next object, and the value that names it says so
+pub vector_made : store_of (placed (PairCell (Number (pos 1)) (Number (pos 2))) ++ placed (VectorCell (PairAt 0 ∷ Number (pos 3) ∷ []))) ≡ vector_store (store_of (placed (PairCell (Number (pos 1)) (Number (pos 2))))) (Ref 0 ∷ Int (pos 3) ∷ [])
+vector_made = refl
+
+pub vector_named : value_of (placed (PairCell (Number (pos 1)) (Number (pos 2))) ++ placed (VectorCell (PairAt 0 ∷ Number (pos 3) ∷ []))) (VectorAt 1) ≡ new_value (store_of (placed (PairCell (Number (pos 1)) (Number (pos 2)))))
+vector_named = refl
+
+-- a string, the pair (1 . "ab"), and two pairs that both name it
+abbrev pub shared : List Cell
+shared = placed (StrCell (codes "ab")) ++ placed (PairCell (Number (pos 1)) (StrAt 0)) ++ placed (PairCell (PairAt 2) (Number (pos 3))) ++ placed (PairCell (Number (pos 4)) (PairAt 2))
+
+abbrev pub shared_changed : List Cell
+shared_changed = changed_at shared (PairAt 2) (PairCell (Number (pos 9)) (cdr_of shared (PairAt 2)))
+
+-- RPLACA changes the first object alone, and both still name it
+pub car_changed : store_of shared_changed ≡ Pair (Int (pos 9)) (Str (codes "ab")) ∷ Pair (Ref 0) (Int (pos 3)) ∷ Pair (Int (pos 4)) (Ref 0) ∷ []
+car_changed = refl
+
+pub car_is_rplaca : store_of shared_changed ≡ changed_store (store_of shared) 0 (Pair (Int (pos 9)) (Str (codes "ab")))
+car_is_rplaca = refl
+
+-- the pair (1 . 2), and a vector of it and NIL
+abbrev pub held : List Cell
+held = placed (PairCell (Number (pos 1)) (Number (pos 2))) ++ placed (VectorCell (PairAt 0 ∷ IdAt 2 ∷ []))
+
+abbrev pub held_changed : List Cell
+held_changed = changed_at held (VectorAt 1) (VectorCell (set (vector_of held (VectorAt 1)) 1 (PairAt 0)))
+
+-- PUTV changes one place of the second object
+pub place_changed : store_of held_changed ≡ Pair (Int (pos 1)) (Int (pos 2)) ∷ Vector (Ref 0 ∷ Ref 0 ∷ []) ∷ []
+place_changed = refl
+
+pub place_is_putv : store_of held_changed ≡ changed_store (store_of held) 1 (Vector (Ref 0 ∷ Ref 0 ∷ []))
+place_is_putv = refl

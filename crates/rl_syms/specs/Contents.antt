@@ -1,5 +1,5 @@
 -- What a list of cells means: its values, and the objects in the order of their making. Strings and integers are what they hold, pairs and vectors have the number of their making, and identifiers and held functions that of their place.
-use Rattle.std.specs.Prelude.{ℕ, ◌+◌, List, [], ◌∷◌, length, map, take}
+use Rattle.std.specs.Prelude.{ℕ, ◌+◌, List, [], ◌∷◌, map, take}
 use Rattle.std.specs.List.{flat_map}
 use Rattle.rl_tags.specs.Tagged.{Tagged, Number, IdAt, StrAt, PairAt, VectorAt, BigAt, FunAt}
 use Rattle.rl_cells.specs.Cell.{Cell, PairCell, VectorCell, cell_at, bytes_in, big_in}

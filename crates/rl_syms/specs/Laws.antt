@@ -1,9 +1,10 @@
--- What the crates above may say of the table.
-use Rattle.std.specs.Prelude.{◌≡◌, ℕ, true, List, ◌++◌, length, Option}
-use Rattle.rl_tags.specs.Tagged.{Tagged, PairAt}
-use Rattle.rl_cells.specs.Cell.{Cell, PairCell, IsClosed, is_live, placed}
-use Rattle.rl_tree.specs.Value.{cons_store, cons_value}
-use Rattle.rl_syms.specs.Contents.{value_of, store_of}
+-- What the crates above may say of the table, and of what cells mean.
+use Rattle.std.specs.Prelude.{◌≡◌, ℕ, ℤ, ◌<◌, true, List, ◌++◌, length, map, slice_set, Option}
+use Rattle.std.specs.List.{list_all}
+use Rattle.rl_tags.specs.Tagged.{Tagged, StrAt, PairAt, VectorAt, BigAt, index_of}
+use Rattle.rl_cells.specs.Cell.{Cell, PairCell, StrCell, VectorCell, BigCell, IsClosed, is_live, is_pair, is_vector, car_of, cdr_of, vector_of, cell_at, block_with, changed_at, placed}
+use Rattle.rl_tree.specs.Value.{Int, Str, Object, Pair, Vector, new_value, cons_store, cons_value, vector_store, changed_store}
+use Rattle.rl_syms.specs.Contents.{object_count, number_at, value_of, store_of}
 use Rattle.rl_syms.specs.Table.{IsTable, IsNamed, is_id, symbol_at}
 use Rattle.rl_syms.specs.Frame.{KeepsBlocks}
 
@@ -18,8 +19,34 @@ pub record IsKept : Type 0 where
 abbrev pub IsDistinct : Type 0
 IsDistinct = (cells : List Cell) (head : Option Tagged) (bytes : List ℕ) (one other : Tagged) → IsTable cells head → IsNamed cells head bytes one → IsNamed cells head bytes other → one ≡ other
 
--- a new pair is what CONS makes: the next object, by a value that names it; what lives means what it meant
-pub record IsConsMade : Type 0 where
+-- when an object is made, what lives means what it meant; a new pair or vector is the next object of the store, by a value that names it; a new string or wide integer means what it holds; and where neither a pair nor a vector is made, the store stays
+pub record IsMade : Type 0 where
   pub values : (cells : List Cell) (c : Cell) (v : Tagged) → is_live cells v ≡ true → value_of (cells ++ placed c) v ≡ value_of cells v
-  pub store : (cells : List Cell) (a d : Tagged) → IsClosed cells → is_live cells a ≡ true → is_live cells d ≡ true → store_of (cells ++ placed (PairCell a d)) ≡ cons_store (store_of cells) (value_of cells a) (value_of cells d)
-  pub named : (cells : List Cell) (a d : Tagged) → value_of (cells ++ placed (PairCell a d)) (PairAt (length cells)) ≡ cons_value (store_of cells)
+  pub pair : (cells : List Cell) (a d : Tagged) → IsClosed cells → is_live cells a ≡ true → is_live cells d ≡ true → store_of (cells ++ placed (PairCell a d)) ≡ cons_store (store_of cells) (value_of cells a) (value_of cells d)
+  pub pair_named : (cells : List Cell) (a d : Tagged) → value_of (cells ++ placed (PairCell a d)) (PairAt (length cells)) ≡ cons_value (store_of cells)
+  pub vector : (cells : List Cell) (xs : List Tagged) → IsClosed cells → list_all (is_live cells) xs ≡ true → store_of (cells ++ placed (VectorCell xs)) ≡ vector_store (store_of cells) (map (value_of cells) xs)
+  pub vector_named : (cells : List Cell) (xs : List Tagged) → value_of (cells ++ placed (VectorCell xs)) (VectorAt (length cells)) ≡ new_value (store_of cells)
+  pub string_named : (cells : List Cell) (bytes : List ℕ) → value_of (cells ++ placed (StrCell bytes)) (StrAt (length cells)) ≡ Str bytes
+  pub big_named : (cells : List Cell) (z : ℤ) → value_of (cells ++ placed (BigCell z)) (BigAt (length cells)) ≡ Int z
+  pub others : (cells : List Cell) (c : Cell) → IsClosed cells → object_count c ≡ 0 → store_of (cells ++ placed c) ≡ store_of cells
+
+-- every value means what it meant, and the objects are as they were
+pub record MeansSame (old new : List Cell) : Type 0 where
+  pub store : store_of new ≡ store_of old
+  pub values : (v : Tagged) → value_of new v ≡ value_of old v
+
+-- the object that was made r-th has become this one; all others, and what every value means, are as they were
+pub record ChangesObject (old new : List Cell) (r : ℕ) (object : Object) : Type 0 where
+  pub stood : r < length (store_of old)
+  pub store : store_of new ≡ changed_store (store_of old) r object
+  pub values : (v : Tagged) → value_of new v ≡ value_of old v
+
+-- a new car or cdr changes the pair that is named, and a new value at a place the vector; a new word of a block changes no object
+pub record IsChanged : Type 0 where
+  pub car : (cells : List Cell) (p v : Tagged) → is_pair cells p ≡ true
+      → ChangesObject cells (changed_at cells p (PairCell v (cdr_of cells p))) (number_at cells (index_of p)) (Pair (value_of cells v) (value_of cells (cdr_of cells p)))
+  pub cdr : (cells : List Cell) (p v : Tagged) → is_pair cells p ≡ true
+      → ChangesObject cells (changed_at cells p (PairCell (car_of cells p) v)) (number_at cells (index_of p)) (Pair (value_of cells (car_of cells p)) (value_of cells v))
+  pub place : (cells : List Cell) (v x : Tagged) (i : ℕ) → is_vector cells v ≡ true
+      → ChangesObject cells (changed_at cells v (VectorCell (slice_set (vector_of cells v) i x))) (number_at cells (index_of v)) (Vector (slice_set (map (value_of cells) (vector_of cells v)) i (value_of cells x)))
+  pub word : (cells : List Cell) (b : Tagged) (i w : ℕ) → MeansSame cells (changed_at cells b (block_with (cell_at cells (index_of b)) i w))
