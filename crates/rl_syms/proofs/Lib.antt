@@ -7,6 +7,7 @@ pub mod Field
 pub mod Names
 pub mod BlocksKept
 pub mod Blank
+pub mod First
 pub mod Rows
 pub mod Meant
 pub mod Changed

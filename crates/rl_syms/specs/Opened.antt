@@ -1,7 +1,7 @@
 -- What opening makes.
-use Rattle.std.specs.Prelude.{◌≡◌, ℕ, ◌<◌, ◌⊎◌, Bool, true, false, List, [], ◌∷◌, Option, None}
-use Rattle.rl_tags.specs.Tagged.{Tagged}
-use Rattle.rl_tags.specs.Opening.{name_at}
+use Rattle.std.specs.Prelude.{◌≡◌, ℕ, ◌*◌, ◌<◌, ◌⊎◌, Bool, true, false, List, [], ◌∷◌, length, Option, None}
+use Rattle.rl_tags.specs.Tagged.{Tagged, IdAt}
+use Rattle.rl_tags.specs.Opening.{name_at, place_of}
 use Rattle.rl_tags.specs.declared.names.TheConstants.{OPENING_NAMES}
 use Rattle.rl_tree.specs.declared.held.VarKind.TheVariants.{Plain}
 use Rattle.rl_tags.specs.declared.Tag.TheVariants as tag
@@ -31,3 +31,9 @@ pub record IsOpened (cells : List Cell) (head : Option Tagged) : Type 0 where
   pub blank : (k : ℕ) → is_id_cell (cell_at cells k) ≡ true → IsBlank (symbol_at cells k)
   pub known : (bytes : List ℕ) (id : Tagged) → IsNamed cells head bytes id → IsOpeningName bytes
   pub objects : (k : ℕ) → is_name_cell (cell_at cells k) ≡ true
+
+-- the first n names that have a constant are interned, each at its place, and no others; each takes five cells
+pub record HasFirst (n : ℕ) (cells : List Cell) (head : Option Tagged) : Type 0 where
+  pub named : (i : ℕ) → i < n → IsNamed cells head (name_at i) (IdAt (place_of i))
+  pub only : (bytes : List ℕ) (id : Tagged) → IsNamed cells head bytes id → (i : ℕ) × (i < n) × (bytes ≡ name_at i)
+  pub long : length cells ≡ 5 * n

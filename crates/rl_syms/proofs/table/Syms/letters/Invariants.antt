@@ -1,5 +1,6 @@
-use Rattle.std.proofs.Common.{◌≡◌, ℕ, ◌<◌, List, [], ◌∷◌}
+use Rattle.std.proofs.Common.{◌≡◌, ℕ, ◌+◌, ◌*◌, ◌<◌, ◌≤◌, List, [], ◌∷◌, length}
 use Rattle.rl_tags.specs.Tagged.{Tagged}
+use Rattle.rl_tags.specs.declared.names.TheConstants.{OPENING_NAMES}
 use Rattle.rl_syms.specs.Table.{IsTable, IsNamed}
 use Rattle.rl_syms.specs.Made.{IsOpening}
 use Rattle.rl_syms.specs.Opened.{IsOpened}
@@ -11,6 +12,7 @@ invariant-loop-byte l = record {
   bytes : (b : ℕ) → b < l.byte → (id : Tagged) × IsNamed l.c.cells l.self.head (b ∷ []) id;
   keeps : (bytes : List ℕ) (id : Tagged) → IsNamed l.fn.c.cells l.fn.self.head bytes id → IsNamed l.c.cells l.self.head bytes id;
   opening : IsOpening l.c l.fn.c.bound;
+  long : length l.c.cells ≤ 5 * (OPENING_NAMES + l.byte);
   opened : IsOpened l.c.cells l.self.head;
   made : l.self.made ≡ l.fn.self.made;
 }
