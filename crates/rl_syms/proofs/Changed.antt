@@ -32,7 +32,7 @@ block_alike (BlockCell t words) i w = record { count = refl; bytes = refl; big =
 block_alike c i w = record { count = refl; bytes = refl; big = refl }
 
 -- what a cell has that does not tell the two apart stays
-part_stays : {X : Type 0} (part : Cell → X) (cells : List Cell) (k : ℕ) (c : Cell) (j : ℕ) → part c ≡ part (cell_at cells k) → part (cell_at (set cells k c) j) ≡ part (cell_at cells j)
+pub part_stays : {X : Type 0} (part : Cell → X) (cells : List Cell) (k : ℕ) (c : Cell) (j : ℕ) → part c ≡ part (cell_at cells k) → part (cell_at (set cells k c) j) ≡ part (cell_at cells j)
 part_stays part [] k c j h = refl
 part_stays part (x ∷ cells) zero c zero h = h
 part_stays part (x ∷ cells) zero c (suc j) h = refl

@@ -11,3 +11,4 @@ pub mod First
 pub mod Rows
 pub mod Meant
 pub mod Changed
+pub mod Left

@@ -1,12 +1,12 @@
 -- What the crates above may say of the table, and of what cells mean.
-use Rattle.std.specs.Prelude.{◌≡◌, ℕ, ℤ, ◌<◌, true, List, ◌++◌, length, map, slice_set, Option}
+use Rattle.std.specs.Prelude.{◌≡◌, ℕ, ℤ, ◌<◌, true, List, ◌++◌, length, map, slice_set, Option, None}
 use Rattle.std.specs.List.{list_all}
 use Rattle.rl_tags.specs.Tagged.{Tagged, StrAt, PairAt, VectorAt, BigAt, index_of}
-use Rattle.rl_cells.specs.Cell.{Cell, PairCell, StrCell, VectorCell, BigCell, IsClosed, is_live, is_pair, is_vector, car_of, cdr_of, vector_of, cell_at, block_with, changed_at, placed}
+use Rattle.rl_cells.specs.Cell.{Cell, PairCell, StrCell, VectorCell, BigCell, IsClosed, is_live, is_id_cell, is_pair, is_vector, car_of, cdr_of, vector_of, cell_at, block_with, changed_at, placed}
 use Rattle.rl_tree.specs.Value.{Int, Str, Object, Pair, Vector, new_value, cons_store, cons_value, vector_store, changed_store}
 use Rattle.rl_syms.specs.Contents.{object_count, number_at, value_of, store_of}
-use Rattle.rl_syms.specs.Table.{IsTable, IsNamed, is_id, symbol_at}
-use Rattle.rl_syms.specs.Frame.{KeepsBlocks}
+use Rattle.rl_syms.specs.Table.{IsTable, IsNamed, is_id, name_at, symbol_at}
+use Rattle.rl_syms.specs.Frame.{KeepsBlocks, block_in}
 
 -- what makes or changes other objects keeps the table, its names, and what its identifiers have
 pub record IsKept : Type 0 where
@@ -14,6 +14,20 @@ pub record IsKept : Type 0 where
   pub names : (old new : List Cell) (head : Option Tagged) (bytes : List ℕ) (id : Tagged) → KeepsBlocks old new → IsTable old head → IsNamed old head bytes id → IsNamed new head bytes id
   pub ids : (old new : List Cell) (v : Tagged) → KeepsBlocks old new → is_id new v ≡ is_id old v
   pub symbols : (old new : List Cell) (k : ℕ) → KeepsBlocks old new → symbol_at new k ≡ symbol_at old k
+
+-- pairs, vectors, strings and wide integers leave identifiers and held functions as they were, where they are made and where they are changed
+pub record LeaveBlocks : Type 0 where
+  pub made : (cells : List Cell) (c : Cell) → block_in c ≡ None → KeepsBlocks cells (cells ++ placed c)
+  pub pair : (cells : List Cell) (p a d : Tagged) → is_pair cells p ≡ true → KeepsBlocks cells (changed_at cells p (PairCell a d))
+  pub vector : (cells : List Cell) (v : Tagged) (xs : List Tagged) → is_vector cells v ≡ true → length xs ≡ length (vector_of cells v) → KeepsBlocks cells (changed_at cells v (VectorCell xs))
+
+-- identifiers keep their names as objects are added
+abbrev pub KeepNames : Type 0
+KeepNames = (cells more : List Cell) (head : Option Tagged) (k : ℕ) → IsTable cells head → is_id_cell (cell_at cells k) ≡ true → name_at (cells ++ more) k ≡ name_at cells k
+
+-- what has a name is an identifier
+abbrev pub AreIdentifiers : Type 0
+AreIdentifiers = (cells : List Cell) (head : Option Tagged) (bytes : List ℕ) (id : Tagged) → IsTable cells head → IsNamed cells head bytes id → is_id cells id ≡ true
 
 -- a name is that of one interned identifier
 abbrev pub IsDistinct : Type 0

@@ -1,10 +1,31 @@
 //! Laws of the table, and of what cells mean. A law is the contract of a function that does nothing.
-ghost use Rattle.rl_syms.specs.Laws.{IsChanged, IsDistinct, IsKept, IsMade};
+ghost use Rattle.rl_syms.specs.Laws.{AreIdentifiers, IsChanged, IsDistinct, IsKept, IsMade, KeepNames, LeaveBlocks};
+
+use rl_cells::laws::{objects_are_added, objects_are_changed};
 
 /// What makes or changes pairs, strings, vectors and wide integers alone keeps the table, its names, and what its
 /// identifiers have.
 pub fn table_is_kept()
     ensures { IsKept }
+{}
+
+/// Pairs, vectors, strings and wide integers leave the blocks as they were, where they are made and where they are
+/// changed; so the law above speaks of each of these calls of the cells.
+pub fn others_leave_blocks()
+    ensures { LeaveBlocks }
+{
+    objects_are_added();
+    objects_are_changed();
+}
+
+/// Identifiers keep their names as objects are added.
+pub fn names_stay()
+    ensures { KeepNames }
+{}
+
+/// What has a name is an identifier.
+pub fn names_are_identifiers()
+    ensures { AreIdentifiers }
 {}
 
 /// Equal names are one interned identifier.
@@ -14,12 +35,12 @@ pub fn names_are_distinct()
 
 /// A new pair or vector of cells is what CONS or MKVECT makes of the store that they mean, a new string, wide
 /// integer or block leaves it, and what lives means what it meant.
-pub fn objects_are_made()
+pub fn meaning_of_making()
     ensures { IsMade }
 {}
 
 /// A change of a pair or a vector is RPLACA, RPLACD or PUTV on the store that cells mean, a change of a block leaves it,
 /// and every value means what it meant.
-pub fn objects_are_changed()
+pub fn meaning_of_change()
     ensures { IsChanged }
 {}

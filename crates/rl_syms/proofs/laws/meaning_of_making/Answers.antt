@@ -2,7 +2,7 @@ use Rattle.std.proofs.Common.{ap}
 use Rattle.rl_cells.specs.Cell.{PairCell, StrCell, VectorCell, BigCell, bytes_in, big_in, placed}
 use Rattle.rl_tree.specs.Value.{Int, Str, Ref}
 use Rattle.rl_syms.proofs.Meant.{value_stays, object_meant, pair_meant, none_meant, next_number, new_cell}
-use Rattle.rl_syms.proofs.laws.objects_are_made.Goals as goal
+use Rattle.rl_syms.proofs.laws.meaning_of_making.Goals as goal
 
 pub returns : goal.returns
 returns c = record {

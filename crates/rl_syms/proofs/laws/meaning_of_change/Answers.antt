@@ -1,5 +1,5 @@
 use Rattle.rl_syms.proofs.Changed.{car_changes, cdr_changes, place_changes, word_keeps}
-use Rattle.rl_syms.proofs.laws.objects_are_changed.Goals as goal
+use Rattle.rl_syms.proofs.laws.meaning_of_change.Goals as goal
 
 pub returns : goal.returns
 returns c = record {
