@@ -1,4 +1,3 @@
-pub mod Texts
 pub mod Tokens
 pub mod World
 pub mod Looks
