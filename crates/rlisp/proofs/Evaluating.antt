@@ -1,6 +1,9 @@
 -- What a turn of the evaluator leaves to be done.
-use Rattle.std.proofs.Common.{◌≡◌, Bool, true, false, cond, ◌&&◌, List, [], ◌∷◌, map, Option, None, refl, ap, ◌∙◌, arith}
+use Rattle.std.proofs.Common.{◌≡◌, ℕ, Bool, true, false, cond, ◌&&◌, List, [], ◌∷◌, map, Option, None, refl, ap, ◌∙◌, arith}
 use Rattle.std.specs.List.{All}
+use Rattle.std.specs.Str.{bytes_eq}
+use Rattle.std.proofs.lemmas.Slice.Eq.{slice_eq-Decides}
+use Rattle.std.proofs.lemmas.Bool.Decides.{Decides-eqb}
 use Rattle.std.proofs.lemmas.List.Elements.{All-cons, All-head, All-tail, All-weaker}
 use Rattle.rl_tags.specs.Tagged.{Tagged}
 use Rattle.rl_tree.specs.Tree.{Tree, Int, Id, Pair, nil, nil_name, quoted}
@@ -10,7 +13,6 @@ use Rattle.rl_tree.specs.Shown.{shown, with_line}
 use Rattle.rlisp.specs.World.{Memory, is_known, tree_in, Keeps, Stands}
 use Rattle.rlisp.specs.Forms.{is_nil, IsConstant, print_call, cons_call}
 use Rattle.rlisp.specs.Tasks.{Step, Evaluate, Cons, page_finished, Stacks, Situation, step_in, knows_task, AreKnown, pairs_of, weight, IsFurther, with_task, with_value}
-use Rattle.rlisp.proofs.Named.{same_bytes}
 use Rattle.rlisp.specs.declared.evaluator.Task.{Task}
 use Rattle.rlisp.specs.declared.evaluator.Task.TheVariants as task
 
@@ -18,6 +20,10 @@ abbrev at : Memory → Stacks → Page → Situation
 at m k page = record { memory = m; stacks = k; page = page }
 
 -- ---- on trees
+
+-- bytes that are the same
+same_bytes : (xs ys : List ℕ) → bytes_eq xs ys ≡ true → xs ≡ ys
+same_bytes xs ys h = (slice_eq-Decides Decides-eqb xs ys (bytes_eq xs ys) refl).0 h
 
 nil_is : (t : Tree) → is_nil t ≡ true → t ≡ nil
 nil_is (Int z) h = cc

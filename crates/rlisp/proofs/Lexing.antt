@@ -1,13 +1,13 @@
 -- How a text is cut into tokens, one after another.
-use Rattle.std.proofs.Common.{◌≡◌, ℕ, zero, suc, ◌+◌, ◌-◌, ◌*◌, ◌^◌, ◌<◌, ◌≤◌, pos, negsuc, ◌≤ℤ◌, Bool, true, false, cond, List, [], ◌∷◌, ◌++◌, length, get_or, drop, Option, Some, None, option_map, All, refl, sym, ap, ◌∙◌, subst, append_assoc, arith}
+use Rattle.std.proofs.Common.{◌≡◌, ℕ, zero, suc, ◌+◌, ◌-◌, ◌*◌, ◌^◌, ◌<◌, ◌≤◌, pos, negsuc, ◌≤ℤ◌, Bool, true, false, cond, List, [], ◌∷◌, ◌++◌, length, map, get_or, drop, Option, Some, None, option_map, All, refl, sym, ap, ◌∙◌, subst, append_assoc, arith}
 use Rattle.std.specs.Prelude.{nat_le, ◌==◌}
 use Rattle.std.specs.List.{prefix_len}
 use Rattle.std.proofs.lemmas.Bool.{cond-true, cond_both, or_left, leb-true, ltb-true}
 use Rattle.std.proofs.lemmas.Int.{ints}
-use Rattle.std.proofs.lemmas.List.{append-nil, at_drop_more, length-drop, length-take-le, map-append}
+use Rattle.std.proofs.lemmas.List.{append-nil, at_drop_more, length-drop, length-map, length-take-le, map-append}
 use Rattle.std.proofs.lemmas.List.Elements.{All-push}
 use Rattle.std.proofs.lemmas.List.Sums.{prefix_len-le-length}
-use Rattle.rl_tree.specs.Bytes.{is_blank, is_letter, is_digit, is_name_byte}
+use Rattle.rl_tree.specs.Bytes.{is_blank, is_letter, is_digit, is_name_byte, raised}
 use Rattle.rl_tree.specs.Token.{Token, Open, Close, Dot, Quote, Number, Symbol, number_after, number_of, negated}
 use Rattle.rl_tree.specs.Reading.{Lexed, Ended, Found, Bad, front_of, after_front, without_blanks, symbol_at, plain_number_at, signed_number_at, token_from, token_at, tokens_with, tokens_within, tokens_in}
 use Rattle.rlisp.specs.declared.token.Token.{Token as Read}
@@ -41,14 +41,14 @@ number_of-above n digits i m within is =
     let next : number_after n (drop i digits) ≡ number_after (10 * n + (get_or digits i 0 - 48)) (drop (i + 1) digits) = at_drop_more (number_after n) digits i 0 within in
     omega (arith, number_after-le (10 * n + (get_or digits i 0 - 48)) (drop (i + 1) digits))
 
--- the number of a token fits
+-- the number of a token fits, and its name has 1 to 255 bytes
 abbrev IsSmallToken : Token → Type 0
 IsSmallToken (Number z) = (negsuc 576460752303423487 ≤ℤ z) × (z ≤ℤ pos 576460752303423487)
 IsSmallToken Open = Unit {0}
 IsSmallToken Close = Unit {0}
 IsSmallToken Dot = Unit {0}
 IsSmallToken Quote = Unit {0}
-IsSmallToken (Symbol name) = Unit {0}
+IsSmallToken (Symbol name) = (1 ≤ length name) × (length name ≤ 255)
 
 -- what follows a token has fewer bytes than n, and the token's number fits
 abbrev IsFoundBelow : ℕ → Lexed → Type 0
@@ -56,8 +56,9 @@ IsFoundBelow n Ended = Unit {0}
 IsFoundBelow n (Found token rest) = (length rest < n) × IsSmallToken token
 IsFoundBelow n Bad = Unit {0}
 
-symbol_below : (n : ℕ) (text rest : List ℕ) → length rest < n → IsFoundBelow n (symbol_at text rest)
-symbol_below n text rest less = cond_both (nat_le (length text) 255) _ _ (IsFoundBelow n) (λ e. (less, tt)) (λ e. tt)
+symbol_below : (n : ℕ) (text rest : List ℕ) → 1 ≤ length text → length rest < n → IsFoundBelow n (symbol_at text rest)
+symbol_below n text rest some less = cond_both (nat_le (length text) 255) _ _ (IsFoundBelow n)
+    (λ e. let long : length (map raised text) ≡ length text = length-map text raised in (less, (omega arith, omega (arith, leb-true _ _ e)))) (λ e. tt)
 
 plain_below : (n : ℕ) (digits rest : List ℕ) → length rest < n → IsFoundBelow n (plain_number_at digits rest)
 plain_below n digits rest less = cond_both _ _ _ (IsFoundBelow n) (λ e. let fits : number_of digits < 2 ^ 59 = ltb-true _ _ e in (less, (omega (arith, ints), omega (arith, ints)))) (λ e. tt)
@@ -77,16 +78,19 @@ length-after_front : (test : ℕ → Bool) (bytes : List ℕ) → length (after_
 length-after_front test bytes = omega (arith, length-drop (length (front_of test bytes)) bytes)
 
 -- a byte that passes is part of the front
+length-front_passed : (test : ℕ → Bool) (b : ℕ) (bs : List ℕ) → test b ≡ true → length (front_of test (b ∷ bs)) ≡ 1 + prefix_len test bs
+length-front_passed test b bs e = length-front_of test (b ∷ bs) ∙ cond-true (test b) (1 + prefix_len test bs) 0 e
+
 length-after_passed : (test : ℕ → Bool) (b : ℕ) (bs : List ℕ) → test b ≡ true → length (after_front test (b ∷ bs)) < suc (length bs)
 length-after_passed test b bs e =
-    let some : length (front_of test (b ∷ bs)) ≡ 1 + prefix_len test bs = length-front_of test (b ∷ bs) ∙ cond-true (test b) (1 + prefix_len test bs) 0 e in
+    let some = length-front_passed test b bs e in
     omega (arith, length-drop (length (front_of test (b ∷ bs))) (b ∷ bs))
 
 front_below : (b : ℕ) (bs : List ℕ) → IsFoundBelow (suc (length bs)) (token_from b bs)
 front_below b bs =
     let P : Lexed → Type 0 = IsFoundBelow (suc (length bs)) in
     let less : length bs < suc (length bs) = omega arith in
-    cond_both (is_letter b) _ _ P (λ e. symbol_below (suc (length bs)) (front_of is_name_byte (b ∷ bs)) (after_front is_name_byte (b ∷ bs)) (length-after_passed is_name_byte b bs (or_left _ _ (or_left _ _ e)))) (λ _.
+    cond_both (is_letter b) _ _ P (λ e. let passes = or_left _ _ (or_left _ _ e) in symbol_below (suc (length bs)) (front_of is_name_byte (b ∷ bs)) (after_front is_name_byte (b ∷ bs)) (omega (arith, length-front_passed is_name_byte b bs passes)) (length-after_passed is_name_byte b bs passes)) (λ _.
     cond_both (is_digit b) _ _ P (λ e. plain_below (suc (length bs)) (front_of is_digit (b ∷ bs)) (after_front is_digit (b ∷ bs)) (length-after_passed is_digit b bs e)) (λ _.
     cond_both (b == 45) _ _ P (λ e. signed_below (suc (length bs)) (front_of is_digit bs) (after_front is_digit bs) (omega (arith, length-after_front is_digit bs))) (λ _.
     cond_both (b == 40) _ _ P (λ e. (less, tt)) (λ _.
@@ -150,7 +154,7 @@ small_of read.Close h = tt
 small_of read.Dot h = tt
 small_of read.Quote h = tt
 small_of (read.Number z) h = h
-small_of (read.Symbol text) h = tt
+small_of (read.Symbol text) h = let long : length (map raised text.now) ≡ length text.now = length-map text.now raised in (omega (arith, h.0), omega (arith, h.1))
 
 pub front_shorter : (token : Read) (rest further : List ℕ) → IsFront token rest further → length further < length rest
 front_shorter token rest further e = shorter rest (token_of token) further (sym e)

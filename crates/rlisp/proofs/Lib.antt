@@ -1,6 +1,5 @@
 pub mod Lexing
 pub mod Trees
-pub mod Named
 pub mod Memories
 pub mod Keeping
 pub mod Appends

@@ -1,170 +1,307 @@
--- What adding a pair or names keeps of the memory.
-use Rattle.std.proofs.Common.{◌≡◌, ℕ, ℤ, zero, suc, ◌+◌, ◌<◌, ◌≤◌, ◌^◌, true, nat_lt, List, [], ◌∷◌, ◌++◌, length, Some, refl, sym, ap, ◌∙◌, arith, length-append, zero-add, inl, inr, le_refl}
-use Rattle.std.specs.Prelude.{slice_get, slice_index_or}
-use Rattle.std.proofs.lemmas.List.{get_or_append_left}
+-- What adding objects keeps of the memory.
+use Rattle.std.specs.Prelude.{nat_le, cond}
+use Rattle.std.proofs.Common.{◌≡◌, ℕ, ℤ, ◌+◌, ◌-◌, ◌<◌, ◌≤◌, ◌%◌, ◌⊎◌, Bool, true, false, List, [], ◌∷◌, ◌++◌, length, get_or, Option, Some, None, refl, sym, ap, ◌∙◌, arith, zero-add, append_assoc, inl, inr}
+use Rattle.std.proofs.lemmas.List.{get_or_append_left, get_or_past, append-nil}
 use Rattle.std.proofs.Math.Seq.{get_or-append_seam}
 use Rattle.std.proofs.lemmas.Bool.{cases_lt}
-use Rattle.std.proofs.lemmas.Bool.Decides.{nat_tests}
-use Rattle.std.proofs.lemmas.Option.{get_or_from_slice_get, slice_get_within}
-use Rattle.rl_tags.specs.Tagged.{Tagged, Number, IdAt, StrAt, PairAt, VectorAt, BigAt, FunAt, tag_of, index_of, number_of}
+use Rattle.rl_tags.specs.Tagged.{Tagged, Number, IdAt, StrAt, PairAt, VectorAt, BigAt, FunAt, tag_of, index_of, number_of, tagged_of}
 use Rattle.rl_tags.specs.declared.Tag.TheVariants as Tag
-use Rattle.rl_pairs.specs.Cell.{Cell, PairCell, More, Store, cell_at, is_live, is_pair, is_pair_cell, car_in, cdr_in, car_of, cdr_of, grown}
-use Rattle.rl_tree.specs.Tree.{Name, Tree, Int, Id, Pair, nil, nil_name}
-use Rattle.rlisp.specs.World.{Memory, is_known_among, is_known, tree_among, cell_tree, trees_after, tree_in, IsOlderCell, IsMemory, Keeps, Stands}
-use Rattle.rlisp.specs.Texts.{Extends}
-use Rattle.rlisp.proofs.Trees.{tree_among-trees, tree_among-names, length-trees_after, trees_after-push, trees_after_at, trees_after-names}
+use Rattle.rl_tags.specs.declared.names.TheConstants.{OPENING_NAMES}
+use Rattle.rl_tags.specs.Opening.{opening_rows, place_of, name_at as opening_name}
+use Rattle.rl_cells.specs.Cell.{Cell, PairCell, StrCell, VectorCell, BigCell, BlockCell, More, Store, cell_at, placed, grown, is_live, is_pair, is_str, is_id_cell, is_pair_cell, is_str_cell, bytes_of, bytes_in, words_in, car_in, cdr_in, car_of, cdr_of}
+use Rattle.rl_cells.proofs.Kept.{cell_at_new, cell_at_past_new, is_live-append}
+use Rattle.rl_syms.specs.Table.{IsTable, IsNamed, held_in, is_id, name_at}
+use Rattle.rl_syms.specs.Frame.{KeepsBlocks, block_in}
+use Rattle.rl_syms.specs.Laws.{IsKept}
+use Rattle.rl_syms.specs.Made.{Finds, Enters, new_words}
+use Rattle.rl_syms.specs.Opened.{IsOpened, is_name_cell}
+use Rattle.rl_syms.proofs.Carried.{among_id}
+use Rattle.rl_tree.specs.Tree.{Name, Tree, Int, Id, Pair, nil}
+use Rattle.rlisp.specs.World.{Memory, is_known_in, is_known, tree_among, cell_tree, trees_after, tree_of, tree_in, IsBefore, IsOlderCell, IsIdNamed, IsMemory, Keeps, Stands}
+use Rattle.rlisp.proofs.Trees.{SameNames, tree_among-names, tree_among-after, length-trees_after, trees_after-append, trees_after_at, trees_after-names}
 
-known_below : (i n m : ℕ) → n ≤ m → nat_lt i n ≡ true → nat_lt i m ≡ true
-known_below i n m l h = grind (arith, nat_tests)
+-- ---- where a cell is
 
--- what is known is known among more
-pub known_among_more : (n n' k k' : ℕ) (v : Tagged) → n ≤ n' → k ≤ k' → is_known_among n k v ≡ true → is_known_among n' k' v ≡ true
-known_among_more n n' k k' (Number z) l m h = refl
-known_among_more n n' k k' (IdAt i) l m h = known_below i n n' l h
-known_among_more n n' k k' (StrAt i) l m h = h
-known_among_more n n' k k' (PairAt i) l m h = known_below i k k' m h
-known_among_more n n' k k' (VectorAt i) l m h = h
-known_among_more n n' k k' (BigAt i) l m h = h
-known_among_more n n' k k' (FunAt i) l m h = h
+-- a place whose cell passes a test that More fails is within the cells
+tested_within : (test : Cell → Bool) → test More ≡ false → (cells : List Cell) (k : ℕ) → test (cell_at cells k) ≡ true → k < length cells
+tested_within test fails cells k h = elim (cases_lt k (length cells)) [
+  | inl l ↦ l
+  | inr l ↦ let e : true ≡ false = sym h ∙ ap test (get_or_past cells k More l) ∙ fails in absurd (cc)
+]
 
-older_among_more : (n n' k : ℕ) (c : Cell) → n ≤ n' → IsOlderCell n k c → IsOlderCell n' k c
-older_among_more n n' k (PairCell a d) l h = (known_among_more n n' k k a l (le_refl k) h.0, known_among_more n n' k k d l (le_refl k) h.1)
-older_among_more n n' k More l h = h
+-- and has that cell among more
+tested_stays : (test : Cell → Bool) → test More ≡ false → (cells more : List Cell) (k : ℕ) → test (cell_at cells k) ≡ true → test (cell_at (cells ++ more) k) ≡ true
+tested_stays test fails cells more k h =
+    ap test (get_or_append_left cells more More k (tested_within test fails cells k h)) ∙ h
 
-abbrev pub with_pair : Memory → Tagged → Tagged → Memory
-with_pair m a d = record { store = grown m.store (PairCell a d); names = m.names }
+known_stays : (cells more : List Cell) (v : Tagged) → is_known_in cells v ≡ true → is_known_in (cells ++ more) v ≡ true
+known_stays cells more (Number z) h = refl
+known_stays cells more (IdAt k) h = tested_stays is_id_cell refl cells more k h
+known_stays cells more (StrAt k) h = h
+known_stays cells more (PairAt k) h = tested_stays is_pair_cell refl cells more k h
+known_stays cells more (VectorAt k) h = h
+known_stays cells more (BigAt k) h = h
+known_stays cells more (FunAt k) h = h
 
-abbrev pub with_names : Memory → List Name → Memory
-with_names m more = record { store = m.store; names = m.names ++ more }
+-- a known pair begins within the cells
+known_before : (cells : List Cell) (v : Tagged) → is_known_in cells v ≡ true → IsBefore (length cells) v
+known_before cells (Number z) h = tt
+known_before cells (IdAt k) h = tt
+known_before cells (StrAt k) h = tt
+known_before cells (PairAt k) h = tested_within is_pair_cell refl cells k h
+known_before cells (VectorAt k) h = tt
+known_before cells (BigAt k) h = tt
+known_before cells (FunAt k) h = tt
 
-abbrev trees_of : Memory → List Tree
-trees_of m = trees_after m.names [] m.store.cells
+-- ---- more cells
 
-length-trees_of : (m : Memory) → length (trees_of m) ≡ length m.store.cells
-length-trees_of m = length-trees_after m.names [] m.store.cells ∙ zero-add (length m.store.cells)
+-- the cells of all stand before more, and the identifiers among them keep their names
+pub record HasMore (old new : List Cell) : Type 0 where
+  pub more : List Cell
+  pub is : new ≡ old ++ more
+  pub names : SameNames old (name_at old) (name_at new)
+
+abbrev pub AreOlderCells : List Cell → Type 0
+AreOlderCells cells = (k : ℕ) → IsOlderCell cells k (cell_at cells k)
+
+-- the trees of the old cells, by the names of the new ones
+trees_same : (old new : List Cell) → AreOlderCells old → SameNames old (name_at old) (name_at new) → trees_after (name_at new) [] old ≡ trees_after (name_at old) [] old
+trees_same old new older names = trees_after-names old (name_at old) (name_at new) [] old names (λ j l. rw zero-add (older j))
+
+tree_stays : (old new : List Cell) (v : Tagged) → AreOlderCells old → HasMore old new → is_known_in old v ≡ true → tree_of new v ≡ tree_of old v
+tree_stays old new v older h known =
+    let g = name_at new in
+    let first : List Tree = trees_after g [] old in
+    let long : length first ≡ length old = length-trees_after g [] old ∙ zero-add (length old) in
+    let parts : trees_after g [] new ≡ trees_after g first h.more = ap (trees_after g []) h.is ∙ trees_after-append g [] old h.more in
+    ap (λ ts. tree_among g ts v) parts ∙ (tree_among-after g first h.more v (rw long (known_before old v known)) ∙ (ap (λ ts. tree_among g ts v) (trees_same old new older h.names) ∙ tree_among-names old (name_at old) g (trees_after (name_at old) [] old) v h.names known))
+
+pub more_keeps : (m n : Memory) → IsMemory m → HasMore m.store.cells n.store.cells → Keeps m n
+unfolding tree_in
+more_keeps m n is h = record {
+  known = λ v k. ap (λ cells. is_known_in cells v) h.is ∙ known_stays m.store.cells h.more v k;
+  tree = λ v k. tree_stays m.store.cells n.store.cells v is.older h k;
+}
+
+-- ---- names stay
+
+-- a value that a word holds
+held_is : (w : ℕ) (t : Tagged) → held_in w ≡ Some t → tagged_of w ≡ t
+held_is w t h = go (nat_le (w % 16) 6) h
+  where
+    go : (b : Bool) → cond b (Some (tagged_of w)) None ≡ Some t → tagged_of w ≡ t
+    go true e = cc
+    go false e = absurd (cc)
+
+text_stays : (cells more : List Cell) (v : Tagged) → is_str cells v ≡ true → bytes_of (cells ++ more) v ≡ bytes_of cells v
+text_stays cells more (StrAt k) h = ap bytes_in (get_or_append_left cells more More k (tested_within is_str_cell refl cells k h))
+text_stays cells more (Number z) h = refl
+text_stays cells more (IdAt k) h = refl
+text_stays cells more (PairAt k) h = refl
+text_stays cells more (VectorAt k) h = refl
+text_stays cells more (BigAt k) h = refl
+text_stays cells more (FunAt k) h = refl
+
+-- an identifier keeps its name as objects are added
+names_stay : (cells more : List Cell) (head : Option Tagged) → IsTable cells head → SameNames cells (name_at cells) (name_at (cells ++ more))
+names_stay cells more head table k h =
+    let same : cell_at (cells ++ more) k ≡ cell_at cells k = get_or_append_left cells more More k (tested_within is_id_cell refl cells k h) in
+    let n = table.chained.named k h in
+    let is : tagged_of (get_or (words_in (cell_at cells k)) 0 0) ≡ n.text = held_is (get_or (words_in (cell_at cells k)) 0 0) n.text n.is in
+    ap (λ c. bytes_of (cells ++ more) (tagged_of (get_or (words_in c) 0 0))) same ∙ (ap (bytes_of (cells ++ more)) is ∙ (text_stays cells more n.text n.string ∙ ap (bytes_of cells) (sym is)))
+
+-- ---- one object more
+
+-- a pair that is made of older values stays so
+older_stays : (cells more : List Cell) (k : ℕ) (c : Cell) → IsOlderCell cells k c → IsOlderCell (cells ++ more) k c
+older_stays cells more k (PairCell a d) h = (known_stays cells more a h.0, known_stays cells more d h.1, h.2, h.3)
+older_stays cells more k (StrCell bytes) h = tt
+older_stays cells more k (VectorCell xs) h = tt
+older_stays cells more k (BigCell z) h = tt
+older_stays cells more k (BlockCell t words) h = tt
+older_stays cells more k More h = tt
+
+object_older : (cells : List Cell) (c : Cell) → AreOlderCells cells → IsOlderCell (cells ++ placed c) (length cells) c → AreOlderCells (cells ++ placed c)
+object_older cells c older new k = elim (cases_lt k (length cells)) [
+  | inl l ↦ rw (get_or_append_left cells (placed c) More k l) (older_stays cells (placed c) k (cell_at cells k) (older k))
+  | inr l ↦ elim (cases_lt (length cells) k) [
+    | inl m ↦ rw (cell_at_past_new cells c k m) tt
+    | inr m ↦ let e : k ≡ length cells = omega arith in rw (e, cell_at_new cells c) new
+  ]
+]
+
+more_id : (old new more : List Cell) (k : ℕ) (name : Name) → new ≡ old ++ more → SameNames old (name_at old) (name_at new) → IsIdNamed old k name → IsIdNamed new k name
+more_id old new more k name is same h = record {
+  id = ap (λ cells. is_id_cell (cell_at cells k)) is ∙ tested_stays is_id_cell refl old more k h.id;
+  name_is = same k h.id ∙ h.name_is;
+}
+
+-- more cells are a memory again, where they hold a table and pairs of older values
+pub more_memory : (m n : Memory) → IsMemory m → HasMore m.store.cells n.store.cells → AreOlderCells n.store.cells → IsTable n.store.cells n.head → IsMemory n
+more_memory m n is h older table = record {
+  table = table;
+  older = older;
+  nil = more_id m.store.cells n.store.cells h.more 2 _ h.is h.names is.nil;
+  quote = more_id m.store.cells n.store.cells h.more 12 _ h.is h.names is.quote;
+}
+
+-- ---- an identifier more, or none
+
+-- what interning adds, and that it adds no pair
+pub record HasNames (old new : List Cell) : Type 0 where
+  pub added : HasMore old new
+  pub older : AreOlderCells new
+
+entered_more : (m : Memory) (store : Store) (head : Option Tagged) (name : Name) (v : Tagged) → IsMemory m → Enters m.store store m.head head name v → HasNames m.store.cells store.cells
+entered_more m store head name v is h =
+    let cells = m.store.cells in
+    let text = placed (StrCell name) in
+    let block = placed (BlockCell Tag.Id (new_words (StrAt (length cells)) (IdAt 2) m.head)) in
+    let grows : store.cells ≡ (cells ++ text) ++ block = ap (λ (s : Store). s.cells) h.cells in
+    let whole : store.cells ≡ cells ++ (text ++ block) = grows ∙ append_assoc cells text block in
+    record {
+      added = record { more = text ++ block; is = whole; names = rw whole (names_stay cells (text ++ block) m.head is.table) };
+      older = rw grows (object_older (cells ++ text) _ (object_older cells (StrCell name) is.older tt) tt);
+    }
+
+pub found_more : (m : Memory) (store : Store) → IsMemory m → store ≡ m.store → HasNames m.store.cells store.cells
+found_more m store is e = rw e (record {
+  added = record { more = []; is = sym (append-nil m.store.cells); names = λ k h. refl };
+  older = is.older;
+})
+
+pub interned_more : (m : Memory) (store : Store) (head : Option Tagged) (name : Name) (v : Tagged) → IsMemory m → Finds m.store store m.head head name v ⊎ Enters m.store store m.head head name v → HasNames m.store.cells store.cells
+interned_more m store head name v is (inl h) = found_more m store is h.cells
+interned_more m store head name v is (inr h) = entered_more m store head name v is h
+
+pub interned_memory : (m : Memory) (store : Store) (head : Option Tagged) → IsMemory m → HasNames m.store.cells store.cells → IsTable store.cells head → IsMemory (record { store = store; head = head })
+interned_memory m store head is h table = more_memory m (record { store = store; head = head }) is h.added h.older table
+
+pub named_stands : (m : Memory) (head : Option Tagged) (v : Tagged) (name text : Name) → IsNamed m.store.cells head name v → is_id m.store.cells v ≡ true → name ≡ text → Stands m v (Id text)
+unfolding tree_in
+named_stands m head (IdAt k) name text h id e = record { known = id; tree = ap Id (h.name_is ∙ e) }
+named_stands m head (Number k) name text h id e = absurd (cc)
+named_stands m head (StrAt k) name text h id e = absurd (cc)
+named_stands m head (PairAt k) name text h id e = absurd (cc)
+named_stands m head (VectorAt k) name text h id e = absurd (cc)
+named_stands m head (BigAt k) name text h id e = absurd (cc)
+named_stands m head (FunAt k) name text h id e = absurd (cc)
+
+-- ---- opening
+
+-- what is no pair is made of no younger values
+name_cell_older : (cells : List Cell) (k : ℕ) (c : Cell) → is_name_cell c ≡ true → IsOlderCell cells k c
+name_cell_older cells k (PairCell a d) h = absurd (cc)
+name_cell_older cells k (StrCell bytes) h = tt
+name_cell_older cells k (VectorCell xs) h = tt
+name_cell_older cells k (BigCell z) h = tt
+name_cell_older cells k (BlockCell t words) h = tt
+name_cell_older cells k More h = tt
+
+opened_id : (cells : List Cell) (head : Option Tagged) (k : ℕ) (name : Name) → IsTable cells head → IsNamed cells head name (IdAt k) → IsIdNamed cells k name
+opened_id cells head k name table named = record { id = among_id cells head k table.chained named.interned.1; name_is = named.name_is }
+
+-- what opening made is a memory, once the cells are settled
+pub opened_memory : (old new : Store) (head : Option Tagged) → new ≡ record old { count = Some 0 } → IsTable old.cells head
+    → ((i : ℕ) → i < OPENING_NAMES → IsNamed old.cells head (opening_name i) (IdAt (place_of i))) → IsOpened old.cells head → IsMemory (record { store = new; head = head })
+unfolding opening_rows
+opened_memory old new head e table names opened = rw e (record {
+  table = table;
+  older = λ k. name_cell_older old.cells k (cell_at old.cells k) (opened.objects k);
+  nil = opened_id old.cells head 2 _ table (names 0 (omega arith));
+  quote = opened_id old.cells head 12 _ table (names 2 (omega arith));
+})
 
 -- ---- a pair more
 
-pub keeps_pair : (m : Memory) (a d : Tagged) → Keeps m (with_pair m a d)
+-- a pair leaves strings and blocks as they were
+pair_keeps_blocks : (cells : List Cell) (a d : Tagged) → KeepsBlocks cells (cells ++ placed (PairCell a d))
+pair_keeps_blocks cells a d = record {
+  live = is_live-append cells (placed (PairCell a d));
+  texts = text_stays cells (placed (PairCell a d));
+  blocks = λ k. elim (cases_lt k (length cells)) [
+    | inl l ↦ ap block_in (get_or_append_left cells (placed (PairCell a d)) More k l)
+    | inr l ↦
+        let past : cell_at cells k ≡ More = get_or_past cells k More l in
+        elim (cases_lt (length cells) k) [
+          | inl m ↦ ap block_in (cell_at_past_new cells (PairCell a d) k m) ∙ ap block_in (sym past)
+          | inr m ↦ let e : k ≡ length cells = omega arith in ap (λ j. block_in (cell_at (cells ++ placed (PairCell a d)) j)) e ∙ (ap block_in (cell_at_new cells (PairCell a d)) ∙ ap block_in (sym past))
+        ]
+  ];
+}
+
+pair_more : (m : Memory) (a d : Tagged) → IsMemory m → HasMore m.store.cells (m.store.cells ++ placed (PairCell a d))
+pair_more m a d is = record { more = placed (PairCell a d); is = refl; names = names_stay m.store.cells (placed (PairCell a d)) m.head is.table }
+
+pub grown_memory : (m : Memory) (store : Store) (a d : Tagged) → IsMemory m → is_known m a ≡ true → is_known m d ≡ true → IsKept → store ≡ grown m.store (PairCell a d) → IsMemory (record { store = store; head = m.head })
+grown_memory m store a d is ka kd law e =
+    let cells = m.store.cells in
+    let new : List Cell = cells ++ placed (PairCell a d) in
+    let grows : store.cells ≡ new = ap (λ (s : Store). s.cells) e in
+    let older : AreOlderCells new = object_older cells (PairCell a d) is.older (known_stays cells (placed (PairCell a d)) a ka, known_stays cells (placed (PairCell a d)) d kd, known_before cells a ka, known_before cells d kd) in
+    let table : IsTable new m.head = law.table cells new m.head (pair_keeps_blocks cells a d) is.table in
+    more_memory m (record { store = store; head = m.head }) is (rw grows (pair_more m a d is)) (rw grows older) (rw grows table)
+
+pub grown_keeps : (m : Memory) (store : Store) (a d : Tagged) → IsMemory m → store ≡ grown m.store (PairCell a d) → Keeps m (record { store = store; head = m.head })
+grown_keeps m store a d is e =
+    let grows : store.cells ≡ m.store.cells ++ placed (PairCell a d) = ap (λ (s : Store). s.cells) e in
+    more_keeps m (record { store = store; head = m.head }) is (rw grows (pair_more m a d is))
+
+-- the tree of the newest pair
+pair_tree : (cells : List Cell) (names : ℕ → Name) (a d : Tagged) (first : List Tree) → trees_after names [] cells ≡ first → length first ≡ length cells
+    → tree_among names (trees_after names [] (cells ++ placed (PairCell a d))) (PairAt (length cells)) ≡ Pair (tree_among names first a) (tree_among names first d)
+pair_tree cells names a d first e long =
+    rw (trees_after-append names [] cells (placed (PairCell a d)), e, ← long) (get_or-append_seam first (cell_tree names first (PairCell a d)) [] nil)
+
+new_pair : (m : Memory) (a d : Tagged) → IsMemory m → is_known m a ≡ true → is_known m d ≡ true → tree_of (m.store.cells ++ placed (PairCell a d)) (PairAt (length m.store.cells)) ≡ Pair (tree_of m.store.cells a) (tree_of m.store.cells d)
+new_pair m a d is ka kd =
+    let cells = m.store.cells in
+    let g = name_at (cells ++ placed (PairCell a d)) in
+    let f = name_at cells in
+    let trees = trees_after f [] cells in
+    let same : SameNames cells f g = names_stay cells (placed (PairCell a d)) m.head is.table in
+    let long : length trees ≡ length cells = length-trees_after f [] cells ∙ zero-add (length cells) in
+    pair_tree cells g a d trees (trees_same cells (cells ++ placed (PairCell a d)) is.older same) long ∙ rw (tree_among-names cells f g trees a same ka, tree_among-names cells f g trees d same kd) refl
+
+pub grown_stands : (m : Memory) (store : Store) (a d v : Tagged) → IsMemory m → is_known m a ≡ true → is_known m d ≡ true → store ≡ grown m.store (PairCell a d) → v ≡ PairAt (length m.store.cells) → Stands (record { store = store; head = m.head }) v (Pair (tree_in m a) (tree_in m d))
 unfolding tree_in
-keeps_pair m a d = record {
-  known = λ v h. known_among_more (length m.names) (length m.names) (length m.store.cells) (length (m.store.cells ++ PairCell a d ∷ [])) v (le_refl (length m.names)) (omega (arith, length-append m.store.cells (PairCell a d ∷ []))) h;
-  tree = λ v h.
-      rw (trees_after-push m.names [] m.store.cells (PairCell a d))
-      (tree_among-trees m.names (trees_of m) (cell_tree m.names (trees_of m) (PairCell a d) ∷ []) (length m.names) v (rw (length-trees_of m) h));
-}
+grown_stands m store a d v is ka kd e at =
+    let grows : store.cells ≡ m.store.cells ++ placed (PairCell a d) = ap (λ (s : Store). s.cells) e in
+    record {
+      known = rw (at, grows) (ap is_pair_cell (cell_at_new m.store.cells (PairCell a d)));
+      tree = rw (at, grows) (new_pair m a d is ka kd);
+    }
 
-pub pair_stands : (m : Memory) (a d : Tagged) → Stands (with_pair m a d) (PairAt (length m.store.cells)) (Pair (tree_in m a) (tree_in m d))
-unfolding tree_in
-pair_stands m a d = record {
-  known = let n : length (m.store.cells ++ PairCell a d ∷ []) ≡ length m.store.cells + 1 = length-append m.store.cells (PairCell a d ∷ []) in rw n (grind (arith, nat_tests));
-  tree = rw (trees_after-push m.names [] m.store.cells (PairCell a d), ← length-trees_of m) (get_or-append_seam (trees_of m) (cell_tree m.names (trees_of m) (PairCell a d)) [] nil);
-}
+-- ---- what a value is
 
-pub pair_memory : (m : Memory) (a d : Tagged) → IsMemory m → is_known m a ≡ true → is_known m d ≡ true → IsMemory (with_pair m a d)
-pair_memory m a d h ka kd = record {
-  older = λ k l.
-      let n : length (m.store.cells ++ PairCell a d ∷ []) ≡ length m.store.cells + 1 = length-append m.store.cells (PairCell a d ∷ []) in
-      elim (cases_lt k (length m.store.cells)) [
-        | inl old ↦ rw (get_or_append_left m.store.cells (PairCell a d ∷ []) More k old) (h.older k old)
-        | inr new ↦ let e : k ≡ length m.store.cells = omega arith in rw (e, get_or-append_seam m.store.cells (PairCell a d) [] More) (ka, kd)
-      ];
-  few = h.few;
-  nil_first = h.nil_first;
-  quote_second = h.quote_second;
-}
+pub keeps_same : (m n : Memory) → n ≡ m → Keeps m n
+keeps_same m n e = rw e (record { known = λ v h. h; tree = λ v h. refl })
 
--- ---- names more
-
-pub keeps_names : (m : Memory) (more : List Name) → IsMemory m → Keeps m (with_names m more)
-unfolding tree_in
-keeps_names m more h = record {
-  known = λ v k. known_among_more (length m.names) (length (m.names ++ more)) (length m.store.cells) (length m.store.cells) v (omega (arith, length-append m.names more)) (le_refl (length m.store.cells)) k;
-  tree = λ v k.
-      rw (trees_after-names m.names more [] m.store.cells (λ i l. rw (zero-add i) (h.older i l)))
-      (tree_among-names m.names more (trees_of m) (length m.store.cells) v k);
-}
-
-slice_get_more : (names more : List Name) (i : ℕ) (name : Name) → slice_get names i ≡ Some name → slice_get (names ++ more) i ≡ Some name
-slice_get_more [] more i name h = cc
-slice_get_more (x ∷ names) more zero name h = h
-slice_get_more (x ∷ names) more (suc i) name h = slice_get_more names more i name h
-
-pub names_memory : (m : Memory) (more : List Name) → IsMemory m → length (m.names ++ more) < 2 ^ 32 → IsMemory (with_names m more)
-names_memory m more h l = record {
-  older = λ k lk. older_among_more (length m.names) (length (m.names ++ more)) k (cell_at m.store.cells k) (omega (arith, length-append m.names more)) (h.older k lk);
-  few = l;
-  nil_first = slice_get_more m.names more 0 _ h.nil_first;
-  quote_second = slice_get_more m.names more 1 _ h.quote_second;
-}
-
-index_within : (names : List Name) (i : ℕ) (name : Name) → slice_get names i ≡ Some name → nat_lt i (length names) ≡ true
-index_within names i name h = let l = slice_get_within names i name h in grind (arith, nat_tests)
-
-below : (i n : ℕ) → nat_lt i n ≡ true → i < n
-below i n h = grind (arith, nat_tests)
-
-pub name_stands : (m : Memory) (i : ℕ) (name : Name) → slice_get m.names i ≡ Some name → Stands m (IdAt i) (Id name)
-unfolding tree_in
-name_stands m i name h = record { known = index_within m.names i name h; tree = ap Id (get_or_from_slice_get m.names i name nil_name h) }
+-- what is known in a memory is known in the same one
+pub known_in : (m n : Memory) (v : Tagged) → m ≡ n → is_known n v ≡ true → is_known m v ≡ true
+known_in m n v e k = ap (λ (o : Memory). is_known o v) e ∙ k
 
 pub number_stands : (m : Memory) (z : ℤ) → Stands m (Number z) (Int z)
 unfolding tree_in
 number_stands m z = record { known = refl; tree = refl }
 
--- ---- what a value is
-
-older_is_pair : (n k : ℕ) (c : Cell) → IsOlderCell n k c → is_pair_cell c ≡ true
-older_is_pair n k (PairCell a d) h = refl
-older_is_pair n k More h = absurd h
-
-older_parts : (n k : ℕ) (c : Cell) → IsOlderCell n k c → (is_known_among n k (car_in c) ≡ true) × (is_known_among n k (cdr_in c) ≡ true)
-older_parts n k (PairCell a d) h = h
-older_parts n k More h = absurd h
-
-cell_tree_pair : (names : List Name) (trees : List Tree) (n k : ℕ) (c : Cell) → IsOlderCell n k c → cell_tree names trees c ≡ Pair (tree_among names trees (car_in c)) (tree_among names trees (cdr_in c))
-cell_tree_pair names trees n k (PairCell a d) h = refl
-cell_tree_pair names trees n k More h = absurd h
-
-pub live_known : (m : Memory) (v : Tagged) → IsMemory m → is_known m v ≡ true → is_live m.store.cells v ≡ true
-live_known m (Number z) h k = refl
-live_known m (IdAt i) h k = refl
-live_known m (StrAt i) h k = cc
-live_known m (PairAt i) h k = older_is_pair (length m.names) i (cell_at m.store.cells i) (h.older i (grind (arith, nat_tests)))
-live_known m (VectorAt i) h k = cc
-live_known m (BigAt i) h k = cc
-live_known m (FunAt i) h k = cc
-
--- a pair's tree is that of its parts, which are known
-pub pair_seen : (m : Memory) (k : ℕ) → IsMemory m → is_known m (PairAt k) ≡ true
-    → (tree_in m (PairAt k) ≡ Pair (tree_in m (car_of m.store.cells (PairAt k))) (tree_in m (cdr_of m.store.cells (PairAt k)))) × (is_known m (car_of m.store.cells (PairAt k)) ≡ true) × (is_known m (cdr_of m.store.cells (PairAt k)) ≡ true)
+pub name_stands : (m : Memory) (k : ℕ) (name : Name) → IsIdNamed m.store.cells k name → Stands m (IdAt k) (Id name)
 unfolding tree_in
-pair_seen m k h known =
-    let l : k < length m.store.cells = grind (arith, nat_tests) in
-    let older = h.older k l in
-    let parts = older_parts (length m.names) k (cell_at m.store.cells k) older in
-    let more = λ (v : Tagged) (p : is_known_among (length m.names) k v ≡ true). known_among_more (length m.names) (length m.names) k (length m.store.cells) v (le_refl (length m.names)) (omega arith) p in (
-      ap (λ j. slice_index_or (trees_of m) j nil) (sym (zero-add k)) ∙ trees_after_at m.names [] m.store.cells k (λ i n. rw (zero-add i) (h.older i n)) l ∙ cell_tree_pair m.names (trees_of m) (length m.names) k (cell_at m.store.cells k) older,
-      more (car_in (cell_at m.store.cells k)) parts.0,
-      more (cdr_in (cell_at m.store.cells k)) parts.1,
-    )
+name_stands m k name h = record { known = h.id; tree = ap Id h.name_is }
 
--- ---- for the calls of `World`
+known_live : (cells : List Cell) (v : Tagged) → is_known_in cells v ≡ true → is_live cells v ≡ true
+known_live cells (Number z) k = refl
+known_live cells (IdAt i) k = k
+known_live cells (StrAt i) k = absurd (cc)
+known_live cells (PairAt i) k = k
+known_live cells (VectorAt i) k = absurd (cc)
+known_live cells (BigAt i) k = absurd (cc)
+known_live cells (FunAt i) k = absurd (cc)
 
--- a store that grew by a pair of known values
-pub grown_memory : (m : Memory) (store : Store) (a d : Tagged) → IsMemory m → is_known m a ≡ true → is_known m d ≡ true → store ≡ grown m.store (PairCell a d) → IsMemory (record { store = store; names = m.names })
-grown_memory m store a d h ka kd e = rw e (pair_memory m a d h ka kd)
+pub live_known : (m : Memory) (v : Tagged) → is_known m v ≡ true → is_live m.store.cells v ≡ true
+live_known m v k = known_live m.store.cells v k
 
-pub grown_stands : (m : Memory) (store : Store) (a d v : Tagged) → store ≡ grown m.store (PairCell a d) → v ≡ PairAt (length m.store.cells) → Stands (record { store = store; names = m.names }) v (Pair (tree_in m a) (tree_in m d))
-grown_stands m store a d v e is = rw (e, is) (pair_stands m a d)
-
-pub grown_keeps : (m : Memory) (store : Store) (a d : Tagged) → store ≡ grown m.store (PairCell a d) → Keeps m (record { store = store; names = m.names })
-grown_keeps m store a d e = rw e (keeps_pair m a d)
-
-pub keeps_same : (m n : Memory) → n ≡ m → Keeps m n
-keeps_same m n e = rw e (record { known = λ v h. h; tree = λ v h. refl })
-
--- by the tag of a known value
+-- by the tag of a value
 is_number : (v : Tagged) → Tag.Int ≡ tag_of v → v ≡ Number (number_of v)
 is_number (Number z) h = refl
 is_number (IdAt i) h = cc
@@ -174,64 +311,71 @@ is_number (VectorAt i) h = cc
 is_number (BigAt i) h = cc
 is_number (FunAt i) h = cc
 
-is_identifier : (v : Tagged) → Tag.Id ≡ tag_of v → v ≡ IdAt (index_of v)
-is_identifier (Number z) h = cc
-is_identifier (IdAt i) h = refl
-is_identifier (StrAt i) h = cc
-is_identifier (PairAt i) h = cc
-is_identifier (VectorAt i) h = cc
-is_identifier (BigAt i) h = cc
-is_identifier (FunAt i) h = cc
-
-is_pair_value : (v : Tagged) → Tag.Pair ≡ tag_of v → v ≡ PairAt (index_of v)
-is_pair_value (Number z) h = cc
-is_pair_value (IdAt i) h = cc
-is_pair_value (StrAt i) h = cc
-is_pair_value (PairAt i) h = refl
-is_pair_value (VectorAt i) h = cc
-is_pair_value (BigAt i) h = cc
-is_pair_value (FunAt i) h = cc
-
 pub number_seen : (m : Memory) (v : Tagged) (z : ℤ) → Tag.Int ≡ tag_of v → z ≡ number_of v → tree_in m v ≡ Int z
 number_seen m v z t e = ap (tree_in m) (is_number v t) ∙ ((number_stands m (number_of v)).tree ∙ ap Int (sym e))
 
-pub identifier_seen : (m : Memory) (v : Tagged) (i : ℕ) (name : Name) → Tag.Id ≡ tag_of v → i ≡ index_of v → slice_get m.names i ≡ Some name → tree_in m v ≡ Id name
-identifier_seen m v i name t e got = let p : IdAt i ≡ v = ap IdAt e ∙ sym (is_identifier v t) in ap (tree_in m) (sym p) ∙ (name_stands m i name got).tree
+pub identifier_known : (m : Memory) (v : Tagged) → Tag.Id ≡ tag_of v → is_known m v ≡ true → is_id m.store.cells v ≡ true
+identifier_known m (IdAt k) t known = known
+identifier_known m (Number k) t known = cc
+identifier_known m (StrAt k) t known = cc
+identifier_known m (PairAt k) t known = cc
+identifier_known m (VectorAt k) t known = cc
+identifier_known m (BigAt k) t known = cc
+identifier_known m (FunAt k) t known = cc
 
-pub identifier_within : (m : Memory) (v : Tagged) (i : ℕ) → Tag.Id ≡ tag_of v → is_known m v ≡ true → i ≡ index_of v → i < length m.names
-identifier_within m v i t k e =
-    let k' : is_known m (IdAt (index_of v)) ≡ true = ap (is_known m) (sym (is_identifier v t)) ∙ k in
-    let l = below (index_of v) (length m.names) k' in omega arith
+pub identifier_seen : (m : Memory) (v : Tagged) (name : Name) → Tag.Id ≡ tag_of v → name ≡ name_at m.store.cells (index_of v) → tree_in m v ≡ Id name
+unfolding tree_in
+identifier_seen m (IdAt k) name t e = ap Id (sym e)
+identifier_seen m (Number k) name t e = cc
+identifier_seen m (StrAt k) name t e = cc
+identifier_seen m (PairAt k) name t e = cc
+identifier_seen m (VectorAt k) name t e = cc
+identifier_seen m (BigAt k) name t e = cc
+identifier_seen m (FunAt k) name t e = cc
 
--- what is known in a memory is known in the same one
-pub known_in : (m n : Memory) (v : Tagged) → m ≡ n → is_known n v ≡ true → is_known m v ≡ true
-known_in m n v e k = ap (λ (o : Memory). is_known o v) e ∙ k
+pub pair_live : (m : Memory) (v : Tagged) → Tag.Pair ≡ tag_of v → is_known m v ≡ true → is_pair m.store.cells v ≡ true
+pair_live m (PairAt k) t known = known
+pair_live m (Number k) t known = cc
+pair_live m (IdAt k) t known = cc
+pair_live m (StrAt k) t known = cc
+pair_live m (VectorAt k) t known = cc
+pair_live m (BigAt k) t known = cc
+pair_live m (FunAt k) t known = cc
+
+older_parts : (cells : List Cell) (k : ℕ) (c : Cell) → is_pair_cell c ≡ true → IsOlderCell cells k c → (is_known_in cells (car_in c) ≡ true) × (is_known_in cells (cdr_in c) ≡ true)
+older_parts cells k (PairCell a d) p h = (h.0, h.1)
+older_parts cells k (StrCell bytes) p h = absurd (cc)
+older_parts cells k (VectorCell xs) p h = absurd (cc)
+older_parts cells k (BigCell z) p h = absurd (cc)
+older_parts cells k (BlockCell t words) p h = absurd (cc)
+older_parts cells k More p h = absurd (cc)
+
+pair_cell_tree : (names : ℕ → Name) (trees : List Tree) (c : Cell) → is_pair_cell c ≡ true → cell_tree names trees c ≡ Pair (tree_among names trees (car_in c)) (tree_among names trees (cdr_in c))
+pair_cell_tree names trees (PairCell a d) p = refl
+pair_cell_tree names trees (StrCell bytes) p = cc
+pair_cell_tree names trees (VectorCell xs) p = cc
+pair_cell_tree names trees (BigCell z) p = cc
+pair_cell_tree names trees (BlockCell t words) p = cc
+pair_cell_tree names trees More p = cc
+
+-- a pair's tree is that of its parts, which are known
+pair_seen : (m : Memory) (k : ℕ) → IsMemory m → is_known m (PairAt k) ≡ true
+    → (tree_in m (PairAt k) ≡ Pair (tree_in m (car_of m.store.cells (PairAt k))) (tree_in m (cdr_of m.store.cells (PairAt k)))) × (is_known m (car_of m.store.cells (PairAt k)) ≡ true) × (is_known m (cdr_of m.store.cells (PairAt k)) ≡ true)
+unfolding tree_in
+pair_seen m k is known =
+    let cells = m.store.cells in
+    let parts = older_parts cells k (cell_at cells k) known (is.older k) in
+    let l : k < length cells = tested_within is_pair_cell refl cells k known in
+    let at = trees_after_at cells (name_at cells) [] cells k (λ j b. rw zero-add (is.older j)) l in
+    let e : 0 + k ≡ k = zero-add k in
+    ((rw e at at) ∙ pair_cell_tree (name_at cells) (trees_after (name_at cells) [] cells) (cell_at cells k) known, parts.0, parts.1)
 
 pub pair_value_seen : (m : Memory) (v a d : Tagged) → IsMemory m → Tag.Pair ≡ tag_of v → is_known m v ≡ true → a ≡ car_of m.store.cells v → d ≡ cdr_of m.store.cells v
     → (tree_in m v ≡ Pair (tree_in m a) (tree_in m d)) × (is_known m a ≡ true) × (is_known m d ≡ true)
-pair_value_seen m (PairAt k) a d h t known ea ed = rw (ea, ed) (pair_seen m k h known)
-pair_value_seen m (Number k) a d h t known ea ed = cc
-pair_value_seen m (IdAt k) a d h t known ea ed = cc
-pair_value_seen m (StrAt k) a d h t known ea ed = cc
-pair_value_seen m (VectorAt k) a d h t known ea ed = cc
-pair_value_seen m (BigAt k) a d h t known ea ed = cc
-pair_value_seen m (FunAt k) a d h t known ea ed = cc
-
-pub pair_live : (m : Memory) (v : Tagged) → IsMemory m → Tag.Pair ≡ tag_of v → is_known m v ≡ true → is_pair m.store.cells v ≡ true
-pair_live m (PairAt k) h t known = live_known m (PairAt k) h known
-pair_live m (Number k) h t known = cc
-pair_live m (IdAt k) h t known = cc
-pair_live m (StrAt k) h t known = cc
-pair_live m (VectorAt k) h t known = cc
-pair_live m (BigAt k) h t known = cc
-pair_live m (FunAt k) h t known = cc
-
--- names that were extended
-pub extended_memory : (m : Memory) (names : List Name) → IsMemory m → Extends m.names names → length names < 2 ^ 32 → IsMemory (record { store = m.store; names = names })
-extended_memory m names h e l = rw e.is (names_memory m e.more h (rw (← e.is) l))
-
-pub extended_keeps : (m : Memory) (names : List Name) → IsMemory m → Extends m.names names → Keeps m (record { store = m.store; names = names })
-extended_keeps m names h e = rw e.is (keeps_names m e.more h)
-
-pub named_stands : (m : Memory) (v : Tagged) (i : ℕ) (name text : Name) → slice_get m.names i ≡ Some name → v ≡ IdAt i → name ≡ text → Stands m v (Id text)
-named_stands m v i name text got is e = rw (is, ← e) (name_stands m i name got)
+pair_value_seen m (PairAt k) a d is t known ea ed = rw (ea, ed) (pair_seen m k is known)
+pair_value_seen m (Number k) a d is t known ea ed = cc
+pair_value_seen m (IdAt k) a d is t known ea ed = cc
+pair_value_seen m (StrAt k) a d is t known ea ed = cc
+pair_value_seen m (VectorAt k) a d is t known ea ed = cc
+pair_value_seen m (BigAt k) a d is t known ea ed = cc
+pair_value_seen m (FunAt k) a d is t known ea ed = cc

@@ -1,11 +1,6 @@
 -- Lists of bytes, without where they lie in memory.
-use Rattle.std.specs.Prelude.{◌≡◌, ℕ, List, ◌++◌, map}
+use Rattle.std.specs.Prelude.{ℕ, List, map}
 use Rattle.std.specs.Global.{Vec}
 
 abbrev pub texts_of : List (Vec ℕ) → List (List ℕ)
 texts_of texts = map (λ text. text.items) texts
-
--- there may be more at the end
-pub record Extends (old new : List (List ℕ)) : Type 0 where
-  pub more : List (List ℕ)
-  pub is : new ≡ old ++ more

@@ -1,5 +1,5 @@
 -- The tokens of the program as those of the definitions.
-use Rattle.std.specs.Prelude.{pos, negsuc, ◌≤ℤ◌, List, map}
+use Rattle.std.specs.Prelude.{pos, negsuc, ◌≤◌, ◌≤ℤ◌, List, length, map}
 use Rattle.rl_tree.specs.Bytes.{raised}
 use Rattle.rl_tree.specs.Token as token
 use Rattle.rl_tree.specs.Reading as reading
@@ -24,11 +24,11 @@ lexed_of Ended = reading.Ended
 lexed_of (Found token rest) = reading.Found (token_of token) rest.now
 lexed_of Bad = reading.Bad
 
--- a number of a token fits 60 bits with its sign
+-- a number of a token fits 60 bits with its sign, and a name has 1 to 255 bytes
 abbrev pub IsSmall : Token → Type 0
 IsSmall (Number z) = (negsuc 576460752303423487 ≤ℤ z) × (z ≤ℤ pos 576460752303423487)
 IsSmall Open = Unit {0}
 IsSmall Close = Unit {0}
 IsSmall Dot = Unit {0}
 IsSmall Quote = Unit {0}
-IsSmall (Symbol text) = Unit {0}
+IsSmall (Symbol text) = (1 ≤ length text.now) × (length text.now ≤ 255)

@@ -236,7 +236,7 @@ fn form_of(world: &World, form: Val) -> Form
 {
     match world.look(form) {
         Look::Integer(_) => Form::Constant,
-        Look::Identifier(name) => name_form(name),
+        Look::Identifier(name) => name_form(name.bytes()),
         Look::Pair(head, rest) => pair_form(world, head, rest),
     }
 }
@@ -260,7 +260,7 @@ fn pair_form(world: &World, head: Val, rest: Val) -> Form
 {
     match world.look(head) {
         Look::Integer(_) => Form::Unbuilt,
-        Look::Identifier(name) => call_form(world, name, rest),
+        Look::Identifier(name) => call_form(world, name.bytes(), rest),
         Look::Pair(_, _) => Form::Unbuilt,
     }
 }
@@ -331,7 +331,7 @@ fn is_nil(world: &World, v: Val) -> bool
 {
     match world.look(v) {
         Look::Integer(_) => false,
-        Look::Identifier(name) => name == NIL_NAME,
+        Look::Identifier(name) => name.bytes() == NIL_NAME,
         Look::Pair(_, _) => false,
     }
 }

@@ -2,7 +2,7 @@
 #![tactic(auto)]
 
 mod evaluator;
-mod names;
+mod name;
 mod page;
 mod printer;
 mod reader;

@@ -106,7 +106,7 @@ fn whole(page: &mut Page, world: &World, tasks: &mut Tasks, v: Val) -> Result<()
 {
     match world.look(v) {
         Look::Integer(n) => page.integer(n),
-        Look::Identifier(name) => page.atom(name),
+        Look::Identifier(name) => page.atom(name.bytes()),
         Look::Pair(car, cdr) => {
             page.mark(b"(")?;
             tasks.push_pair(car, cdr)
@@ -125,7 +125,7 @@ fn rest(page: &mut Page, world: &World, tasks: &mut Tasks, v: Val) -> Result<(),
             page.integer(n)?;
             page.mark(b")")
         }
-        Look::Identifier(name) => end_of_list(page, name),
+        Look::Identifier(name) => end_of_list(page, name.bytes()),
         Look::Pair(car, cdr) => {
             page.mark(b" ")?;
             tasks.push_pair(car, cdr)

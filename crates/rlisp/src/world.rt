@@ -1,25 +1,27 @@
-//! The memory of a run: the store of pairs and the table of names, seen by the trees that values stand for.
-ghost use Rattle.std.specs.Prelude.{◌≡◌, map, pos, negsuc, ◌≤ℤ◌, IsTrue, IfOk};
+//! The memory of a run: the store of objects and the table of names, seen by the trees that values stand for.
+ghost use Rattle.std.specs.Prelude.{◌≡◌, map, pos, negsuc, ◌≤◌, ◌≤ℤ◌, IsTrue, IfOk, length};
 ghost use Rattle.rl_tree.specs.Bytes.{raised};
 ghost use Rattle.rl_tree.specs.Tree.{Id, Int, Pair, nil, quote_name};
 ghost use Rattle.rlisp.specs.World.{is_known, tree_in, Keeps, Stands};
 ghost use Rattle.rlisp.specs.Looks.{Sees};
 
-use crate::names::Names;
+use crate::name::Name;
+use rl_cells::Cells;
 use rl_io::OutOfMemory;
-use rl_pairs::Cells;
-use rl_tags::{Tag, Val};
+use rl_syms::Syms;
+use rl_syms::laws::table_is_kept;
+use rl_tags::{NIL, QUOTE, Tag, Val};
 use std::alloc::Global;
 use std::marker::Model;
 
 /// The cells of a run.
 const CELLS: u32 = 4_000_000;
 
-/// Pairs and names.
+/// Objects and names.
 #[derive(Drop)]
 pub(crate) struct World {
     cells: Cells,
-    names: Names,
+    syms: Syms,
 }
 
 impl Model for World {
@@ -27,47 +29,42 @@ impl Model for World {
 
     ghost Value = { Memory };
 
-    ghost view = { λ a. record { store = a.cells; names = a.names } };
+    ghost view = { λ a. record { store = a.cells; head = a.syms.head } };
 
-    ghost invariant = { λ a. IsMemory (record { store = a.cells; names = a.names }) };
+    ghost invariant = { λ a. IsMemory (record { store = a.cells; head = a.syms.head }) };
 }
 
 /// What a value is: an integer, an identifier by its name, or a pair of its CAR and its CDR.
-#[derive(Clone, Copy)]
-pub(crate) enum Look<'a> {
+#[derive(Drop)]
+pub(crate) enum Look {
     Integer(i64),
-    Identifier(&'a [u8]),
+    Identifier(Name),
     Pair(Val, Val),
 }
 
 impl World {
-    /// No pairs, and the identifiers NIL and QUOTE.
+    /// No pairs, and the identifiers of opening.
     pub(crate) fn open(alloc: Global) -> Result<World, OutOfMemory> {
-        let mut cells = match Cells::new(alloc, CELLS) {
-            Ok(cells) => cells,
-            Err(_) => return Err(OutOfMemory),
-        };
+        let mut cells = Cells::new(alloc, CELLS)?;
+        let syms = Syms::open(alloc, &mut cells)?;
         cells.settle();
-        let mut names = Names::new(alloc);
-        names.add(Vec::from_slice(alloc, b"NIL")?)?;
-        names.add(Vec::from_slice(alloc, b"QUOTE")?)?;
-        Ok(World { cells, names })
+        Ok(World { cells, syms })
     }
 
     /// NIL.
     pub(crate) fn nil(&self) -> Val
         ensures { Stands self.now result nil }
     {
-        let _ = &self.names;
-        Val::at(Tag::Id, 0)
+        let _ = &self.syms;
+        NIL
     }
 
     /// QUOTE.
     pub(crate) fn quote(&self) -> Val
         ensures { Stands self.now result (Id quote_name) }
     {
-        let _ = &self.names;
-        Val::at(Tag::Id, 1)
+        let _ = &self.syms;
+        QUOTE
     }
 
     /// An integer of 60 bits.
@@ -79,14 +76,19 @@ impl World {
         Val::small(n)
     }
 
-    /// The identifier of a name as it is spelled: the one that there is, or a new one.
+    /// The identifier of a name of 1 to 255 bytes as it is spelled: the one that there is, or a new one. `OutOfMemory` also
+    /// where no cells are left for it.
     pub(crate) fn identifier(&mut self, alloc: Global, spelled: &[u8]) -> Result<Val, OutOfMemory>
+        requires some { 1 ≤ length spelled.now }
+        requires short { length spelled.now ≤ 255 }
         ensures stands { IfOk result (λ v. Stands self.new v (Id (map raised spelled.now))) }
         ensures keeps { Keeps self.old self.new }
     {
         let name = raised_name(alloc, spelled)?;
-        let number = self.names.number_of(name)?;
-        Ok(Val::at(Tag::Id, number as u64))
+        match self.syms.intern(&mut self.cells, &name) {
+            Ok(id) => Ok(id),
+            Err(_) => Err(OutOfMemory),
+        }
     }
 
     /// A new pair. `OutOfMemory` also where no cell is left.
@@ -96,6 +98,7 @@ impl World {
         ensures stands { IfOk result (λ v. Stands self.new v (Pair (tree_in self.old car) (tree_in self.old cdr))) }
         ensures keeps { Keeps self.old self.new }
     {
+        table_is_kept();
         let Ok(pair) = self.cells.cons(car, cdr) else {
             return Err(OutOfMemory);
         };
@@ -103,13 +106,13 @@ impl World {
     }
 
     /// What a value is.
-    pub(crate) fn look(&self, v: Val) -> Look<'_>
+    pub(crate) fn look(&self, v: Val) -> Look
         requires { IsTrue (is_known self.now v) }
         ensures { Sees self.now v result }
     {
         match v.tag() {
             Tag::Int => Look::Integer(v.number()),
-            Tag::Id => Look::Identifier(self.names.name(v.index() as usize)),
+            Tag::Id => Look::Identifier(Name::of(&self.cells, self.syms.name(&self.cells, v))),
             Tag::Pair => Look::Pair(self.cells.car(v), self.cells.cdr(v)),
             _ => unreachable!(),
         }

@@ -1,18 +1,23 @@
-use Rattle.std.proofs.Common.{arith}
-use Rattle.rlisp.proofs.Memories.{extended_memory, extended_keeps, named_stands}
+use Rattle.std.proofs.Common.{◌∙◌}
+use Rattle.rlisp.specs.World.{Memory}
+use Rattle.rlisp.proofs.Memories.{interned_more, interned_memory, named_stands, found_more, more_keeps}
 use Rattle.rlisp.proofs.world.World.identifier.Goals as goal
 
-pub returns-in_err-number-clause-keeps : goal.returns-in_err-number-clause-keeps
-returns-in_err-number-clause-keeps c = rw (← c.self.view_is) (extended_keeps _ c.number_of.new.self c.self.invariant c.number_of.ensures.more)
+pub invariant_of-self : goal.invariant_of-self
+invariant_of-self c =
+    let m : Memory = record { store = c.self.inside.cells; head = c.self.inside.syms.head } in
+    interned_memory m c.intern.new.c c.intern.new.self.head c.self.invariant (interned_more m c.intern.new.c c.intern.new.self.head _ c.in-Ok.id c.self.invariant c.in-Ok.ensures.ok) c.intern.ensures.table
 
-pub at-requires-clause-fits : goal.at-requires-clause-fits
-at-requires-clause-fits c = omega (arith, c.in_ok-number.ensures.small)
+pub returns-in-Ok-clause-stands : goal.returns-in-Ok-clause-stands
+returns-in-Ok-clause-stands c =
+    named_stands (record { store = c.intern.new.c; head = c.intern.new.self.head }) c.intern.new.self.head c.in-Ok.id _ _ c.in-Ok.ensures.named c.in-Ok.ensures.id (c.deref.ensures.value ∙ c.in_ok-name.ensures)
 
-pub invariant_of-self-2 : goal.invariant_of-self-2
-invariant_of-self-2 c = extended_memory _ c.number_of.new.self c.self.invariant c.number_of.ensures.more c.number_of.ensures.few
-
-pub returns-clause-stands : goal.returns-clause-stands
-returns-clause-stands c = named_stands (record { store = c.self.inside.cells; names = c.number_of.new.self }) c.at.result c.in_ok-number.number _ _ c.in_ok-number.ensures.number c.at.ensures c.in_ok-name.ensures
+pub returns-in-Ok-clause-keeps : goal.returns-in-Ok-clause-keeps
+returns-in-Ok-clause-keeps c =
+    let m : Memory = record { store = c.self.inside.cells; head = c.self.inside.syms.head } in
+    rw (← c.self.view_is) (more_keeps m (record { store = c.intern.new.c; head = c.intern.new.self.head }) c.self.invariant (interned_more m c.intern.new.c c.intern.new.self.head _ c.in-Ok.id c.self.invariant c.in-Ok.ensures.ok).added)
 
 pub returns-clause-keeps : goal.returns-clause-keeps
-returns-clause-keeps c = rw (← c.self.view_is) (extended_keeps _ c.number_of.new.self c.self.invariant c.number_of.ensures.more)
+returns-clause-keeps c =
+    let m : Memory = record { store = c.self.inside.cells; head = c.self.inside.syms.head } in
+    rw (← c.self.view_is) (more_keeps m (record { store = c.intern.new.c; head = c.intern.new.self.head }) c.self.invariant (found_more m c.intern.new.c c.self.invariant c.in-Err.ensures.err).added)
