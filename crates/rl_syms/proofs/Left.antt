@@ -1,9 +1,9 @@
 -- What making and changing other objects leaves: blocks, and the names of identifiers.
 use Rattle.std.specs.Prelude.{nat_le}
-use Rattle.std.proofs.Common.{◌≡◌, ℕ, ◌+◌, ◌<◌, ◌≤◌, ◌%◌, Bool, true, false, cond, List, ◌++◌, length, get_or, set, Option, Some, None, refl, sym, ap, ◌∙◌, arith}
+use Rattle.std.proofs.Common.{◌≡◌, ℕ, ◌<◌, ◌≤◌, ◌%◌, Bool, true, false, cond, List, ◌++◌, length, get_or, set, Option, Some, None, refl, sym, ap, ◌∙◌, arith}
 use Rattle.std.proofs.lemmas.List.{get_or_append_left, get_or_past}
 use Rattle.rl_tags.specs.Tagged.{Tagged, Number, IdAt, StrAt, PairAt, VectorAt, BigAt, FunAt, tagged_of}
-use Rattle.rl_cells.specs.Cell.{Cell, PairCell, StrCell, VectorCell, BigCell, BlockCell, More, cell_at, placed, is_id_cell, is_str_cell, is_pair_cell, is_vector_cell, is_pair, is_vector, is_str, bytes_of, bytes_in, vector_in, vector_of, words_in, changed_at}
+use Rattle.rl_cells.specs.Cell.{Cell, PairCell, VectorCell, More, cell_at, placed, is_id_cell, is_str_cell, is_pair_cell, is_vector_cell, is_pair, is_vector, is_str, bytes_of, bytes_in, vector_in, vector_of, words_in, changed_at}
 use Rattle.rl_cells.specs.Laws.{IsAdded, IsChanged, SameKind}
 use Rattle.rl_syms.specs.Table.{IsTable, IsNamed, held_in, is_id, name_at}
 use Rattle.rl_syms.specs.Frame.{KeepsBlocks, block_in}

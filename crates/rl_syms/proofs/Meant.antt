@@ -7,7 +7,6 @@ use Rattle.std.proofs.lemmas.Bool.{and_parts}
 use Rattle.std.proofs.Math.Seq.{take-append_seam, get_or-append_seam}
 use Rattle.rl_tags.specs.Tagged.{Tagged, Number, IdAt, StrAt, PairAt, VectorAt, BigAt, FunAt}
 use Rattle.rl_cells.specs.Cell.{Cell, PairCell, StrCell, VectorCell, BigCell, BlockCell, More, IsClosed, cost_of, cell_at, is_live, is_str_cell, is_pair_cell, is_vector_cell, is_big_cell, is_closed_cell, bytes_in, big_in, placed}
-use Rattle.std.proofs.lemmas.Bool.{and_parts as both_of}
 use Rattle.rl_tree.specs.Value.{Value, Int, Str, Ref, Vector, cons_store}
 use Rattle.rl_syms.specs.Contents.{object_count, objects_among, number_at, value_of, object_in, store_of}
 use Rattle.rl_syms.proofs.New.{tested_inside}

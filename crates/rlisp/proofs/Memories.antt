@@ -1,21 +1,18 @@
 -- What adding objects keeps of the memory.
-use Rattle.std.specs.Prelude.{nat_le, cond}
-use Rattle.std.proofs.Common.{◌≡◌, ℕ, ℤ, ◌+◌, ◌-◌, ◌<◌, ◌≤◌, ◌%◌, ◌⊎◌, Bool, true, false, List, [], ◌∷◌, ◌++◌, length, get_or, Option, Some, None, refl, sym, ap, ◌∙◌, arith, zero-add, append_assoc, inl, inr}
+use Rattle.std.proofs.Common.{◌≡◌, ℕ, ℤ, ◌+◌, ◌<◌, ◌⊎◌, Bool, true, false, List, [], ◌++◌, length, Option, Some, refl, sym, ap, ◌∙◌, arith, zero-add, append_assoc, inl, inr}
 use Rattle.std.proofs.lemmas.List.{get_or_append_left, get_or_past, append-nil}
 use Rattle.std.proofs.Math.Seq.{get_or-append_seam}
 use Rattle.std.proofs.lemmas.Bool.{cases_lt}
-use Rattle.rl_tags.specs.Tagged.{Tagged, Number, IdAt, StrAt, PairAt, VectorAt, BigAt, FunAt, tag_of, index_of, number_of, tagged_of}
+use Rattle.rl_tags.specs.Tagged.{Tagged, Number, IdAt, StrAt, PairAt, VectorAt, BigAt, FunAt, tag_of, index_of, number_of}
 use Rattle.rl_tags.specs.declared.Tag.TheVariants as Tag
 use Rattle.rl_tags.specs.declared.names.TheConstants.{OPENING_NAMES}
 use Rattle.rl_tags.specs.Opening.{opening_rows, place_of, name_at as opening_name}
-use Rattle.rl_cells.specs.Cell.{Cell, PairCell, StrCell, VectorCell, BigCell, BlockCell, More, Store, cell_at, placed, grown, is_live, is_pair, is_str, is_id_cell, is_pair_cell, is_str_cell, bytes_of, bytes_in, words_in, car_in, cdr_in, car_of, cdr_of}
-use Rattle.rl_cells.proofs.Kept.{cell_at_new, cell_at_past_new, is_live-append}
-use Rattle.rl_syms.specs.Table.{IsTable, IsNamed, held_in, is_id, name_at}
-use Rattle.rl_syms.specs.Frame.{KeepsBlocks, block_in}
-use Rattle.rl_syms.specs.Laws.{IsKept}
+use Rattle.rl_cells.specs.Cell.{Cell, PairCell, StrCell, VectorCell, BigCell, BlockCell, More, Store, cell_at, placed, grown, is_live, is_pair, is_id_cell, is_pair_cell, car_in, cdr_in, car_of, cdr_of}
+use Rattle.rl_cells.specs.Laws.{IsAdded}
+use Rattle.rl_syms.specs.Table.{IsTable, IsNamed, is_id, name_at}
+use Rattle.rl_syms.specs.Laws.{AreIdentifiers, IsKept, KeepNames, LeaveBlocks}
 use Rattle.rl_syms.specs.Made.{Finds, Enters, new_words}
 use Rattle.rl_syms.specs.Opened.{IsOpened, is_name_cell}
-use Rattle.rl_syms.proofs.Carried.{among_id}
 use Rattle.rl_tree.specs.Tree.{Name, Tree, Int, Id, Pair, nil}
 use Rattle.rlisp.specs.World.{Memory, is_known_in, is_known, tree_among, cell_tree, trees_after, tree_of, tree_in, IsBefore, IsOlderCell, IsIdNamed, IsMemory, Keeps, Stands}
 use Rattle.rlisp.proofs.Trees.{SameNames, tree_among-names, tree_among-after, length-trees_after, trees_after-append, trees_after_at, trees_after-names}
@@ -83,33 +80,6 @@ more_keeps m n is h = record {
   tree = λ v k. tree_stays m.store.cells n.store.cells v is.older h k;
 }
 
--- ---- names stay
-
--- a value that a word holds
-held_is : (w : ℕ) (t : Tagged) → held_in w ≡ Some t → tagged_of w ≡ t
-held_is w t h = go (nat_le (w % 16) 6) h
-  where
-    go : (b : Bool) → cond b (Some (tagged_of w)) None ≡ Some t → tagged_of w ≡ t
-    go true e = cc
-    go false e = absurd (cc)
-
-text_stays : (cells more : List Cell) (v : Tagged) → is_str cells v ≡ true → bytes_of (cells ++ more) v ≡ bytes_of cells v
-text_stays cells more (StrAt k) h = ap bytes_in (get_or_append_left cells more More k (tested_within is_str_cell refl cells k h))
-text_stays cells more (Number z) h = refl
-text_stays cells more (IdAt k) h = refl
-text_stays cells more (PairAt k) h = refl
-text_stays cells more (VectorAt k) h = refl
-text_stays cells more (BigAt k) h = refl
-text_stays cells more (FunAt k) h = refl
-
--- an identifier keeps its name as objects are added
-names_stay : (cells more : List Cell) (head : Option Tagged) → IsTable cells head → SameNames cells (name_at cells) (name_at (cells ++ more))
-names_stay cells more head table k h =
-    let same : cell_at (cells ++ more) k ≡ cell_at cells k = get_or_append_left cells more More k (tested_within is_id_cell refl cells k h) in
-    let n = table.chained.named k h in
-    let is : tagged_of (get_or (words_in (cell_at cells k)) 0 0) ≡ n.text = held_is (get_or (words_in (cell_at cells k)) 0 0) n.text n.is in
-    ap (λ c. bytes_of (cells ++ more) (tagged_of (get_or (words_in c) 0 0))) same ∙ (ap (bytes_of (cells ++ more)) is ∙ (text_stays cells more n.text n.string ∙ ap (bytes_of cells) (sym is)))
-
 -- ---- one object more
 
 -- a pair that is made of older values stays so
@@ -121,12 +91,12 @@ older_stays cells more k (BigCell z) h = tt
 older_stays cells more k (BlockCell t words) h = tt
 older_stays cells more k More h = tt
 
-object_older : (cells : List Cell) (c : Cell) → AreOlderCells cells → IsOlderCell (cells ++ placed c) (length cells) c → AreOlderCells (cells ++ placed c)
-object_older cells c older new k = elim (cases_lt k (length cells)) [
+object_older : IsAdded → (cells : List Cell) (c : Cell) → AreOlderCells cells → IsOlderCell (cells ++ placed c) (length cells) c → AreOlderCells (cells ++ placed c)
+object_older law cells c older new k = elim (cases_lt k (length cells)) [
   | inl l ↦ rw (get_or_append_left cells (placed c) More k l) (older_stays cells (placed c) k (cell_at cells k) (older k))
   | inr l ↦ elim (cases_lt (length cells) k) [
-    | inl m ↦ rw (cell_at_past_new cells c k m) tt
-    | inr m ↦ let e : k ≡ length cells = omega arith in rw (e, cell_at_new cells c) new
+    | inl m ↦ rw (law.past cells c k m) tt
+    | inr m ↦ let e : k ≡ length cells = omega arith in rw (e, law.here cells c) new
   ]
 ]
 
@@ -152,16 +122,16 @@ pub record HasNames (old new : List Cell) : Type 0 where
   pub added : HasMore old new
   pub older : AreOlderCells new
 
-entered_more : (m : Memory) (store : Store) (head : Option Tagged) (name : Name) (v : Tagged) → IsMemory m → Enters m.store store m.head head name v → HasNames m.store.cells store.cells
-entered_more m store head name v is h =
+entered_more : IsAdded → KeepNames → (m : Memory) (store : Store) (head : Option Tagged) (name : Name) (v : Tagged) → IsMemory m → Enters m.store store m.head head name v → HasNames m.store.cells store.cells
+entered_more law stay m store head name v is h =
     let cells = m.store.cells in
     let text = placed (StrCell name) in
     let block = placed (BlockCell Tag.Id (new_words (StrAt (length cells)) (IdAt 2) m.head)) in
     let grows : store.cells ≡ (cells ++ text) ++ block = ap (λ (s : Store). s.cells) h.cells in
     let whole : store.cells ≡ cells ++ (text ++ block) = grows ∙ append_assoc cells text block in
     record {
-      added = record { more = text ++ block; is = whole; names = rw whole (names_stay cells (text ++ block) m.head is.table) };
-      older = rw grows (object_older (cells ++ text) _ (object_older cells (StrCell name) is.older tt) tt);
+      added = record { more = text ++ block; is = whole; names = rw whole (λ k i. stay cells (text ++ block) m.head k is.table i) };
+      older = rw grows (object_older law (cells ++ text) _ (object_older law cells (StrCell name) is.older tt) tt);
     }
 
 pub found_more : (m : Memory) (store : Store) → IsMemory m → store ≡ m.store → HasNames m.store.cells store.cells
@@ -170,9 +140,9 @@ found_more m store is e = rw e (record {
   older = is.older;
 })
 
-pub interned_more : (m : Memory) (store : Store) (head : Option Tagged) (name : Name) (v : Tagged) → IsMemory m → Finds m.store store m.head head name v ⊎ Enters m.store store m.head head name v → HasNames m.store.cells store.cells
-interned_more m store head name v is (inl h) = found_more m store is h.cells
-interned_more m store head name v is (inr h) = entered_more m store head name v is h
+pub interned_more : IsAdded → KeepNames → (m : Memory) (store : Store) (head : Option Tagged) (name : Name) (v : Tagged) → IsMemory m → Finds m.store store m.head head name v ⊎ Enters m.store store m.head head name v → HasNames m.store.cells store.cells
+interned_more law stay m store head name v is (inl h) = found_more m store is h.cells
+interned_more law stay m store head name v is (inr h) = entered_more law stay m store head name v is h
 
 pub interned_memory : (m : Memory) (store : Store) (head : Option Tagged) → IsMemory m → HasNames m.store.cells store.cells → IsTable store.cells head → IsMemory (record { store = store; head = head })
 interned_memory m store head is h table = more_memory m (record { store = store; head = head }) is h.added h.older table
@@ -198,54 +168,38 @@ name_cell_older cells k (BigCell z) h = tt
 name_cell_older cells k (BlockCell t words) h = tt
 name_cell_older cells k More h = tt
 
-opened_id : (cells : List Cell) (head : Option Tagged) (k : ℕ) (name : Name) → IsTable cells head → IsNamed cells head name (IdAt k) → IsIdNamed cells k name
-opened_id cells head k name table named = record { id = among_id cells head k table.chained named.interned.1; name_is = named.name_is }
+opened_id : AreIdentifiers → (cells : List Cell) (head : Option Tagged) (k : ℕ) (name : Name) → IsTable cells head → IsNamed cells head name (IdAt k) → IsIdNamed cells k name
+opened_id law cells head k name table named = record { id = law cells head name (IdAt k) table named; name_is = named.name_is }
 
 -- what opening made is a memory, once the cells are settled
-pub opened_memory : (old new : Store) (head : Option Tagged) → new ≡ record old { count = Some 0 } → IsTable old.cells head
+pub opened_memory : AreIdentifiers → (old new : Store) (head : Option Tagged) → new ≡ record old { count = Some 0 } → IsTable old.cells head
     → ((i : ℕ) → i < OPENING_NAMES → IsNamed old.cells head (opening_name i) (IdAt (place_of i))) → IsOpened old.cells head → IsMemory (record { store = new; head = head })
 unfolding opening_rows
-opened_memory old new head e table names opened = rw e (record {
+opened_memory law old new head e table names opened = rw e (record {
   table = table;
   older = λ k. name_cell_older old.cells k (cell_at old.cells k) (opened.objects k);
-  nil = opened_id old.cells head 2 _ table (names 0 (omega arith));
-  quote = opened_id old.cells head 12 _ table (names 2 (omega arith));
+  nil = opened_id law old.cells head 2 _ table (names 0 (omega arith));
+  quote = opened_id law old.cells head 12 _ table (names 2 (omega arith));
 })
 
 -- ---- a pair more
 
--- a pair leaves strings and blocks as they were
-pair_keeps_blocks : (cells : List Cell) (a d : Tagged) → KeepsBlocks cells (cells ++ placed (PairCell a d))
-pair_keeps_blocks cells a d = record {
-  live = is_live-append cells (placed (PairCell a d));
-  texts = text_stays cells (placed (PairCell a d));
-  blocks = λ k. elim (cases_lt k (length cells)) [
-    | inl l ↦ ap block_in (get_or_append_left cells (placed (PairCell a d)) More k l)
-    | inr l ↦
-        let past : cell_at cells k ≡ More = get_or_past cells k More l in
-        elim (cases_lt (length cells) k) [
-          | inl m ↦ ap block_in (cell_at_past_new cells (PairCell a d) k m) ∙ ap block_in (sym past)
-          | inr m ↦ let e : k ≡ length cells = omega arith in ap (λ j. block_in (cell_at (cells ++ placed (PairCell a d)) j)) e ∙ (ap block_in (cell_at_new cells (PairCell a d)) ∙ ap block_in (sym past))
-        ]
-  ];
-}
+pair_more : KeepNames → (m : Memory) (a d : Tagged) → IsMemory m → HasMore m.store.cells (m.store.cells ++ placed (PairCell a d))
+pair_more stay m a d is = record { more = placed (PairCell a d); is = refl; names = λ k i. stay m.store.cells (placed (PairCell a d)) m.head k is.table i }
 
-pair_more : (m : Memory) (a d : Tagged) → IsMemory m → HasMore m.store.cells (m.store.cells ++ placed (PairCell a d))
-pair_more m a d is = record { more = placed (PairCell a d); is = refl; names = names_stay m.store.cells (placed (PairCell a d)) m.head is.table }
-
-pub grown_memory : (m : Memory) (store : Store) (a d : Tagged) → IsMemory m → is_known m a ≡ true → is_known m d ≡ true → IsKept → store ≡ grown m.store (PairCell a d) → IsMemory (record { store = store; head = m.head })
-grown_memory m store a d is ka kd law e =
+pub grown_memory : IsAdded → KeepNames → LeaveBlocks → IsKept → (m : Memory) (store : Store) (a d : Tagged) → IsMemory m → is_known m a ≡ true → is_known m d ≡ true → store ≡ grown m.store (PairCell a d) → IsMemory (record { store = store; head = m.head })
+grown_memory law stay leave kept m store a d is ka kd e =
     let cells = m.store.cells in
     let new : List Cell = cells ++ placed (PairCell a d) in
     let grows : store.cells ≡ new = ap (λ (s : Store). s.cells) e in
-    let older : AreOlderCells new = object_older cells (PairCell a d) is.older (known_stays cells (placed (PairCell a d)) a ka, known_stays cells (placed (PairCell a d)) d kd, known_before cells a ka, known_before cells d kd) in
-    let table : IsTable new m.head = law.table cells new m.head (pair_keeps_blocks cells a d) is.table in
-    more_memory m (record { store = store; head = m.head }) is (rw grows (pair_more m a d is)) (rw grows older) (rw grows table)
+    let older : AreOlderCells new = object_older law cells (PairCell a d) is.older (known_stays cells (placed (PairCell a d)) a ka, known_stays cells (placed (PairCell a d)) d kd, known_before cells a ka, known_before cells d kd) in
+    let table : IsTable new m.head = kept.table cells new m.head (leave.made cells (PairCell a d) refl) is.table in
+    more_memory m (record { store = store; head = m.head }) is (rw grows (pair_more stay m a d is)) (rw grows older) (rw grows table)
 
-pub grown_keeps : (m : Memory) (store : Store) (a d : Tagged) → IsMemory m → store ≡ grown m.store (PairCell a d) → Keeps m (record { store = store; head = m.head })
-grown_keeps m store a d is e =
+pub grown_keeps : KeepNames → (m : Memory) (store : Store) (a d : Tagged) → IsMemory m → store ≡ grown m.store (PairCell a d) → Keeps m (record { store = store; head = m.head })
+grown_keeps stay m store a d is e =
     let grows : store.cells ≡ m.store.cells ++ placed (PairCell a d) = ap (λ (s : Store). s.cells) e in
-    more_keeps m (record { store = store; head = m.head }) is (rw grows (pair_more m a d is))
+    more_keeps m (record { store = store; head = m.head }) is (rw grows (pair_more stay m a d is))
 
 -- the tree of the newest pair
 pair_tree : (cells : List Cell) (names : ℕ → Name) (a d : Tagged) (first : List Tree) → trees_after names [] cells ≡ first → length first ≡ length cells
@@ -253,23 +207,23 @@ pair_tree : (cells : List Cell) (names : ℕ → Name) (a d : Tagged) (first : L
 pair_tree cells names a d first e long =
     rw (trees_after-append names [] cells (placed (PairCell a d)), e, ← long) (get_or-append_seam first (cell_tree names first (PairCell a d)) [] nil)
 
-new_pair : (m : Memory) (a d : Tagged) → IsMemory m → is_known m a ≡ true → is_known m d ≡ true → tree_of (m.store.cells ++ placed (PairCell a d)) (PairAt (length m.store.cells)) ≡ Pair (tree_of m.store.cells a) (tree_of m.store.cells d)
-new_pair m a d is ka kd =
+new_pair : KeepNames → (m : Memory) (a d : Tagged) → IsMemory m → is_known m a ≡ true → is_known m d ≡ true → tree_of (m.store.cells ++ placed (PairCell a d)) (PairAt (length m.store.cells)) ≡ Pair (tree_of m.store.cells a) (tree_of m.store.cells d)
+new_pair stay m a d is ka kd =
     let cells = m.store.cells in
     let g = name_at (cells ++ placed (PairCell a d)) in
     let f = name_at cells in
     let trees = trees_after f [] cells in
-    let same : SameNames cells f g = names_stay cells (placed (PairCell a d)) m.head is.table in
+    let same : SameNames cells f g = λ k i. stay cells (placed (PairCell a d)) m.head k is.table i in
     let long : length trees ≡ length cells = length-trees_after f [] cells ∙ zero-add (length cells) in
     pair_tree cells g a d trees (trees_same cells (cells ++ placed (PairCell a d)) is.older same) long ∙ rw (tree_among-names cells f g trees a same ka, tree_among-names cells f g trees d same kd) refl
 
-pub grown_stands : (m : Memory) (store : Store) (a d v : Tagged) → IsMemory m → is_known m a ≡ true → is_known m d ≡ true → store ≡ grown m.store (PairCell a d) → v ≡ PairAt (length m.store.cells) → Stands (record { store = store; head = m.head }) v (Pair (tree_in m a) (tree_in m d))
+pub grown_stands : IsAdded → KeepNames → (m : Memory) (store : Store) (a d v : Tagged) → IsMemory m → is_known m a ≡ true → is_known m d ≡ true → store ≡ grown m.store (PairCell a d) → v ≡ PairAt (length m.store.cells) → Stands (record { store = store; head = m.head }) v (Pair (tree_in m a) (tree_in m d))
 unfolding tree_in
-grown_stands m store a d v is ka kd e at =
+grown_stands law stay m store a d v is ka kd e at =
     let grows : store.cells ≡ m.store.cells ++ placed (PairCell a d) = ap (λ (s : Store). s.cells) e in
     record {
-      known = rw (at, grows) (ap is_pair_cell (cell_at_new m.store.cells (PairCell a d)));
-      tree = rw (at, grows) (new_pair m a d is ka kd);
+      known = rw (at, grows) (ap is_pair_cell (law.here m.store.cells (PairCell a d)));
+      tree = rw (at, grows) (new_pair stay m a d is ka kd);
     }
 
 -- ---- what a value is

@@ -1,7 +1,7 @@
 -- What the program's memory stands for: the trees of its values.
 use Rattle.std.specs.Prelude.{◌≡◌, ℕ, ◌<◌, Bool, true, false, List, [], ◌∷◌, ◌++◌, slice_index_or, Option}
 use Rattle.rl_tags.specs.Tagged.{Tagged, Number, IdAt, StrAt, PairAt, VectorAt, BigAt, FunAt}
-use Rattle.rl_cells.specs.Cell.{Cell, PairCell, StrCell, VectorCell, BigCell, BlockCell, More, Store, cell_at, is_id_cell, is_pair_cell}
+use Rattle.rl_cells.specs.Cell.{Cell, PairCell, Store, cell_at, is_id_cell, is_pair_cell}
 use Rattle.rl_syms.specs.Table.{IsTable, name_at}
 use Rattle.rl_tree.specs.Tree.{Name, Tree, Int, Id, Pair, nil, nil_name, quote_name}
 

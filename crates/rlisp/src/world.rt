@@ -7,9 +7,10 @@ ghost use Rattle.rlisp.specs.Looks.{Sees};
 
 use crate::name::Name;
 use rl_cells::Cells;
+use rl_cells::laws::objects_are_added;
 use rl_io::OutOfMemory;
 use rl_syms::Syms;
-use rl_syms::laws::table_is_kept;
+use rl_syms::laws::{names_are_identifiers, names_stay, others_leave_blocks, table_is_kept};
 use rl_tags::{NIL, QUOTE, Tag, Val};
 use std::alloc::Global;
 use std::marker::Model;
@@ -45,6 +46,7 @@ pub(crate) enum Look {
 impl World {
     /// No pairs, and the identifiers of opening.
     pub(crate) fn open(alloc: Global) -> Result<World, OutOfMemory> {
+        names_are_identifiers();
         let mut cells = Cells::new(alloc, CELLS)?;
         let syms = Syms::open(alloc, &mut cells)?;
         cells.settle();
@@ -84,6 +86,8 @@ impl World {
         ensures stands { IfOk result (λ v. Stands self.new v (Id (map raised spelled.now))) }
         ensures keeps { Keeps self.old self.new }
     {
+        objects_are_added();
+        names_stay();
         let name = raised_name(alloc, spelled)?;
         match self.syms.intern(&mut self.cells, &name) {
             Ok(id) => Ok(id),
@@ -98,6 +102,9 @@ impl World {
         ensures stands { IfOk result (λ v. Stands self.new v (Pair (tree_in self.old car) (tree_in self.old cdr))) }
         ensures keeps { Keeps self.old self.new }
     {
+        objects_are_added();
+        names_stay();
+        others_leave_blocks();
         table_is_kept();
         let Ok(pair) = self.cells.cons(car, cdr) else {
             return Err(OutOfMemory);
