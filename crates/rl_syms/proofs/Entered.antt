@@ -90,18 +90,3 @@ chained_empty cells e =
       first = tt;
       distinct = λ j k a b e. absurd a;
     }
-
-pub first_table : IsAdded → (old new : Store) (name : List ℕ) (id : Tagged) → 1 ≤ length name → length name ≤ 255 → old.cells ≡ [] → new ≡ with_id old name (Number (pos 0)) None → id ≡ new_id old name → id ≡ nil_value → IsTable new.cells (Some id)
-first_table law old new name id some short empty made is nil =
-    let t = chained_empty old.cells empty in
-    let fresh = (with_id old name (Number (pos 0)) None).cells in
-    let n = length old.cells + cost_of (StrCell name) in
-    let i = with_id_new law old name (Number (pos 0)) None some short refl tt in
-    let place : n ≡ 2 = ap index_of (sym is ∙ nil) in
-    record {
-      chained = entered_chained law old new None name (Number (pos 0)) id some short refl t (record { other = λ k a. absurd a }) made is;
-      nil = rw made (ap (λ k. is_id_cell (cell_at fresh k)) (sym place) ∙ i.id);
-    }
-
-pub first_named : IsAdded → (old new : Store) (name : List ℕ) (id : Tagged) → 1 ≤ length name → length name ≤ 255 → old.cells ≡ [] → new ≡ with_id old name (Number (pos 0)) None → id ≡ new_id old name → IsNamed new.cells (Some id) name id
-first_named law old new name id some short empty made is = entered_named law old new None name (Number (pos 0)) id some short refl (chained_empty old.cells empty) made is

@@ -1,5 +1,5 @@
 //! The identifiers that opening makes.
-ghost use Rattle.std.specs.Prelude.{◌≡◌, ◌+◌, ◌*◌, ◌<◌, ◌≤◌, ◌∷◌, ◌⊎◌, ℕ, [], List, None, length, IsTrue, IsOk, IfOk, OnOk};
+ghost use Rattle.std.specs.Prelude.{◌≡◌, ◌+◌, ◌<◌, ◌≤◌, ◌∷◌, ◌⊎◌, ℕ, [], List, None, length, IsTrue, IsOk, IfOk, OnOk};
 ghost use Rattle.rl_tags.specs.Tagged.{Tagged, IdAt};
 ghost use Rattle.rl_tags.specs.Opening.{name_at, place_of};
 ghost use Rattle.rl_cells.specs.Cell.{has_room};
@@ -58,15 +58,15 @@ impl Syms {
         }
     }
 
-    /// Interns the names of one byte.
+    /// Interns the names of one byte, behind those.
     fn letters(&mut self, c: &mut Cells)
         requires table { IsTable c.old.cells self.old.head }
         requires opening { IsOpening c.old c.old.bound }
         requires opened { IsOpened c.old.cells self.old.head }
-        requires long { length c.old.cells ≤ 5 * OPENING_NAMES }
+        requires first { HasFirst OPENING_NAMES c.old.cells self.old.head }
         ensures table { IsTable c.new.cells self.new.head }
+        ensures names { (i : ℕ) → i < OPENING_NAMES → IsNamed c.new.cells self.new.head (name_at i) (IdAt (place_of i)) }
         ensures bytes { (b : ℕ) → b < 256 → (id : Tagged) × IsNamed c.new.cells self.new.head (b ∷ []) id }
-        ensures keeps { (bytes : List ℕ) (id : Tagged) → IsNamed c.old.cells self.old.head bytes id → IsNamed c.new.cells self.new.head bytes id }
         ensures opening { IsOpening c.new c.old.bound }
         ensures opened { IsOpened c.new.cells self.new.head }
         ensures made { self.new.made ≡ self.old.made }

@@ -1,5 +1,6 @@
-use Rattle.std.proofs.Common.{◌≡◌, ℕ, ◌+◌, ◌*◌, ◌<◌, ◌≤◌, List, [], ◌∷◌, length}
-use Rattle.rl_tags.specs.Tagged.{Tagged}
+use Rattle.std.proofs.Common.{◌≡◌, ℕ, ◌+◌, ◌*◌, ◌<◌, ◌≤◌, [], ◌∷◌, length}
+use Rattle.rl_tags.specs.Tagged.{Tagged, IdAt}
+use Rattle.rl_tags.specs.Opening.{name_at, place_of}
 use Rattle.rl_tags.specs.declared.names.TheConstants.{OPENING_NAMES}
 use Rattle.rl_syms.specs.Table.{IsTable, IsNamed}
 use Rattle.rl_syms.specs.Made.{IsOpening}
@@ -9,8 +10,8 @@ use Rattle.rl_syms.proofs.table.Syms.letters.Given as goal
 abbrev pub invariant-loop-byte : goal.invariant-loop-byte
 invariant-loop-byte l = record {
   table : IsTable l.c.cells l.self.head;
+  names : (i : ℕ) → i < OPENING_NAMES → IsNamed l.c.cells l.self.head (name_at i) (IdAt (place_of i));
   bytes : (b : ℕ) → b < l.byte → (id : Tagged) × IsNamed l.c.cells l.self.head (b ∷ []) id;
-  keeps : (bytes : List ℕ) (id : Tagged) → IsNamed l.fn.c.cells l.fn.self.head bytes id → IsNamed l.c.cells l.self.head bytes id;
   opening : IsOpening l.c l.fn.c.bound;
   long : length l.c.cells ≤ 5 * (OPENING_NAMES + l.byte);
   opened : IsOpened l.c.cells l.self.head;

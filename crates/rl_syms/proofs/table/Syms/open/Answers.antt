@@ -1,5 +1,3 @@
-use Rattle.rl_tags.specs.Tagged.{IdAt}
-use Rattle.rl_tags.specs.Opening.{name_at, place_of}
 use Rattle.rl_syms.proofs.First.{nil_first, nil_table, nil_opened}
 use Rattle.rl_syms.proofs.table.Syms.open.Goals as goal
 
@@ -11,6 +9,3 @@ constants-requires-clause-opened c = nil_opened c.objects_are_added.ensures c.ar
 
 pub constants-requires-clause-first : goal.constants-requires-clause-first
 constants-requires-clause-first c = nil_first c.objects_are_added.ensures c.args.c.now c.first-id.new.c c.first-id.result c.requires.empty c.first-id.ensures.ok c.first-id.ensures.place
-
-pub returns-clause-names : goal.returns-clause-names
-returns-clause-names c = λ i l. c.letters.ensures.keeps (name_at i) (IdAt (place_of i)) (c.constants.ensures.first.named i l)
