@@ -1,7 +1,7 @@
 -- What a new identifier makes of the table, in the words of the contracts.
-use Rattle.std.proofs.Common.{◌≡◌, ℕ, ◌+◌, ◌≤◌, true, List, [], ◌∷◌, length, pos, arith, Option, Some, None, refl, sym, ap, ◌∙◌, inl, inr}
+use Rattle.std.proofs.Common.{◌≡◌, ℕ, ◌+◌, ◌≤◌, true, List, [], ◌∷◌, length, arith, Option, Some, None, refl, sym, ap, ◌∙◌, inl, inr}
 use Rattle.std.specs.Prelude.{IsSome}
-use Rattle.rl_tags.specs.Tagged.{Tagged, Number, IdAt, index_of, word_of}
+use Rattle.rl_tags.specs.Tagged.{Tagged, IdAt, index_of, word_of}
 use Rattle.rl_cells.specs.Cell.{Cell, Store, StrCell, cost_of, cell_at, is_id_cell}
 use Rattle.rl_cells.specs.Laws.{IsAdded}
 use Rattle.rl_syms.specs.Table.{IsChained, IsTable, IsNamed, IsFree, IsLink, ids_from, held_in, rank_of, nil_value}
