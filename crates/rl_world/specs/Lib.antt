@@ -1,0 +1,6 @@
+pub mod Waiting
+pub mod Counts
+pub mod Levels
+pub mod Output
+pub mod Input
+pub mod Errors

@@ -1,0 +1,68 @@
+//! The texts of system errors, as strings that opening makes.
+ghost use Rattle.std.specs.Prelude.{◌≡◌, ◌+◌, ◌*◌, ◌<◌, ◌≤◌, [], length, slice_index_or, IsTrue};
+ghost use Rattle.rl_cells.specs.Cell.{bytes_of, is_str};
+ghost use Rattle.rl_syms.specs.Frame.{KeepsBlocks};
+ghost use Rattle.rl_syms.specs.Made.{IsOpening};
+ghost use Rattle.rl_world.specs.Errors.{AreTexts, error_texts};
+
+use rl_cells::Cells;
+use rl_cells::laws::objects_are_added;
+use rl_syms::laws::others_leave_blocks;
+use rl_tags::Val;
+
+/// How many system errors there are, from number 10 on.
+pub(crate) const ERRORS: usize = 14;
+
+/// The text of the error of this number less 10.
+fn text_bytes(i: usize) -> &'static [u8]
+    requires { i < 14 }
+    ensures { result.now ≡ slice_index_or error_texts i [] }
+{
+    match i {
+        0 => b"is unbound",
+        1 => b"is not defined",
+        2 => b"has a wrong number of arguments",
+        3 => b"is of a wrong type",
+        4 => b"is out of range",
+        5 => b"overflows",
+        6 => b"has a zero divisor",
+        7 => b"is misplaced",
+        8 => b"is badly formed",
+        9 => b"may not be bound or set",
+        10 => b"is a system name",
+        11 => b"cannot be written",
+        12 => b"cannot be loaded",
+        _ => b"is the byte where the text is unreadable",
+    }
+}
+
+/// The strings of all texts, in cells that opening has just begun to take.
+pub(crate) fn make_texts(c: &mut Cells) -> [Val; ERRORS]
+    requires opening { IsOpening c.old c.old.bound }
+    requires long { length c.old.cells ≤ 2115 }
+    ensures texts { AreTexts c.new.cells result 14 }
+    ensures keeps { KeepsBlocks c.old.cells c.new.cells }
+    ensures opening { IsOpening c.new c.old.bound }
+{
+    let mut texts = [Val::small(0); ERRORS];
+    for i in 0..ERRORS {
+        texts[i] = make_text(c, i);
+    }
+    texts
+}
+
+/// The string of one text.
+fn make_text(c: &mut Cells, i: usize) -> Val
+    requires error { i < 14 }
+    requires opening { IsOpening c.old c.old.bound }
+    requires long { length c.old.cells ≤ 2115 + 4 * i }
+    ensures string { IsTrue (is_str c.new.cells result) }
+    ensures text { bytes_of c.new.cells result ≡ slice_index_or error_texts i [] }
+    ensures keeps { KeepsBlocks c.old.cells c.new.cells }
+    ensures opening { IsOpening c.new c.old.bound }
+    ensures long { length c.new.cells ≤ 2115 + 4 * (i + 1) }
+{
+    objects_are_added();
+    others_leave_blocks();
+    c.string(text_bytes(i)).unwrap()
+}

@@ -1,0 +1,114 @@
+//! What comes in and goes out.
+ghost use Rattle.std.specs.Prelude.{◌≡◌, ◌≢◌, ◌⊎◌, ◌∷◌, ◌++◌, None, [], Err, OnOk, OnErr, IfOk, IfErr};
+ghost use Rattle.rl_io.specs.Faults.{Rose};
+ghost use Rattle.rl_io.specs.Told.{WhereTold};
+ghost use Rattle.rl_world.specs.Input.{Gives, given_after, with_back};
+ghost use Rattle.rl_world.specs.Output.{column_after};
+ghost use Rattle.rl_world.specs.Waiting.{Follows, IsCutOff};
+ghost use Rattle.rl_world.specs.declared.stop.Stop.TheVariants as stop;
+
+use crate::stop::Stop;
+use crate::world::World;
+use rl_io::{Files, Io, Sink, Source};
+
+impl World {
+    /// Prints a byte, and writes what waits when it is 4,096 bytes. After `Stop::Write` a front of what waited, with the byte,
+    /// may have been written, and none waits.
+    pub fn put_byte<I: Source, O: Sink, N: Sink, F: Files>(
+        &mut self,
+        b: u8,
+        io: &mut Io<'_, I, O, N, F>,
+    ) -> Result<(), Stop>
+        ensures ok { OnOk result (Follows (O.contents io.old.out.now) self.old.output.waiting (O.contents io.new.out.now) self.new.output.waiting (b ∷ [])) }
+        ensures front { OnErr result (IsCutOff (O.contents io.old.out.now) (O.contents io.new.out.now) (self.old.output.waiting ++ b ∷ [])) }
+        ensures dropped { OnErr result (self.new.output.waiting ≡ []) }
+        ensures stop { IfErr result (λ s. s ≡ stop.Write) }
+        ensures failed { OnErr result (Rose (O.faults io.old.out.now) (O.faults io.new.out.now)) }
+        ensures steady { OnOk result (O.faults io.new.out.now ≡ O.faults io.old.out.now) }
+        ensures world { self.new ≡ record self.old { output = record self.old.output { waiting = self.new.output.waiting; column = column_after b self.old.output.column } } }
+        ensures rest { io.new ≡ record io.old { out = io.new.out } }
+    {
+        match self.output.put(b, io.out) {
+            Ok(()) => Ok(()),
+            Err(_) => Err(Stop::Write),
+        }
+    }
+
+    /// Adds a byte to the notes, and writes those that wait when they are 4,096 bytes. After `Stop::Write` a front of them may
+    /// have been written, and none waits.
+    pub fn note_byte<I: Source, O: Sink, N: Sink, F: Files>(
+        &mut self,
+        b: u8,
+        io: &mut Io<'_, I, O, N, F>,
+    ) -> Result<(), Stop>
+        ensures ok { OnOk result (Follows (N.contents io.old.notes.now) self.old.notes (N.contents io.new.notes.now) self.new.notes (b ∷ [])) }
+        ensures front { OnErr result (IsCutOff (N.contents io.old.notes.now) (N.contents io.new.notes.now) (self.old.notes ++ b ∷ [])) }
+        ensures dropped { OnErr result (self.new.notes ≡ []) }
+        ensures stop { IfErr result (λ s. s ≡ stop.Write) }
+        ensures failed { OnErr result (Rose (N.faults io.old.notes.now) (N.faults io.new.notes.now)) }
+        ensures steady { OnOk result (N.faults io.new.notes.now ≡ N.faults io.old.notes.now) }
+        ensures world { self.new ≡ record self.old { notes = self.new.notes } }
+        ensures rest { io.new ≡ record io.old { notes = io.new.notes } }
+    {
+        match self.notes.put(b, io.notes) {
+            Ok(()) => Ok(()),
+            Err(_) => Err(Stop::Write),
+        }
+    }
+
+    /// Writes what waits: first what was printed, and then the notes. After `Stop::Write` a front of each may have been
+    /// written, and none waits.
+    pub fn flush<I: Source, O: Sink, N: Sink, F: Files>(
+        &mut self,
+        io: &mut Io<'_, I, O, N, F>,
+    ) -> Result<(), Stop>
+        ensures printed { OnOk result (Follows (O.contents io.old.out.now) self.old.output.waiting (O.contents io.new.out.now) [] []) }
+        ensures noted { OnOk result (Follows (N.contents io.old.notes.now) self.old.notes (N.contents io.new.notes.now) [] []) }
+        ensures printed_front { IsCutOff (O.contents io.old.out.now) (O.contents io.new.out.now) self.old.output.waiting }
+        ensures noted_front { IsCutOff (N.contents io.old.notes.now) (N.contents io.new.notes.now) self.old.notes }
+        ensures stop { IfErr result (λ s. s ≡ stop.Write) }
+        ensures failed { OnErr result (Rose (O.faults io.old.out.now) (O.faults io.new.out.now) ⊎ Rose (N.faults io.old.notes.now) (N.faults io.new.notes.now)) }
+        ensures steady_out { OnOk result (O.faults io.new.out.now ≡ O.faults io.old.out.now) }
+        ensures steady_notes { OnOk result (N.faults io.new.notes.now ≡ N.faults io.old.notes.now) }
+        ensures world { self.new ≡ record self.old { output = record self.old.output { waiting = [] }; notes = [] } }
+        ensures rest { io.new ≡ record io.old { out = io.new.out; notes = io.new.notes } }
+    {
+        let printed = self.output.flush(io.out);
+        let noted = self.notes.flush(io.notes);
+        if printed.is_ok() && noted.is_ok() {
+            Ok(())
+        } else {
+            Err(Stop::Write)
+        }
+    }
+
+    /// Writes what was printed and waits, and takes the next byte of the input, None where there is none. After `Stop::Write` a
+    /// front of what waited may have been written, none waits, and the input is as before; after `Stop::Read` all that waited
+    /// is written, and the place in the input is as before.
+    pub fn input_byte<I: Source, O: Sink, N: Sink, F: Files>(
+        &mut self,
+        io: &mut Io<'_, I, O, N, F>,
+    ) -> Result<Option<u8>, Stop>
+        ensures gives { IfOk result (λ b. WhereTold (I.left io.old.input.now) (I.left io.new.input.now) (λ before now. Gives (with_back self.old.input.back before) now b)) }
+        ensures place { IfOk result (λ b. self.new.input ≡ record { back = None; given = given_after b self.old.input.given }) }
+        ensures printed { result ≢ Err stop.Write → Follows (O.contents io.old.out.now) self.old.output.waiting (O.contents io.new.out.now) [] [] }
+        ensures printed_front { IsCutOff (O.contents io.old.out.now) (O.contents io.new.out.now) self.old.output.waiting }
+        ensures stop { IfErr result (λ s. (s ≡ stop.Write) ⊎ (s ≡ stop.Read)) }
+        ensures err { OnErr result (self.new.input ≡ self.old.input) }
+        ensures write_failed { result ≡ Err stop.Write → Rose (O.faults io.old.out.now) (O.faults io.new.out.now) }
+        ensures read_failed { result ≡ Err stop.Read → Rose (I.faults io.old.input.now) (I.faults io.new.input.now) }
+        ensures steady_out { result ≢ Err stop.Write → O.faults io.new.out.now ≡ O.faults io.old.out.now }
+        ensures steady_input { result ≢ Err stop.Read → I.faults io.new.input.now ≡ I.faults io.old.input.now }
+        ensures unread { result ≡ Err stop.Write → io.new.input.now ≡ io.old.input.now }
+        ensures world { self.new ≡ record self.old { output = record self.old.output { waiting = [] }; input = self.new.input } }
+        ensures rest { io.new ≡ record io.old { input = io.new.input; out = io.new.out } }
+    {
+        if self.output.flush(io.out).is_err() {
+            return Err(Stop::Write);
+        }
+        match self.input.next(io.input) {
+            Ok(b) => Ok(b),
+            Err(_) => Err(Stop::Read),
+        }
+    }
+}
