@@ -1,30 +1,25 @@
 //! The world of a run.
-ghost use Rattle.std.specs.Prelude.{◌≡◌, ◌≢◌, ◌↔◌, ◌⊎◌, ◌+◌, ◌-◌, ◌^◌, ◌<◌, ◌≤◌, ◌∷◌, ◌++◌, ℕ, None, Some, [], List, length, min, slice_index_or, Ok, Err, IsTrue, IfOk, IfErr, OnOk, OnErr};
-ghost use Rattle.rl_io.specs.Faults.{Rose};
-ghost use Rattle.rl_io.specs.Told.{WhereTold};
+ghost use Rattle.std.specs.Prelude.{◌≡◌, ◌↔◌, ◌+◌, ◌-◌, ◌^◌, ◌<◌, ◌≤◌, ◌∷◌, ℕ, None, Some, [], length, min, IsTrue, IfOk, IfErr, OnOk};
 ghost use Rattle.rl_tags.specs.Tagged.{Tagged, IdAt};
 ghost use Rattle.rl_tags.specs.Opening.{name_at, place_of};
 ghost use Rattle.rl_tags.specs.declared.names.TheConstants.{OPENING_NAMES};
-ghost use Rattle.rl_cells.specs.Cell.{bytes_of, has_room, is_str, used_of};
-ghost use Rattle.rl_syms.specs.Table.{IsTable, IsNamed};
+ghost use Rattle.rl_cells.specs.Cell.{bytes_of, cell_at, is_id_cell, is_str, used_of};
+ghost use Rattle.rl_syms.specs.Table.{IsTable, IsNamed, symbol_at};
 ghost use Rattle.rl_syms.specs.Made.{IsOpening};
+ghost use Rattle.rl_syms.specs.Opened.{IsBlank};
 ghost use Rattle.rl_world.specs.Counts.{aside_of, begun, counts_at_opening, ended, rejoined, room_stop, roomed, set_aside, tick_stop, ticked};
 ghost use Rattle.rl_world.specs.Errors.{AreTexts, error_text};
-ghost use Rattle.rl_world.specs.Input.{Gives, given_after, with_back};
 ghost use Rattle.rl_world.specs.Levels.{enter_stop};
-ghost use Rattle.rl_world.specs.Output.{column_after};
-ghost use Rattle.rl_world.specs.Waiting.{Follows, IsCutOff};
-ghost use Rattle.rl_world.specs.declared.stop.Stop.TheVariants as stop;
 
 use crate::buffer::Buffer;
 use crate::counts::{Aside, Counts};
-use crate::errors::{ERRORS, make_texts};
+use crate::errors::make_texts;
 use crate::input::Input;
 use crate::levels::Levels;
 use crate::output::Output;
 use crate::stop::{Limits, Stop};
 use rl_cells::Cells;
-use rl_io::{Files, Io, OutOfMemory, Sink, Source};
+use rl_io::OutOfMemory;
 use rl_syms::Syms;
 use rl_syms::laws::table_is_kept;
 use rl_tags::Val;
@@ -52,6 +47,51 @@ pub struct Apart {
 }
 
 impl World {
+    /// A world in opening, with these bounds: the identifiers that opening makes, and the texts of errors as strings.
+    /// `OutOfMemory` if there is no memory for it.
+    pub fn open(alloc: Global, limits: Limits) -> Result<World, OutOfMemory>
+        requires cells { limits.cells ≤ 64000000 }
+        requires nest { limits.nest ≤ 500000 }
+        ensures table { IfOk result (λ w. IsTable w.cells.cells w.syms.head) }
+        ensures names { IfOk result (λ w. (i : ℕ) → i < OPENING_NAMES → IsNamed w.cells.cells w.syms.head (name_at i) (IdAt (place_of i))) }
+        ensures bytes { IfOk result (λ w. (b : ℕ) → b < 256 → (id : Tagged) × IsNamed w.cells.cells w.syms.head (b ∷ []) id) }
+        ensures blank { IfOk result (λ w. (k : ℕ) → IsTrue (is_id_cell (cell_at w.cells.cells k)) → IsBlank (symbol_at w.cells.cells k)) }
+        ensures made { IfOk result (λ w. w.syms.made ≡ 0) }
+        ensures opening { IfOk result (λ w. IsOpening w.cells limits.cells) }
+        ensures texts { IfOk result (λ w. AreTexts w.cells.cells w.texts 14) }
+        ensures counts { IfOk result (λ w. w.counts ≡ counts_at_opening limits.turns limits.cells) }
+        ensures levels { IfOk result (λ w. w.levels ≡ record { bound = limits.nest; level = 0; walk = []; aside = None }) }
+        ensures output { IfOk result (λ w. w.output ≡ record { waiting = []; column = 0; line_length = 80 }) }
+        ensures notes { IfOk result (λ w. w.notes ≡ []) }
+        ensures input { IfOk result (λ w. w.input ≡ record { back = None; given = 0 }) }
+    {
+        table_is_kept();
+        let mut cells = Cells::new(alloc, limits.cells)?;
+        let syms = Syms::open(alloc, &mut cells)?;
+        let texts = make_texts(&mut cells);
+        Ok(World {
+            cells,
+            syms,
+            counts: Counts::new(limits.turns, limits.cells),
+            levels: Levels::new(alloc, limits.nest)?,
+            output: Output::new(),
+            notes: Buffer::new(),
+            input: Input::new(),
+            texts,
+        })
+    }
+
+    /// The string of the text of a system error, from 10 to 23, in a world that has the texts.
+    pub fn error_text(&self, n: u8) -> Val
+        requires some { 10 ≤ n }
+        requires few { n ≤ 23 }
+        requires texts { AreTexts self.now.cells.cells self.now.texts 14 }
+        ensures string { IsTrue (is_str self.now.cells.cells result) }
+        ensures text { bytes_of self.now.cells.cells result ≡ error_text n }
+    {
+        self.texts[n as usize - 10]
+    }
+
     /// Ends the opening: from here on turns and cells count.
     pub fn opened(&mut self)
         requires { self.old.cells.count ≡ None }
