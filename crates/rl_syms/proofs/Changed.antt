@@ -1,17 +1,14 @@
 -- What a change of one object does to the meaning of cells.
-use Rattle.std.proofs.Common.{◌≡◌, ℕ, zero, suc, ◌+◌, ◌-◌, ◌<◌, true, List, [], ◌∷◌, ◌++◌, length, map, take, set, refl, sym, ap, ◌∙◌, arith}
-use Rattle.std.specs.Prelude.{◌==◌}
+use Rattle.std.proofs.Common.{◌≡◌, ℕ, zero, suc, ◌+◌, ◌-◌, true, List, [], ◌∷◌, ◌++◌, map, set, refl, sym, ap, ◌∙◌, arith}
 use Rattle.std.specs.List.{flat_map}
 use Rattle.std.proofs.Math.Path.{fun_ext}
 use Rattle.std.proofs.lemmas.List.{map-set, set-append_right}
-use Rattle.std.proofs.lemmas.List.Folds.{length-flat_map-take}
 use Rattle.rl_tags.specs.Tagged.{Tagged, Number, IdAt, StrAt, PairAt, VectorAt, BigAt, FunAt, index_of}
-use Rattle.rl_cells.specs.Cell.{Cell, PairCell, VectorCell, BlockCell, More, cell_at, is_pair_cell, is_vector_cell, is_pair, is_vector, bytes_in, big_in, vector_in, vector_of, car_in, cdr_in, car_of, cdr_of, block_with, changed_at}
+use Rattle.rl_cells.specs.Cell.{Cell, PairCell, VectorCell, BlockCell, cell_at, is_pair_cell, is_vector_cell, is_pair, is_vector, bytes_in, big_in, vector_in, vector_of, car_in, cdr_in, car_of, cdr_of, block_with, changed_at}
 use Rattle.rl_tree.specs.Value.{Value, Int, Str, Ref, Object, Pair, Vector}
 use Rattle.rl_syms.specs.Contents.{object_count, number_at, value_of, object_in, store_of}
 use Rattle.rl_syms.specs.Laws.{MeansSame, ChangesObject}
-use Rattle.rl_syms.proofs.New.{tested_inside}
-use Rattle.rl_syms.proofs.Meant.{one_object, objects_counted}
+use Rattle.rl_syms.proofs.Meant.{one_object, number_within}
 
 -- two cells that no value tells apart
 record IsAlike (c d : Cell) : Type 0 where
@@ -85,15 +82,6 @@ one_changed f (x ∷ cells) (suc k) c o n is =
     ap (λ os. object_in f x ++ os) (one_changed f cells k c o n is)
     ∙ ap (λ j. object_in f x ++ set rest j o) (let e : r ≡ (m + r) - m = omega arith in e)
     ∙ sym (set-append_right (object_in f x) rest m (m + r) o (one_object f x) (omega arith))
-
-number_within : (cells : List Cell) (k : ℕ) → object_count (cell_at cells k) ≡ 1 → number_at cells k < length (store_of cells)
-number_within cells k n =
-    let f = value_of cells in
-    let inside = tested_inside (λ c. object_count c == 1) refl cells k (rw n refl) in
-    let most = length-flat_map-take (object_in f) cells k More inside in
-    let before = objects_counted f (take k cells) in
-    let one = one_object f (cell_at cells k) in
-    omega (arith, most, before, one, n)
 
 changes : (cells : List Cell) (k : ℕ) (c : Cell) (o : Object) → IsAlike c (cell_at cells k) → object_count c ≡ 1 → object_in (value_of cells) c ≡ o ∷ [] → ChangesObject cells (set cells k c) (number_at cells k) o
 changes cells k c o a n is =

@@ -1,14 +1,18 @@
--- What a new object does to the meaning of cells.
-use Rattle.std.proofs.Common.{◌≡◌, ℕ, zero, suc, ◌-◌, Bool, true, List, [], ◌∷◌, ◌++◌, length, map, replicate, refl, sym, ap, ◌∙◌, arith, length-append, append-nil}
+-- The objects that cells mean, and what a new one does to that meaning.
+use Rattle.std.proofs.Common.{◌≡◌, ℕ, zero, suc, ◌+◌, ◌-◌, ◌<◌, ◌==◌, Bool, true, List, [], ◌∷◌, ◌++◌, length, map, take, replicate, get_or, slice_get, Some, refl, sym, ap, ◌∙◌, arith, length-append, append-nil}
 use Rattle.std.specs.List.{flat_map, list_all}
 use Rattle.std.proofs.lemmas.List.{get_or_append_left, take-append-le}
+use Rattle.std.proofs.lemmas.List.Concat.{get_or-flat_map}
+use Rattle.std.proofs.lemmas.List.Folds.{length-flat_map-take}
+use Rattle.std.proofs.lemmas.Option.{slice_get-get_or}
 use Rattle.std.proofs.lemmas.Grind.{flat_map-append}
 use Rattle.std.proofs.lemmas.Bool.{and_parts}
 use Rattle.std.proofs.Math.Seq.{take-append_seam, get_or-append_seam}
 use Rattle.rl_tags.specs.Tagged.{Tagged, Number, IdAt, StrAt, PairAt, VectorAt, BigAt, FunAt}
-use Rattle.rl_cells.specs.Cell.{Cell, PairCell, StrCell, VectorCell, BigCell, BlockCell, More, IsClosed, cost_of, cell_at, is_live, is_str_cell, is_pair_cell, is_vector_cell, is_big_cell, is_closed_cell, bytes_in, big_in, placed}
-use Rattle.rl_tree.specs.Value.{Value, Int, Str, Ref, Vector, cons_store}
+use Rattle.rl_cells.specs.Cell.{Cell, PairCell, StrCell, VectorCell, BigCell, BlockCell, More, IsClosed, cost_of, cell_at, is_live, is_str_cell, is_pair_cell, is_vector_cell, is_big_cell, is_closed_cell, is_pair, is_vector, bytes_in, big_in, car_in, cdr_in, vector_in, car_of, cdr_of, vector_of, placed}
+use Rattle.rl_tree.specs.Value.{Value, Int, Str, Ref, Object, Pair, Vector, cons_store}
 use Rattle.rl_syms.specs.Contents.{object_count, objects_among, number_at, value_of, object_in, store_of}
+use Rattle.rl_syms.specs.Laws.{RefersTo}
 use Rattle.rl_syms.proofs.New.{tested_inside}
 
 number_stays : (cells more : List Cell) (k : ℕ) (test : Cell → Bool) → test More ≡ Bool.false → test (cell_at cells k) ≡ true → number_at (cells ++ more) k ≡ number_at cells k
@@ -51,6 +55,50 @@ one_object f More = refl
 pub objects_counted : (f : Tagged → Value) (cells : List Cell) → length (flat_map (object_in f) cells) ≡ objects_among cells
 objects_counted f [] = refl
 objects_counted f (c ∷ cs) = length-append (object_in f c) (flat_map (object_in f) cs) ∙ rw (one_object f c, objects_counted f cs) refl
+
+object_inside : (cells : List Cell) (k : ℕ) → object_count (cell_at cells k) ≡ 1 → k < length cells
+object_inside cells k n = tested_inside (λ c. object_count c == 1) refl cells k (rw n refl)
+
+-- the number of an object is one of the store
+pub number_within : (cells : List Cell) (k : ℕ) → object_count (cell_at cells k) ≡ 1 → number_at cells k < length (store_of cells)
+number_within cells k n =
+    let f = value_of cells in
+    let most = length-flat_map-take (object_in f) cells k More (object_inside cells k n) in
+    let before = objects_counted f (take k cells) in
+    let one = one_object f (cell_at cells k) in
+    omega (arith, most, before, one, n)
+
+-- an object stands at its number
+object_stands : (cells : List Cell) (k : ℕ) (o : Object) → object_in (value_of cells) (cell_at cells k) ≡ o ∷ [] → slice_get (store_of cells) (number_at cells k) ≡ Some o
+object_stands cells k o is =
+    let f = value_of cells in
+    let some : length (object_in f (cell_at cells k)) ≡ 1 = ap length is in
+    let one : object_count (cell_at cells k) ≡ 1 = sym (one_object f (cell_at cells k)) ∙ some in
+    let before : number_at cells k ≡ length (flat_map (object_in f) (take k cells)) + 0 = omega (arith, objects_counted f (take k cells)) in
+    slice_get-get_or (store_of cells) (number_at cells k) o (number_within cells k one)
+    ∙ ap Some (ap (λ r. get_or (store_of cells) r o) before ∙ get_or-flat_map (object_in f) cells k 0 More o (object_inside cells k one) (omega (arith, some)) ∙ ap (λ os. get_or os 0 o) is)
+
+pair_in : (f : Tagged → Value) (c : Cell) → is_pair_cell c ≡ true → object_in f c ≡ Pair (f (car_in c)) (f (cdr_in c)) ∷ []
+pair_in f (PairCell a d) h = refl
+pair_in f c h = cc
+
+vector_inside : (f : Tagged → Value) (c : Cell) → is_vector_cell c ≡ true → object_in f c ≡ Vector (map f (vector_in c)) ∷ []
+vector_inside f (VectorCell xs) h = refl
+vector_inside f c h = cc
+
+pub pair_read : (cells : List Cell) (p : Tagged) → is_pair cells p ≡ true → RefersTo cells p (Pair (value_of cells (car_of cells p)) (value_of cells (cdr_of cells p)))
+pair_read cells (PairAt k) h =
+    let c = cell_at cells k in
+    let f = value_of cells in
+    record { value = refl; stands = object_stands cells k (Pair (f (car_in c)) (f (cdr_in c))) (pair_in f c h) }
+pair_read cells p h = cc
+
+pub vector_read : (cells : List Cell) (v : Tagged) → is_vector cells v ≡ true → RefersTo cells v (Vector (map (value_of cells) (vector_of cells v)))
+vector_read cells (VectorAt k) h =
+    let c = cell_at cells k in
+    let f = value_of cells in
+    record { value = refl; stands = object_stands cells k (Vector (map f (vector_in c))) (vector_inside f c h) }
+vector_read cells v h = cc
 
 -- the cells after the first of a new object begin none
 rest_empty : (f : Tagged → Value) (n : ℕ) → flat_map (object_in f) (replicate n More) ≡ []

@@ -1,10 +1,10 @@
 -- The meaning of cells, tried on examples: each side computes to the other.
 use Rattle.std.proofs.Common.{◌≡◌, List, ◌++◌, [], ◌∷◌, pos, set, refl}
-use Rattle.std.specs.Prelude.{codes}
+use Rattle.std.specs.Prelude.{codes, slice_get, Some, None}
 use Rattle.rl_tags.specs.Tagged.{Number, IdAt, StrAt, PairAt, VectorAt}
 use Rattle.rl_cells.specs.Cell.{Cell, PairCell, StrCell, VectorCell, placed, changed_at, cdr_of, vector_of}
 use Rattle.rl_tree.specs.Value.{Int, Id, Str, Ref, Pair, Vector, new_value, cons_store, cons_value, vector_store, changed_store}
-use Rattle.rl_syms.specs.Contents.{value_of, store_of}
+use Rattle.rl_syms.specs.Contents.{number_at, value_of, store_of}
 
 -- (1 . "ab") is made after its string, and is the first object
 pub pair_of_string : store_of (placed (StrCell (codes "ab")) ++ placed (PairCell (Number (pos 1)) (StrAt 0))) ≡ Pair (Int (pos 1)) (Str (codes "ab")) ∷ []
@@ -60,3 +60,21 @@ place_changed = refl
 
 pub place_is_putv : store_of held_changed ≡ changed_store (store_of held) 1 (Vector (Ref 0 ∷ Ref 0 ∷ []))
 place_is_putv = refl
+
+-- a pair is read at its number, behind the pair that was made before it
+pub pair_referred : value_of shared (PairAt 3) ≡ Ref 1
+pair_referred = refl
+
+pub pair_read : slice_get (store_of shared) (number_at shared 3) ≡ Some (Pair (Ref 0) (Int (pos 3)))
+pair_read = refl
+
+-- and so is a vector
+pub vector_referred : value_of held (VectorAt 1) ≡ Ref 1
+vector_referred = refl
+
+pub vector_read : slice_get (store_of held) (number_at held 1) ≡ Some (Vector (Ref 0 ∷ Id 2 ∷ []))
+vector_read = refl
+
+-- no object has the number of the next place
+pub none_read : slice_get (store_of held) (number_at held 4) ≡ None
+none_read = refl

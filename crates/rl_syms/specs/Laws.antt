@@ -1,9 +1,9 @@
 -- What the crates above may say of the table, and of what cells mean.
-use Rattle.std.specs.Prelude.{◌≡◌, ℕ, ℤ, ◌<◌, true, List, ◌++◌, length, map, slice_set, Option, None}
+use Rattle.std.specs.Prelude.{◌≡◌, ℕ, ℤ, ◌<◌, true, List, ◌++◌, length, map, slice_get, slice_set, Option, Some, None}
 use Rattle.std.specs.List.{list_all}
 use Rattle.rl_tags.specs.Tagged.{Tagged, StrAt, PairAt, VectorAt, BigAt, index_of}
 use Rattle.rl_cells.specs.Cell.{Cell, PairCell, StrCell, VectorCell, BigCell, IsClosed, is_live, is_id_cell, is_pair, is_vector, car_of, cdr_of, vector_of, cell_at, block_with, changed_at, placed}
-use Rattle.rl_tree.specs.Value.{Int, Str, Object, Pair, Vector, new_value, cons_store, cons_value, vector_store, changed_store}
+use Rattle.rl_tree.specs.Value.{Int, Str, Ref, Object, Pair, Vector, new_value, cons_store, cons_value, vector_store, changed_store}
 use Rattle.rl_syms.specs.Contents.{object_count, number_at, value_of, store_of}
 use Rattle.rl_syms.specs.Table.{IsTable, IsNamed, is_id, name_at, symbol_at}
 use Rattle.rl_syms.specs.Frame.{KeepsBlocks, block_in}
@@ -64,3 +64,13 @@ pub record IsChanged : Type 0 where
   pub place : (cells : List Cell) (v x : Tagged) (i : ℕ) → is_vector cells v ≡ true
       → ChangesObject cells (changed_at cells v (VectorCell (slice_set (vector_of cells v) i x))) (number_at cells (index_of v)) (Vector (slice_set (map (value_of cells) (vector_of cells v)) i (value_of cells x)))
   pub word : (cells : List Cell) (b : Tagged) (i w : ℕ) → MeansSame cells (changed_at cells b (block_with (cell_at cells (index_of b)) i w))
+
+-- a value refers to the object of its number, and this is the one that the store has there
+pub record RefersTo (cells : List Cell) (v : Tagged) (object : Object) : Type 0 where
+  pub value : value_of cells v ≡ Ref (number_at cells (index_of v))
+  pub stands : slice_get (store_of cells) (number_at cells (index_of v)) ≡ Some object
+
+-- a pair refers to the pair of what its car and cdr mean, and a vector to the vector of what its values mean
+pub record IsRead : Type 0 where
+  pub pair : (cells : List Cell) (p : Tagged) → is_pair cells p ≡ true → RefersTo cells p (Pair (value_of cells (car_of cells p)) (value_of cells (cdr_of cells p)))
+  pub vector : (cells : List Cell) (v : Tagged) → is_vector cells v ≡ true → RefersTo cells v (Vector (map (value_of cells) (vector_of cells v)))

@@ -1,5 +1,5 @@
 //! Laws of the table, and of what cells mean. A law is the contract of a function that does nothing.
-ghost use Rattle.rl_syms.specs.Laws.{AreIdentifiers, IsChanged, IsDistinct, IsKept, IsMade, KeepNames, LeaveBlocks};
+ghost use Rattle.rl_syms.specs.Laws.{AreIdentifiers, IsChanged, IsDistinct, IsKept, IsMade, IsRead, KeepNames, LeaveBlocks};
 
 use rl_cells::laws::{objects_are_added, objects_are_changed};
 
@@ -43,4 +43,10 @@ pub fn meaning_of_making()
 /// and every value means what it meant.
 pub fn meaning_of_change()
     ensures { IsChanged }
+{}
+
+/// A pair or a vector of cells refers to the object of its number in the store that they mean: the pair of what its car
+/// and cdr mean, or the vector of what its values mean.
+pub fn meaning_of_reading()
+    ensures { IsRead }
 {}

@@ -1,5 +1,5 @@
 //! The identifiers that opening makes.
-ghost use Rattle.std.specs.Prelude.{◌≡◌, ◌+◌, ◌<◌, ◌≤◌, ◌∷◌, ◌⊎◌, ℕ, [], List, None, length, IsTrue, IsOk, IfOk, OnOk};
+ghost use Rattle.std.specs.Prelude.{◌≡◌, ◌+◌, ◌*◌, ◌<◌, ◌≤◌, ◌∷◌, ◌⊎◌, ℕ, [], List, None, length, IsTrue, IsOk, IfOk, OnOk};
 ghost use Rattle.rl_tags.specs.Tagged.{Tagged, IdAt};
 ghost use Rattle.rl_tags.specs.Opening.{name_at, place_of};
 ghost use Rattle.rl_cells.specs.Cell.{has_room};
@@ -17,7 +17,8 @@ use std::alloc::Global;
 impl Syms {
     /// The table of names, with the identifiers that opening makes, in cells that nothing was taken from: each name that
     /// has a constant is that value, and all names of one byte are interned, and no others. They have neither value nor
-    /// definition, and NIL as their property list. No other objects are made. It takes no memory, so it never fails.
+    /// definition, and NIL as their property list. No other objects are made. It takes 2,115 cells at most, five for each
+    /// name, and no memory, so it never fails.
     pub fn open(_alloc: Global, c: &mut Cells) -> Result<Syms, OutOfMemory>
         requires empty { c.old.cells ≡ [] }
         requires opening { IsOpening c.old c.old.bound }
@@ -28,6 +29,7 @@ impl Syms {
         ensures made { IfOk result (λ s. s.made ≡ 0) }
         ensures opening { OnOk result (IsOpening c.new c.old.bound) }
         ensures opened { IfOk result (λ s. IsOpened c.new.cells s.head) }
+        ensures long { length c.new.cells ≤ 2115 }
     {
         rl_cells::laws::objects_are_added();
         let id = first(c);
@@ -69,6 +71,7 @@ impl Syms {
         ensures bytes { (b : ℕ) → b < 256 → (id : Tagged) × IsNamed c.new.cells self.new.head (b ∷ []) id }
         ensures opening { IsOpening c.new c.old.bound }
         ensures opened { IsOpened c.new.cells self.new.head }
+        ensures long { length c.new.cells ≤ 5 * (OPENING_NAMES + 256) }
         ensures made { self.new.made ≡ self.old.made }
     {
         for byte in 0..256u32 {
