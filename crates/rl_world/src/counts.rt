@@ -146,7 +146,8 @@ impl Counts {
         ensures stop { IfErr result (λ s. room_stop self.old used cost ≡ Some s) }
         ensures err { IfErr result (λ s. self.new ≡ self.old) }
     {
-        let fits = self.aside.is_some() || u64::from(used) + u64::from(cost) <= u64::from(self.cells_bound);
+        let fits = self.aside.is_some()
+            || u64::from(used) + u64::from(cost) <= u64::from(self.cells_bound);
         let Some(e) = self.outermost else {
             return if fits { Ok(()) } else { Err(Stop::Cells) };
         };
