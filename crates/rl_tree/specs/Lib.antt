@@ -5,6 +5,8 @@ pub mod Token
 pub mod Text
 pub mod Reading
 pub mod Printed
+pub mod Atoms
+pub mod Printing
 pub mod Evaluation
 pub mod Shown
 pub mod Meaning

@@ -1,7 +1,7 @@
 //! What is printed: the bytes that wait, the column, and the line length.
 ghost use Rattle.std.specs.Prelude.{◌≡◌, ◌≤◌, [], ◌∷◌, ◌++◌, OnOk, OnErr};
 ghost use Rattle.rl_io.specs.Faults.{Rose};
-ghost use Rattle.rl_world.specs.Output.{column_after};
+ghost use Rattle.rl_tree.specs.Printing.{column_with};
 ghost use Rattle.rl_world.specs.Waiting.{Follows, IsCutOff};
 
 use crate::buffer::Buffer;
@@ -49,7 +49,7 @@ impl Output {
         ensures ok { OnOk result (Follows (S.contents sink.old) self.old.waiting (S.contents sink.new) self.new.waiting (b ∷ [])) }
         ensures front { OnErr result (IsCutOff (S.contents sink.old) (S.contents sink.new) (self.old.waiting ++ b ∷ [])) }
         ensures dropped { OnErr result (self.new.waiting ≡ []) }
-        ensures page { self.new ≡ record self.old { waiting = self.new.waiting; column = column_after b self.old.column } }
+        ensures page { self.new ≡ record self.old { waiting = self.new.waiting; column = column_with self.old.column b } }
         ensures steady { OnOk result (S.faults sink.new ≡ S.faults sink.old) }
         ensures failed { OnErr result (Rose (S.faults sink.old) (S.faults sink.new)) }
     {

@@ -3,7 +3,7 @@ ghost use Rattle.std.specs.Prelude.{◌≡◌, ◌≢◌, ◌⊎◌, ◌∷◌, 
 ghost use Rattle.rl_io.specs.Faults.{Rose};
 ghost use Rattle.rl_io.specs.Told.{WhereTold};
 ghost use Rattle.rl_world.specs.Input.{Gives, given_after, with_back};
-ghost use Rattle.rl_world.specs.Output.{column_after};
+ghost use Rattle.rl_tree.specs.Printing.{column_with};
 ghost use Rattle.rl_world.specs.Waiting.{Follows, IsCutOff};
 ghost use Rattle.rl_world.specs.declared.stop.Stop.TheVariants as stop;
 
@@ -25,7 +25,7 @@ impl World {
         ensures stop { IfErr result (λ s. s ≡ stop.Write) }
         ensures failed { OnErr result (Rose (O.faults io.old.out.now) (O.faults io.new.out.now)) }
         ensures steady { OnOk result (O.faults io.new.out.now ≡ O.faults io.old.out.now) }
-        ensures world { self.new ≡ record self.old { output = record self.old.output { waiting = self.new.output.waiting; column = column_after b self.old.output.column } } }
+        ensures world { self.new ≡ record self.old { output = record self.old.output { waiting = self.new.output.waiting; column = column_with self.old.output.column b } } }
         ensures rest { io.new ≡ record io.old { out = io.new.out } }
     {
         match self.output.put(b, io.out) {

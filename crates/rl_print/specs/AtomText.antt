@@ -1,0 +1,1 @@
+-- What is still to be written of an atom's text.

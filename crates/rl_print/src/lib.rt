@@ -1,0 +1,6 @@
+//! PRIN1 and PRIN2.
+#![tactic(auto)]
+
+mod atom;
+
+pub use atom::bare;
