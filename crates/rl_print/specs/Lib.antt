@@ -1,1 +1,3 @@
 pub mod AtomText
+pub mod Counted
+pub mod Walk

@@ -2,5 +2,7 @@
 #![tactic(auto)]
 
 mod atom;
+mod print;
+mod walk;
 
 pub use atom::bare;

@@ -1,0 +1,119 @@
+-- Where printing stands: what comes next, and what waits behind it, each in the pair or vector round the one before.
+use Rattle.std.specs.Prelude.{◌≡◌, ◌≢◌, ℕ, zero, suc, ◌-◌, ◌%◌, ◌≤◌, ◌==◌, Bool, true, false, if◌then◌else◌, List, [], ◌∷◌, ◌++◌, length, map, take, drop, Option, Some, None}
+use Rattle.std.specs.List.{AllByRecursion}
+use Rattle.rl_tags.specs.Tagged.{Tagged, tagged_of, index_of}
+use Rattle.rl_tags.specs.Ids.{nil_id}
+use Rattle.rl_cells.specs.Cell.{Cell, is_live, is_vector, vector_of}
+use Rattle.rl_syms.specs.Table.{IsTable, name_at}
+use Rattle.rl_syms.specs.Contents.{value_of, store_of}
+use Rattle.rl_tree.specs.Value.{Value}
+use Rattle.rl_tree.specs.Atoms as atoms
+use Rattle.rl_tree.specs.Printing.{Setting, Progress, Ending, Whole, Printer, marked, and_then, places_printed, value_printed, rest_printed, job_printed}
+use Rattle.rl_world.specs.Levels.{Levels}
+use Rattle.rl_world.specs.Waiting.{Follows, IsCutOff}
+use Rattle.rl_world.specs.declared.world.World.{World}
+use Rattle.rl_print.specs.Counted.{turns_left}
+use Rattle.rl_print.specs.declared.walk.Cursor.{Cursor}
+use Rattle.rl_print.specs.declared.walk.Cursor.TheVariants as cursor
+use Rattle.rl_print.specs.declared.walk.State.{State}
+use Rattle.rl_print.specs.declared.walk.State.TheVariants as state
+
+-- printing, whatever the turns that are left
+unfoldable pub whole : Setting → Printer
+whole g job levels p = job_printed g (suc p.turns) job levels p
+
+-- the rest of a list; or the values of a vector that are still to come, whether they are all of them, and whether `)` stands behind its end
+pub data Place : Type 0 where
+  Rest : Value → Place
+  Places : Bool → List Value → Bool → Place
+
+abbrev pub closed : Bool → Progress → Progress
+closed true p = marked (41 ∷ []) p
+closed false p = p
+
+-- what is printed from a place on
+abbrev pub place_printed : Setting → Place → ℕ → Progress → Progress
+place_printed g (Rest d) levels p = rest_printed g (whole g) d levels p
+place_printed g (Places first xs dotted) levels p = and_then (places_printed (whole g) first xs levels p) (closed dotted)
+
+-- and from several, each of which leaves a level
+abbrev pub all_printed : Setting → List Place → ℕ → Progress → Progress
+all_printed g [] levels p = p
+all_printed g (c ∷ cs) levels p = and_then (place_printed g c levels p) (all_printed g cs (suc levels))
+
+-- an element, and then these places
+abbrev pub element_printed : Setting → Value → List Place → ℕ → Progress → Progress
+element_printed g v places levels p = and_then (value_printed g (whole g) true v levels p) (all_printed g places levels)
+
+-- ---- in a world
+
+abbrev pub place_in : List Cell → Cursor → Place
+place_in cells (cursor.Rest d) = Rest (value_of cells d)
+place_in cells (cursor.Places v i dotted) = Places (i == 0) (drop i (map (value_of cells) (vector_of cells v))) dotted
+
+-- what three words of a walk keep
+abbrev pub kept_place : List Cell → ℕ × ℕ × ℕ → Place
+kept_place cells t = if t.0 == 0 then Rest (value_of cells (tagged_of t.1)) else Places (t.2 == 0) (drop t.2 (map (value_of cells) (vector_of cells (tagged_of t.1)))) (t.0 == 2)
+
+-- the words of a walk that printing keeps, above those that were there
+abbrev pub kept_above : ℕ → Levels → List (ℕ × ℕ × ℕ)
+kept_above base levels = take (length levels.walk - base) levels.walk
+
+abbrev pub waiting_places : World → ℕ → List Place
+waiting_places w base = map (kept_place w.cells.cells) (kept_above base w.levels)
+
+abbrev pub levels_left : World → ℕ
+levels_left w = w.levels.bound - w.levels.level
+
+abbrev pub setting_in : atoms.Style → World → Setting
+setting_in style w = record { style = style; names = name_at w.cells.cells; nil = index_of nil_id; store = store_of w.cells.cells; line_length = w.output.line_length }
+
+-- how far printing is, with this text printed so far
+abbrev pub progress_in : World → List ℕ → Progress
+progress_in w text = record { page = record { text = text; column = w.output.column }; turns = turns_left w.counts; ending = Whole }
+
+-- what the whole comes to from here on
+abbrev pub meaning : atoms.Style → World → ℕ → Option State → List ℕ → Progress
+meaning style w base None text = progress_in w text
+meaning style w base (Some (state.Element v c)) text = element_printed (setting_in style w) (value_of w.cells.cells v) (place_in w.cells.cells c ∷ waiting_places w base) (levels_left w) (progress_in w text)
+meaning style w base (Some (state.Next c)) text = all_printed (setting_in style w) (place_in w.cells.cells c ∷ waiting_places w base) (levels_left w) (progress_in w text)
+
+-- it stops here
+abbrev pub stopped : World → Ending → List ℕ → Progress
+stopped w ending text = record (progress_in w text) { ending = ending }
+
+-- some bytes were printed, and the whole comes to the same
+pub record Prints (before now : Option (List ℕ)) (waited waiting : List ℕ) (old new : List ℕ → Progress) : Type 0 where
+  pub bytes : List ℕ
+  pub follows : Follows before waited now waiting bytes
+  pub means : (text : List ℕ) → old text ≡ new (text ++ bytes)
+
+-- a front of what waited and of the whole came to the sink
+pub record Cuts (before now : Option (List ℕ)) (waited : List ℕ) (old : List ℕ → Progress) : Type 0 where
+  pub bytes : List ℕ
+  pub cut : IsCutOff before now (waited ++ bytes)
+  pub more : (text : List ℕ) → (rest : List ℕ) × ((old text).page.text ≡ (text ++ bytes) ++ rest)
+
+-- ---- what may be printed
+
+abbrev pub IsCursor : List Cell → Cursor → Type 0
+IsCursor cells (cursor.Rest d) = is_live cells d ≡ true
+IsCursor cells (cursor.Places v i dotted) = (is_vector cells v ≡ true) × (i ≤ length (vector_of cells v))
+
+-- what is printed next is live, and so is what waits behind it
+abbrev pub IsState : List Cell → State → Type 0
+IsState cells (state.Element v c) = (is_live cells v ≡ true) × IsCursor cells c
+IsState cells (state.Next c) = IsCursor cells c
+
+-- three words that keep the rest of a list, or a place in a vector
+pub record IsKept (cells : List Cell) (t : ℕ × ℕ × ℕ) : Type 0 where
+  pub kind : t.0 ≤ 2
+  pub tagged : t.1 % 16 ≤ 6
+  pub rest : t.0 ≡ 0 → is_live cells (tagged_of t.1) ≡ true
+  pub places : t.0 ≢ 0 → (is_vector cells (tagged_of t.1) ≡ true) × (t.2 ≤ length (vector_of cells (tagged_of t.1)))
+
+-- names are a table, and of the words of the walk those above the base were kept by printing
+pub record IsReady (w : World) (base : ℕ) : Type 0 where
+  pub table : IsTable w.cells.cells w.syms.head
+  pub above : base ≤ length w.levels.walk
+  pub kept : AllByRecursion (IsKept w.cells.cells) (kept_above base w.levels)

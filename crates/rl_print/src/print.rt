@@ -1,0 +1,1 @@
+//! PRIN1 and PRIN2, over the walk of the world.
