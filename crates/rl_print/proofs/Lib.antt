@@ -1,3 +1,4 @@
 pub mod After
 pub mod Turns
 pub mod Steps
+pub mod Kept

@@ -1,5 +1,5 @@
 -- Where printing stands: what comes next, and what waits behind it, each in the pair or vector round the one before.
-use Rattle.std.specs.Prelude.{◌≡◌, ◌≢◌, ℕ, zero, suc, ◌-◌, ◌%◌, ◌≤◌, ◌==◌, Bool, true, false, if◌then◌else◌, List, [], ◌∷◌, ◌++◌, length, map, take, drop, Option, Some, None}
+use Rattle.std.specs.Prelude.{◌≡◌, ◌≢◌, ℕ, zero, suc, ◌+◌, ◌-◌, ◌%◌, ◌≤◌, ◌==◌, Bool, true, false, if◌then◌else◌, List, [], ◌∷◌, ◌++◌, length, map, take, drop, Option, Some, None}
 use Rattle.std.specs.List.{AllByRecursion}
 use Rattle.rl_tags.specs.Tagged.{Tagged, tagged_of, index_of}
 use Rattle.rl_tags.specs.Ids.{nil_id}
@@ -8,13 +8,16 @@ use Rattle.rl_syms.specs.Table.{IsTable, name_at}
 use Rattle.rl_syms.specs.Contents.{value_of, store_of}
 use Rattle.rl_tree.specs.Value.{Value}
 use Rattle.rl_tree.specs.Atoms as atoms
-use Rattle.rl_tree.specs.Printing.{Setting, Progress, Ending, Whole, Printer, marked, and_then, places_printed, value_printed, rest_printed, job_printed}
+use Rattle.rl_tree.specs.Printing.{Setting, Progress, Ending, Whole, Printer, marked, with_atom_of, and_then, places_printed, value_printed, dotted_atom, rest_printed, job_printed}
 use Rattle.rl_world.specs.Levels.{Levels}
 use Rattle.rl_world.specs.Waiting.{Follows, IsCutOff}
 use Rattle.rl_world.specs.declared.world.World.{World}
 use Rattle.rl_print.specs.Counted.{turns_left}
 use Rattle.rl_print.specs.declared.walk.Cursor.{Cursor}
 use Rattle.rl_print.specs.declared.walk.Cursor.TheVariants as cursor
+use Rattle.rl_print.specs.AtomText.{is_atom}
+use Rattle.rl_print.specs.declared.walk.Piece.{Piece}
+use Rattle.rl_print.specs.declared.walk.Piece.TheVariants as piece
 use Rattle.rl_print.specs.declared.walk.State.{State}
 use Rattle.rl_print.specs.declared.walk.State.TheVariants as state
 
@@ -72,11 +75,20 @@ setting_in style w = record { style = style; names = name_at w.cells.cells; nil 
 abbrev pub progress_in : World → List ℕ → Progress
 progress_in w text = record { page = record { text = text; column = w.output.column }; turns = turns_left w.counts; ending = Whole }
 
--- what the whole comes to from here on
+-- what is printed at once: a mark, an atom, or a dot, an atom and `)`
+abbrev pub shown : Setting → List Cell → Piece → Progress → Progress
+shown g cells (piece.Mark bytes) p = marked bytes.now p
+shown g cells (piece.Atom v) p = with_atom_of g (value_of cells v) p
+shown g cells (piece.Dotted v) p = dotted_atom g (value_of cells v) p
+
+-- what the whole comes to from a state on
+abbrev pub continued : atoms.Style → World → ℕ → Option State → Progress → Progress
+continued style w base None p = p
+continued style w base (Some (state.Element v c)) p = element_printed (setting_in style w) (value_of w.cells.cells v) (place_in w.cells.cells c ∷ waiting_places w base) (levels_left w) p
+continued style w base (Some (state.Next c)) p = all_printed (setting_in style w) (place_in w.cells.cells c ∷ waiting_places w base) (levels_left w) p
+
 abbrev pub meaning : atoms.Style → World → ℕ → Option State → List ℕ → Progress
-meaning style w base None text = progress_in w text
-meaning style w base (Some (state.Element v c)) text = element_printed (setting_in style w) (value_of w.cells.cells v) (place_in w.cells.cells c ∷ waiting_places w base) (levels_left w) (progress_in w text)
-meaning style w base (Some (state.Next c)) text = all_printed (setting_in style w) (place_in w.cells.cells c ∷ waiting_places w base) (levels_left w) (progress_in w text)
+meaning style w base next text = continued style w base next (progress_in w text)
 
 -- it stops here
 abbrev pub stopped : World → Ending → List ℕ → Progress
@@ -117,3 +129,21 @@ pub record IsReady (w : World) (base : ℕ) : Type 0 where
   pub table : IsTable w.cells.cells w.syms.head
   pub above : base ≤ length w.levels.walk
   pub kept : AllByRecursion (IsKept w.cells.cells) (kept_above base w.levels)
+
+-- what comes next may be printed; or nothing does, and nothing waits
+abbrev pub IsNext : World → ℕ → Option State → Type 0
+IsNext w base None = length w.levels.walk ≡ base
+IsNext w base (Some s) = IsState w.cells.cells s
+
+-- what may be printed at once
+abbrev pub IsPiece : List Cell → Piece → Type 0
+IsPiece cells (piece.Mark bytes) = Unit {0}
+IsPiece cells (piece.Atom v) = is_atom cells v ≡ true
+IsPiece cells (piece.Dotted v) = is_atom cells v ≡ true
+
+-- levels are entered and left together with what a walk keeps, above the base alone
+pub record IsSteady (base : ℕ) (old new : Levels) : Type 0 where
+  pub below : drop (length new.walk - base) new.walk ≡ drop (length old.walk - base) old.walk
+  pub level : new.level + length old.walk ≡ old.level + length new.walk
+  pub bound : new.bound ≡ old.bound
+  pub aside : new.aside ≡ old.aside

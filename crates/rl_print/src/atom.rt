@@ -8,3 +8,10 @@ pub fn bare(first: bool, b: u8) -> bool
 {
     b.is_ascii_uppercase() || !b.is_ascii() || !first && (b.is_ascii_digit() || b == b'_')
 }
+
+/// PRIN1, so that a text is read as the value; or PRIN2, the bytes alone.
+#[derive(Clone, Copy, Debug, PartialEq, Eq)]
+pub enum Style {
+    Prin1,
+    Prin2,
+}

@@ -1,8 +1,8 @@
 //! PRIN1 and PRIN2.
 #![tactic(auto)]
 
+mod advance;
 mod atom;
-mod print;
 mod walk;
 
-pub use atom::bare;
+pub use atom::{Style, bare};

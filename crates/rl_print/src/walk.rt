@@ -16,3 +16,11 @@ pub(crate) enum State {
     Element(Val, Cursor),
     Next(Cursor),
 }
+
+/// What is printed at once: a mark, an atom, or a dot, an atom and `)`.
+#[derive(Clone, Copy)]
+pub(crate) enum Piece<'a> {
+    Mark(&'a [u8]),
+    Atom(Val),
+    Dotted(Val),
+}

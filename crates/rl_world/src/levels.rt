@@ -96,6 +96,8 @@ impl Levels {
     pub(crate) fn pop(&mut self) -> (u64, u64, u64)
         requires { 1 ≤ length self.old.walk }
         ensures popped { self.old.walk ≡ result ∷ self.new.walk }
+        ensures within { self.old.level ≤ self.old.bound }
+        ensures entered { 1 ≤ self.old.level }
         ensures left { self.new ≡ record self.old { level = self.old.level - 1; walk = self.new.walk } }
     {
         self.kept -= 1;

@@ -259,6 +259,8 @@ impl World {
     pub fn walk_pop(&mut self) -> (u64, u64, u64)
         requires { 1 ≤ length self.old.levels.walk }
         ensures popped { self.old.levels.walk ≡ result ∷ self.new.levels.walk }
+        ensures within { self.old.levels.level ≤ self.old.levels.bound }
+        ensures entered { 1 ≤ self.old.levels.level }
         ensures left { self.new ≡ record self.old { levels = record self.old.levels { level = self.old.levels.level - 1; walk = self.new.levels.walk } } }
     {
         self.levels.pop()

@@ -1,0 +1,91 @@
+//! One step of printing: what it does to turns, levels and the walk, and what is to be printed.
+ghost use Rattle.std.specs.Prelude.{◌≡◌, ◌+◌, ◌-◌, ◌%◌, ◌≤◌, ◌<◌, ◌∷◌, ℕ, List, None, Some, length, IsTrue, IfOk, IfErr, OnOk};
+ghost use Rattle.rl_cells.specs.Cell.{Cell, is_live, is_pair, is_vector, vector_of};
+ghost use Rattle.rl_tree.specs.Atoms as atoms;
+ghost use Rattle.rl_tree.specs.Printing.{Ending, NoTurn, Progress, TooDeep};
+ghost use Rattle.rl_world.specs.Counts.{ticked};
+ghost use Rattle.rl_print.specs.AtomText.{style_of};
+ghost use Rattle.rl_print.specs.Counted.{IsStop, IsTicked, turns_left};
+ghost use Rattle.rl_print.specs.Walk.{IsCursor, IsKept, IsNext, IsPiece, IsReady, IsState, IsSteady, all_printed, continued, kept_place, levels_left, meaning, place_in, progress_in, setting_in, shown, stopped, waiting_places};
+ghost use Rattle.rl_world.specs.declared.stop.Stop.TheVariants as stop;
+ghost use Rattle.rl_print.specs.declared.walk.Cursor.TheVariants as cursor;
+ghost use Rattle.rl_print.specs.declared.walk.State.TheVariants as state;
+
+use crate::atom::Style;
+use crate::walk::{Cursor, Piece, State};
+use rl_tags::{NIL, Tag, Val};
+use rl_world::{Stop, World};
+
+/// Takes a turn.
+fn turn(w: &mut World) -> Result<(), Stop>
+    ensures taken { OnOk result (turns_left w.old.counts ≡ turns_left w.new.counts + 1) }
+    ensures ticked { IsTicked w.old.counts w.new.counts }
+    ensures world { w.new ≡ record w.old { counts = w.new.counts } }
+    ensures none { IfErr result (λ s. turns_left w.old.counts ≡ 0) }
+    ensures stop { IfErr result (λ s. IsStop w.old.counts NoTurn s) }
+    ensures err { IfErr result (λ s. w.new ≡ w.old) }
+{
+    w.tick()
+}
+
+/// Enters a level and keeps what waits behind an element.
+fn push(w: &mut World, _base: u64, c: Cursor) -> Result<(), Stop>
+    requires ready { IsReady w.old _base }
+    requires cursor { IsCursor w.old.cells.cells c }
+    ensures places { OnOk result (waiting_places w.new _base ≡ place_in w.old.cells.cells c ∷ waiting_places w.old _base) }
+    ensures levels { OnOk result (levels_left w.old ≡ levels_left w.new + 1) }
+    ensures ready { IsReady w.new _base }
+    ensures steady { IsSteady _base w.old.levels w.new.levels }
+    ensures world { w.new ≡ record w.old { levels = w.new.levels } }
+    ensures none { IfErr result (λ s. levels_left w.old ≡ 0) }
+    ensures stop { IfErr result (λ s. s ≡ stop.Depth) }
+    ensures err { IfErr result (λ s. w.new ≡ w.old) }
+{
+    let (kind, word, i) = words_of(c);
+    match w.walk_push(kind, word, i) {
+        Ok(()) => Ok(()),
+        Err(s) => Err(s),
+    }
+}
+
+/// The three words that keep what waits.
+fn words_of(c: Cursor) -> (u64, u64, u64)
+    ensures place { (cells : List Cell) → kept_place cells result ≡ place_in cells c }
+    ensures kept { (cells : List Cell) → IsCursor cells c → IsKept cells result }
+{
+    match c {
+        Cursor::Rest(d) => (0, d.word(), 0),
+        Cursor::Places(v, i, dotted) => (if dotted { 2 } else { 1 }, v.word(), i),
+    }
+}
+
+/// What three words keep.
+fn cursor_of(kind: u64, word: u64, i: u64) -> Cursor
+    requires tagged { word % 16 ≤ 6 }
+    requires kind { kind ≤ 2 }
+    ensures place { (cells : List Cell) → place_in cells result ≡ kept_place cells (kind, word, i) }
+    ensures cursor { (cells : List Cell) → IsKept cells (kind, word, i) → IsCursor cells result }
+{
+    let v = Val::read(word).unwrap();
+    match kind {
+        0 => Cursor::Rest(v),
+        1 => Cursor::Places(v, i, false),
+        _ => Cursor::Places(v, i, true),
+    }
+}
+
+/// What waits comes next, and its level is left; or nothing waits.
+fn pop(w: &mut World, base: u64) -> Option<State>
+    requires ready { IsReady w.old base }
+    ensures next { IsNext w.new base result }
+    ensures means { (style : atoms.Style) (p : Progress) → continued style w.new base result p ≡ all_printed (setting_in style w.old) (waiting_places w.old base) (levels_left w.old + 1) p }
+    ensures ready { IsReady w.new base }
+    ensures steady { IsSteady base w.old.levels w.new.levels }
+    ensures world { w.new ≡ record w.old { levels = w.new.levels } }
+{
+    if w.walk_len() == base {
+        return None;
+    }
+    let (kind, word, i) = w.walk_pop();
+    Some(State::Next(cursor_of(kind, word, i)))
+}
