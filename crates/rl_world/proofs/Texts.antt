@@ -1,8 +1,8 @@
 -- Strings stay as other objects are made.
-use Rattle.std.proofs.Common.{◌≡◌, ℕ, ◌+◌, ◌<◌, ◌≤◌, true, false, List, [], length, get_or, set, refl, sym, ap, ◌∙◌, arith, inl, inr}
+use Rattle.std.proofs.Common.{◌≡◌, ℕ, ◌+◌, ◌<◌, true, List, [], length, get_or, set, refl, ◌∙◌, arith, inl, inr}
 use Rattle.std.proofs.lemmas.Bool.{cases_lt}
 use Rattle.std.proofs.lemmas.List.{get_or-set_same, get_or-set_other}
-use Rattle.rl_tags.specs.Tagged.{Tagged, Number, IdAt, StrAt, PairAt, VectorAt, BigAt, FunAt}
+use Rattle.rl_tags.specs.Tagged.{Tagged, StrAt}
 use Rattle.rl_cells.specs.Cell.{Cell, is_str, bytes_of}
 use Rattle.rl_syms.specs.Frame.{KeepsBlocks}
 use Rattle.rl_world.specs.Errors.{AreTexts, error_texts}

@@ -1,4 +1,4 @@
-use Rattle.std.proofs.Common.{◌≡◌, ◌∙◌, length, set, refl, arith}
+use Rattle.std.proofs.Common.{◌∙◌, set, refl, arith}
 use Rattle.std.proofs.lemmas.List.{length-set}
 use Rattle.rl_world.proofs.Texts.{keeps_refl, keeps_trans, texts_more, texts_none}
 use Rattle.rl_world.proofs.errors.make_texts.Goals as goal
