@@ -2,3 +2,4 @@ pub mod After
 pub mod Turns
 pub mod Steps
 pub mod Kept
+pub mod Reached

@@ -1,5 +1,5 @@
 -- Where printing stands: what comes next, and what waits behind it, each in the pair or vector round the one before.
-use Rattle.std.specs.Prelude.{◌≡◌, ◌≢◌, ℕ, zero, suc, ◌+◌, ◌-◌, ◌%◌, ◌≤◌, ◌==◌, Bool, true, false, if◌then◌else◌, List, [], ◌∷◌, ◌++◌, length, map, take, drop, Option, Some, None}
+use Rattle.std.specs.Prelude.{◌≡◌, ◌≢◌, ℕ, zero, suc, ◌+◌, ◌-◌, ◌*◌, ◌<◌, ◌%◌, ◌≤◌, ◌==◌, Bool, true, false, if◌then◌else◌, List, [], ◌∷◌, ◌++◌, length, map, take, drop, Option, Some, None}
 use Rattle.std.specs.List.{AllByRecursion}
 use Rattle.rl_tags.specs.Tagged.{Tagged, tagged_of, index_of}
 use Rattle.rl_tags.specs.Ids.{nil_id}
@@ -12,7 +12,8 @@ use Rattle.rl_tree.specs.Printing.{Setting, Progress, Ending, Whole, Printer, ma
 use Rattle.rl_world.specs.Levels.{Levels}
 use Rattle.rl_world.specs.Waiting.{Follows, IsCutOff}
 use Rattle.rl_world.specs.declared.world.World.{World}
-use Rattle.rl_print.specs.Counted.{turns_left}
+use Rattle.rl_world.specs.declared.stop.Stop.{Stop}
+use Rattle.rl_print.specs.Counted.{IsStop, IsTicked, turns_left}
 use Rattle.rl_print.specs.declared.walk.Cursor.{Cursor}
 use Rattle.rl_print.specs.declared.walk.Cursor.TheVariants as cursor
 use Rattle.rl_print.specs.AtomText.{is_atom}
@@ -147,3 +148,35 @@ pub record IsSteady (base : ℕ) (old new : Levels) : Type 0 where
   pub level : new.level + length old.walk ≡ old.level + length new.walk
   pub bound : new.bound ≡ old.bound
   pub aside : new.aside ≡ old.aside
+
+-- ---- a step
+
+-- of the world only turns, levels and what a walk keeps have changed
+pub record IsWorldOf (base : ℕ) (old new : World) : Type 0 where
+  pub world : new ≡ record old { counts = new.counts; levels = new.levels }
+  pub ticked : IsTicked old.counts new.counts
+  pub steady : IsSteady base old.levels new.levels
+
+abbrev pub state_weight : Option State → ℕ
+state_weight None = 0
+state_weight (Some (state.Element v c)) = 6
+state_weight (Some (state.Next (cursor.Rest d))) = 3
+state_weight (Some (state.Next (cursor.Places v i dotted))) = 1
+
+-- more than the steps that are left
+abbrev pub weight : World → Option State → ℕ
+weight w next = 10 * turns_left w.counts + 4 * length w.levels.walk + state_weight next
+
+-- a piece is to be printed, and then it goes on with the next state
+pub record Advances (base : ℕ) (old new : World) (at : Option State) (piece : Piece) (next : Option State) : Type 0 where
+  pub means : (style : atoms.Style) (text : List ℕ) → meaning style old base at text ≡ continued style new base next (shown (setting_in style new) new.cells.cells piece (progress_in new text))
+  pub ready : IsReady new base
+  pub next_is : IsNext new base next
+  pub piece_is : IsPiece new.cells.cells piece
+  pub less : weight new next < weight old at
+
+-- it ends here, for want of a turn or of a level
+pub record Ends (base : ℕ) (old new : World) (at : Option State) (s : Stop) : Type 0 where
+  pub ending : Ending
+  pub is_stop : IsStop old.counts ending s
+  pub means : (style : atoms.Style) (text : List ℕ) → meaning style old base at text ≡ stopped new ending text

@@ -1,18 +1,19 @@
 //! One step of printing: what it does to turns, levels and the walk, and what is to be printed.
-ghost use Rattle.std.specs.Prelude.{◌≡◌, ◌+◌, ◌-◌, ◌%◌, ◌≤◌, ◌<◌, ◌∷◌, ℕ, List, None, Some, length, IsTrue, IfOk, IfErr, OnOk};
+ghost use Rattle.std.specs.Prelude.{◌≡◌, ◌+◌, ◌-◌, ◌*◌, ◌%◌, ◌≤◌, ◌<◌, ◌∷◌, ℕ, List, None, Some, length, IsTrue, IfOk, IfErr, OnOk};
 ghost use Rattle.rl_cells.specs.Cell.{Cell, is_live, is_pair, is_vector, vector_of};
 ghost use Rattle.rl_tree.specs.Atoms as atoms;
 ghost use Rattle.rl_tree.specs.Printing.{Ending, NoTurn, Progress, TooDeep};
 ghost use Rattle.rl_world.specs.Counts.{ticked};
-ghost use Rattle.rl_print.specs.AtomText.{style_of};
+ghost use Rattle.rl_print.specs.AtomText.{is_atom, style_of};
 ghost use Rattle.rl_print.specs.Counted.{IsStop, IsTicked, turns_left};
-ghost use Rattle.rl_print.specs.Walk.{IsCursor, IsKept, IsNext, IsPiece, IsReady, IsState, IsSteady, all_printed, continued, kept_place, levels_left, meaning, place_in, progress_in, setting_in, shown, stopped, waiting_places};
+ghost use Rattle.rl_print.specs.Walk.{IsCursor, IsKept, IsNext, IsPiece, IsReady, IsState, IsSteady, all_printed, continued, kept_place, levels_left, meaning, place_in, progress_in, setting_in, shown, state_weight, stopped, waiting_places, Advances, Ends, IsWorldOf};
 ghost use Rattle.rl_world.specs.declared.stop.Stop.TheVariants as stop;
 ghost use Rattle.rl_print.specs.declared.walk.Cursor.TheVariants as cursor;
 ghost use Rattle.rl_print.specs.declared.walk.State.TheVariants as state;
 
 use crate::atom::Style;
 use crate::walk::{Cursor, Piece, State};
+use rl_syms::laws::meaning_of_reading;
 use rl_tags::{NIL, Tag, Val};
 use rl_world::{Stop, World};
 
@@ -34,6 +35,7 @@ fn push(w: &mut World, _base: u64, c: Cursor) -> Result<(), Stop>
     requires cursor { IsCursor w.old.cells.cells c }
     ensures places { OnOk result (waiting_places w.new _base ≡ place_in w.old.cells.cells c ∷ waiting_places w.old _base) }
     ensures levels { OnOk result (levels_left w.old ≡ levels_left w.new + 1) }
+    ensures kept { OnOk result (length w.new.levels.walk ≡ length w.old.levels.walk + 1) }
     ensures ready { IsReady w.new _base }
     ensures steady { IsSteady _base w.old.levels w.new.levels }
     ensures world { w.new ≡ record w.old { levels = w.new.levels } }
@@ -79,6 +81,7 @@ fn pop(w: &mut World, base: u64) -> Option<State>
     requires ready { IsReady w.old base }
     ensures next { IsNext w.new base result }
     ensures means { (style : atoms.Style) (p : Progress) → continued style w.new base result p ≡ all_printed (setting_in style w.old) (waiting_places w.old base) (levels_left w.old + 1) p }
+    ensures fewer { 4 * length w.new.levels.walk + state_weight result ≤ 4 * length w.old.levels.walk }
     ensures ready { IsReady w.new base }
     ensures steady { IsSteady base w.old.levels w.new.levels }
     ensures world { w.new ≡ record w.old { levels = w.new.levels } }
@@ -88,4 +91,132 @@ fn pop(w: &mut World, base: u64) -> Option<State>
     }
     let (kind, word, i) = w.walk_pop();
     Some(State::Next(cursor_of(kind, word, i)))
+}
+
+/// What is to be printed at once, and what comes next.
+type Step = (Piece<'static>, Option<State>);
+
+/// An element that is a pair: `(`, and its CAR, behind which the rest waits.
+fn pair_element(w: &mut World, v: Val, outer: Cursor, base: u64) -> Result<Step, Stop>
+    requires ready { IsReady w.old base }
+    requires pair { IsTrue (is_pair w.old.cells.cells v) }
+    requires outer { IsCursor w.old.cells.cells outer }
+    ensures ok { IfOk result (λ r. Advances base w.old w.new (Some (state.Element v outer)) r.0 r.1) }
+    ensures err { IfErr result (λ s. Ends base w.old w.new (Some (state.Element v outer)) s) }
+    ensures world { IsWorldOf base w.old w.new }
+{
+    meaning_of_reading();
+    if let Err(s) = turn(w) {
+        return Err(s);
+    }
+    if let Err(s) = push(w, base, outer) {
+        return Err(s);
+    }
+    let car = w.cells.car(v);
+    let cdr = w.cells.cdr(v);
+    Ok((
+        Piece::Mark(b"("),
+        Some(State::Element(car, Cursor::Rest(cdr))),
+    ))
+}
+
+/// An element that is a vector: `[`, and its first place.
+fn vector_element(w: &mut World, v: Val, outer: Cursor, base: u64) -> Result<Step, Stop>
+    requires ready { IsReady w.old base }
+    requires vector { IsTrue (is_vector w.old.cells.cells v) }
+    requires outer { IsCursor w.old.cells.cells outer }
+    ensures ok { IfOk result (λ r. Advances base w.old w.new (Some (state.Element v outer)) r.0 r.1) }
+    ensures err { IfErr result (λ s. Ends base w.old w.new (Some (state.Element v outer)) s) }
+    ensures world { IsWorldOf base w.old w.new }
+{
+    meaning_of_reading();
+    if let Err(s) = push(w, base, outer) {
+        return Err(s);
+    }
+    Ok((
+        Piece::Mark(b"["),
+        Some(State::Next(Cursor::Places(v, 0, false))),
+    ))
+}
+
+/// An element: an atom, or a descent into a pair or a vector.
+fn element(w: &mut World, v: Val, outer: Cursor, base: u64) -> Result<Step, Stop>
+    requires ready { IsReady w.old base }
+    requires live { IsTrue (is_live w.old.cells.cells v) }
+    requires outer { IsCursor w.old.cells.cells outer }
+    ensures ok { IfOk result (λ r. Advances base w.old w.new (Some (state.Element v outer)) r.0 r.1) }
+    ensures err { IfErr result (λ s. Ends base w.old w.new (Some (state.Element v outer)) s) }
+    ensures world { IsWorldOf base w.old w.new }
+{
+    match v.tag() {
+        Tag::Pair => pair_element(w, v, outer, base),
+        Tag::Vector => vector_element(w, v, outer, base),
+        _ => Ok((Piece::Atom(v), Some(State::Next(outer)))),
+    }
+}
+
+/// The rest of a list that is a pair: a blank, and its CAR, behind which the rest waits.
+fn pair_rest(w: &mut World, d: Val, base: u64) -> Result<Step, Stop>
+    requires ready { IsReady w.old base }
+    requires pair { IsTrue (is_pair w.old.cells.cells d) }
+    ensures ok { IfOk result (λ r. Advances base w.old w.new (Some (state.Next (cursor.Rest d))) r.0 r.1) }
+    ensures err { IfErr result (λ s. Ends base w.old w.new (Some (state.Next (cursor.Rest d))) s) }
+    ensures world { IsWorldOf base w.old w.new }
+{
+    let _ = base;
+    meaning_of_reading();
+    if let Err(s) = turn(w) {
+        return Err(s);
+    }
+    let car = w.cells.car(d);
+    let cdr = w.cells.cdr(d);
+    Ok((
+        Piece::Mark(b" "),
+        Some(State::Element(car, Cursor::Rest(cdr))),
+    ))
+}
+
+/// The rest of a list: its end, an element more, or what stands behind a dot.
+fn rest(w: &mut World, d: Val, base: u64) -> Result<Step, Stop>
+    requires ready { IsReady w.old base }
+    requires live { IsTrue (is_live w.old.cells.cells d) }
+    ensures ok { IfOk result (λ r. Advances base w.old w.new (Some (state.Next (cursor.Rest d))) r.0 r.1) }
+    ensures err { IfErr result (λ s. Ends base w.old w.new (Some (state.Next (cursor.Rest d))) s) }
+    ensures world { IsWorldOf base w.old w.new }
+{
+    meaning_of_reading();
+    if d == NIL {
+        return Ok((Piece::Mark(b")"), pop(w, base)));
+    }
+    match d.tag() {
+        Tag::Pair => pair_rest(w, d, base),
+        Tag::Vector => Ok((
+            Piece::Mark(b" . ["),
+            Some(State::Next(Cursor::Places(d, 0, true))),
+        )),
+        _ => Ok((Piece::Dotted(d), pop(w, base))),
+    }
+}
+
+/// The places of a vector from one on: its end, or a place and those behind it.
+fn places(w: &mut World, v: Val, i: u64, dotted: bool, base: u64) -> Result<Step, Stop>
+    requires ready { IsReady w.old base }
+    requires place { IsCursor w.old.cells.cells (cursor.Places v i dotted) }
+    ensures ok { IfOk result (λ r. Advances base w.old w.new (Some (state.Next (cursor.Places v i dotted))) r.0 r.1) }
+    ensures err { IfErr result (λ s. Ends base w.old w.new (Some (state.Next (cursor.Places v i dotted))) s) }
+    ensures world { IsWorldOf base w.old w.new }
+{
+    if i == u64::from(w.cells.vector_len(v)) {
+        let mark = if dotted { b"])".as_slice() } else { b"]".as_slice() };
+        return Ok((Piece::Mark(mark), pop(w, base)));
+    }
+    if let Err(s) = turn(w) {
+        return Err(s);
+    }
+    let x = w.cells.get(v, i as u32);
+    let mark = if i == 0 { b"".as_slice() } else { b" ".as_slice() };
+    Ok((
+        Piece::Mark(mark),
+        Some(State::Element(x, Cursor::Places(v, i + 1, dotted))),
+    ))
 }

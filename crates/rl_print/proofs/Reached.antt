@@ -1,0 +1,318 @@
+-- Each step of the walk, in a world.
+use Rattle.std.proofs.Common.{◌≡◌, ◌≢◌, ℕ, zero, suc, ◌+◌, ◌-◌, ◌*◌, ◌<◌, ◌≤◌, ◌==◌, Bool, true, false, if◌then◌else◌, List, [], ◌∷◌, ◌++◌, length, map, drop, get_or, Option, Some, None, refl, sym, ap, ◌∙◌, arith, append_assoc}
+use Rattle.std.specs.Prelude.{slice_get}
+use Rattle.std.proofs.lemmas.List.{append-nil}
+use Rattle.std.proofs.lemmas.Bool.Decides.{nat_tests}
+use Rattle.std.proofs.lemmas.List.Sums.{fold-append}
+use Rattle.rl_tags.specs.Tagged.{Tagged, Number, IdAt, StrAt, PairAt, VectorAt, BigAt, FunAt}
+use Rattle.rl_cells.specs.Cell.{Cell, Store, car_of, cdr_of, is_live, is_pair, is_vector, vector_of}
+use Rattle.rl_syms.specs.Contents.{value_of, store_of}
+use Rattle.rl_syms.specs.Laws.{IsRead}
+use Rattle.rl_tree.specs.Value.{Value, Int, Id, Str, Ref, Fun, Object, Pair, Vector}
+use Rattle.rl_tree.specs.Atoms as atoms
+use Rattle.rl_tree.specs.Printing.{Ending, Whole, NoTurn, TooDeep, Progress, Setting, column_with, marked, with_atom_of, dotted_atom, value_printed}
+use Rattle.rl_world.specs.declared.stop.Stop.{Stop}
+use Rattle.rl_world.specs.declared.stop.Stop.TheVariants as stop
+use Rattle.rl_world.specs.declared.world.World.{World}
+use Rattle.rl_print.specs.AtomText.{is_atom}
+use Rattle.rl_print.specs.Counted.{IsStop, IsTicked, turns_left}
+use Rattle.rl_print.specs.Walk.{Advances, Ends, IsCursor, IsNext, IsReady, IsSteady, Place, Rest, Places, all_printed, continued, element_printed, place_printed, levels_left, meaning, place_in, progress_in, setting_in, shown, state_weight, stopped, waiting_places, weight, whole}
+use Rattle.rl_print.specs.declared.walk.Cursor.{Cursor}
+use Rattle.rl_print.specs.declared.walk.Cursor.TheVariants as cursor
+use Rattle.rl_print.specs.declared.walk.Piece.TheVariants as piece
+use Rattle.rl_print.specs.declared.walk.State.{State}
+use Rattle.rl_print.specs.declared.walk.State.TheVariants as state
+use Rattle.rl_print.proofs.Steps.{atom_next, pair_wants_turn, pair_wants_level, pair_begins, vector_wants_level, vector_begins, place_done, rest_nil, rest_wants_turn, rest_pair, rest_vector, places_end, places_want_turn, places_go_on}
+
+-- what printing sees of two worlds is the same
+pub record SameView (old new : World) : Type 0 where
+  pub cells : new.cells ≡ old.cells
+  pub syms : new.syms ≡ old.syms
+  pub output : new.output ≡ old.output
+
+pub view_of : (old new : World) → new ≡ record old { counts = new.counts; levels = new.levels } → SameView old new
+view_of old new e = record { cells = ap (λ (w : World). w.cells) e; syms = ap (λ (w : World). w.syms) e; output = ap (λ (w : World). w.output) e }
+
+pub setting_same : (style : atoms.Style) (old new : World) → SameView old new → setting_in style new ≡ setting_in style old
+setting_same style old new v = rw (v.cells, v.output) refl
+
+pub progress_same : (old new : World) (text : List ℕ) → SameView old new → progress_in new text ≡ record (progress_in old text) { turns = turns_left new.counts }
+progress_same old new text v = rw v.output refl
+
+-- the new world sees the same, with so many turns and levels left, and these places waiting
+pub record Moved (base : ℕ) (old new : World) (turns levels : ℕ) (places : List Place) : Type 0 where
+  pub view : SameView old new
+  pub turns_are : turns_left new.counts ≡ turns
+  pub levels_are : levels_left new ≡ levels
+  pub places_are : waiting_places new base ≡ places
+
+progress_moved : (base : ℕ) (old new : World) (turns levels : ℕ) (places : List Place) (text : List ℕ) → Moved base old new turns levels places → progress_in new text ≡ record (progress_in old text) { turns = turns }
+progress_moved base old new turns levels places text m = progress_same old new text m.view ∙ ap (λ (t : ℕ). record (progress_in old text) { turns = t }) m.turns_are
+
+-- an element and what waits, told in the old world
+element_moved : (base : ℕ) (old new : World) (turns levels : ℕ) (places : List Place) (style : atoms.Style) (x : Value) (p : Place) (show : Progress → Progress) (text : List ℕ) → Moved base old new turns levels places
+    → element_printed (setting_in style new) x (p ∷ waiting_places new base) (levels_left new) (show (progress_in new text)) ≡ element_printed (setting_in style old) x (p ∷ places) levels (show (record (progress_in old text) { turns = turns }))
+element_moved base old new turns levels places style x p show text m =
+    ap (λ g. element_printed g x (p ∷ waiting_places new base) (levels_left new) (show (progress_in new text))) (setting_same style old new m.view)
+    ∙ (ap (λ ps. element_printed (setting_in style old) x (p ∷ ps) (levels_left new) (show (progress_in new text))) m.places_are
+    ∙ (ap (λ n. element_printed (setting_in style old) x (p ∷ places) n (show (progress_in new text))) m.levels_are
+    ∙ ap (λ q. element_printed (setting_in style old) x (p ∷ places) levels (show q)) (progress_moved base old new turns levels places text m)))
+
+-- and what comes next
+next_moved : (base : ℕ) (old new : World) (turns levels : ℕ) (places : List Place) (style : atoms.Style) (p : Place) (show : Progress → Progress) (text : List ℕ) → Moved base old new turns levels places
+    → all_printed (setting_in style new) (p ∷ waiting_places new base) (levels_left new) (show (progress_in new text)) ≡ all_printed (setting_in style old) (p ∷ places) levels (show (record (progress_in old text) { turns = turns }))
+next_moved base old new turns levels places style p show text m =
+    ap (λ g. all_printed g (p ∷ waiting_places new base) (levels_left new) (show (progress_in new text))) (setting_same style old new m.view)
+    ∙ (ap (λ ps. all_printed (setting_in style old) (p ∷ ps) (levels_left new) (show (progress_in new text))) m.places_are
+    ∙ (ap (λ n. all_printed (setting_in style old) (p ∷ places) n (show (progress_in new text))) m.levels_are
+    ∙ ap (λ q. all_printed (setting_in style old) (p ∷ places) levels (show q)) (progress_moved base old new turns levels places text m)))
+
+-- a value that is not small refers to its object
+element_of : (style : atoms.Style) (base : ℕ) (w : World) (v : Tagged) (r n : ℕ) (outer : Cursor) (text : List ℕ) → value_of w.cells.cells v ≡ Ref r → levels_left w ≡ n
+    → meaning style w base (Some (state.Element v outer)) text ≡ element_printed (setting_in style w) (Ref r) (place_in w.cells.cells outer ∷ waiting_places w base) n (progress_in w text)
+element_of style base w v r n outer text value left =
+    ap (λ x. element_printed (setting_in style w) x (place_in w.cells.cells outer ∷ waiting_places w base) (levels_left w) (progress_in w text)) value
+    ∙ ap (λ l. element_printed (setting_in style w) (Ref r) (place_in w.cells.cells outer ∷ waiting_places w base) l (progress_in w text)) left
+
+-- ---- a turn and a push
+
+-- one turn was taken, and nothing else
+pub record Turned (old new : World) : Type 0 where
+  pub world : new ≡ record old { counts = new.counts }
+  pub turns : turns_left old.counts ≡ turns_left new.counts + 1
+
+-- one more place waits, in a level more
+pub record Pushed (base : ℕ) (old new : World) (outer : Cursor) : Type 0 where
+  pub world : new ≡ record old { levels = new.levels }
+  pub places : waiting_places new base ≡ place_in old.cells.cells outer ∷ waiting_places old base
+  pub levels : levels_left old ≡ levels_left new + 1
+
+turned_view : (old new : World) → Turned old new → SameView old new
+turned_view old new t = record { cells = ap (λ (w : World). w.cells) t.world; syms = ap (λ (w : World). w.syms) t.world; output = ap (λ (w : World). w.output) t.world }
+
+pushed_view : (base : ℕ) (old new : World) (outer : Cursor) → Pushed base old new outer → SameView old new
+pushed_view base old new outer t = record { cells = ap (λ (w : World). w.cells) t.world; syms = ap (λ (w : World). w.syms) t.world; output = ap (λ (w : World). w.output) t.world }
+
+view_trans : (a b c : World) → SameView a b → SameView b c → SameView a c
+view_trans a b c p q = record { cells = q.cells ∙ p.cells; syms = q.syms ∙ p.syms; output = q.output ∙ p.output }
+
+turned_pushed : (base : ℕ) (old mid new : World) (outer : Cursor) → Turned old mid → Pushed base mid new outer → Moved base old new (turns_left mid.counts) (levels_left new) (place_in old.cells.cells outer ∷ waiting_places old base)
+turned_pushed base old mid new outer t p = record {
+  view = view_trans old mid new (turned_view old mid t) (pushed_view base mid new outer p);
+  turns_are = ap (λ (w : World). turns_left w.counts) p.world;
+  levels_are = refl;
+  places_are = p.places ∙ ap (λ (w : World). place_in w.cells.cells outer ∷ waiting_places w base) t.world;
+}
+
+pub pair_means : IsRead → (base : ℕ) (old mid new : World) (v a d : Tagged) (outer : Cursor) → Turned old mid → Pushed base mid new outer → is_pair old.cells.cells v ≡ true → a ≡ car_of old.cells.cells v → d ≡ cdr_of old.cells.cells v → (style : atoms.Style) (text : List ℕ)
+    → meaning style old base (Some (state.Element v outer)) text ≡ element_printed (setting_in style new) (value_of new.cells.cells a) (Rest (value_of new.cells.cells d) ∷ waiting_places new base) (levels_left new) (marked (40 ∷ []) (progress_in new text))
+pair_means law base old mid new v a d outer t p pair ea ed style text =
+    let cells = old.cells.cells in
+    let read = law.pair cells v pair in
+    let m = turned_pushed base old mid new outer t p in
+    let left : levels_left old ≡ suc (levels_left new) = sym (ap (λ (w : World). levels_left w) t.world) ∙ omega (arith, p.levels) in
+    let more : turns_left old.counts ≡ suc (turns_left mid.counts) = omega (arith, t.turns) in
+    let car : value_of new.cells.cells a ≡ value_of cells (car_of cells v) = ap (λ (s : Store). value_of s.cells a) m.view.cells ∙ ap (value_of cells) ea in
+    let cdr : value_of new.cells.cells d ≡ value_of cells (cdr_of cells v) = ap (λ (s : Store). value_of s.cells d) m.view.cells ∙ ap (value_of cells) ed in
+    element_of style base old v _ (suc (levels_left new)) outer text read.value left
+    ∙ (pair_begins (setting_in style old) _ (value_of cells (car_of cells v)) (value_of cells (cdr_of cells v)) (place_in cells outer ∷ waiting_places old base) (levels_left new) (progress_in old text) (turns_left mid.counts) read.stands more
+    ∙ (sym (element_moved base old new (turns_left mid.counts) (levels_left new) (place_in cells outer ∷ waiting_places old base) style (value_of cells (car_of cells v)) (Rest (value_of cells (cdr_of cells v))) (marked (40 ∷ [])) text m)
+    ∙ (ap (λ x. element_printed (setting_in style new) x (Rest (value_of cells (cdr_of cells v)) ∷ waiting_places new base) (levels_left new) (marked (40 ∷ []) (progress_in new text))) (sym car)
+    ∙ ap (λ y. element_printed (setting_in style new) (value_of new.cells.cells a) (Rest y ∷ waiting_places new base) (levels_left new) (marked (40 ∷ []) (progress_in new text))) (sym cdr))))
+
+-- ---- marks
+
+-- one mark behind another
+marked_twice : (xs ys : List ℕ) (p : Progress) → marked ys (marked xs p) ≡ marked (xs ++ ys) p
+marked_twice xs ys p = rw (append_assoc p.page.text xs ys, fold-append column_with p.page.column xs ys) refl
+
+blank_marked : (first : Bool) (p : Progress) → (if first then p else marked (32 ∷ []) p) ≡ marked (if first then [] else 32 ∷ []) p
+blank_marked true p = rw (append-nil p.page.text) refl
+blank_marked false p = refl
+
+-- the place i of a vector comes next
+some_same : (y x : Tagged) → Some y ≡ Some x → y ≡ x
+some_same y x e = cc
+
+drop_at : (f : Tagged → Value) (xs : List Tagged) (i : ℕ) (x : Tagged) → slice_get xs i ≡ Some x → drop i (map f xs) ≡ f x ∷ drop (i + 1) (map f xs)
+drop_at f [] i x e = absurd (cc)
+drop_at f (y ∷ xs) zero x e = ap (λ z. f z ∷ map f xs) (some_same y x e)
+drop_at f (y ∷ xs) (suc i) x e = let n : suc i + 1 ≡ suc (i + 1) = omega arith in rw n (drop_at f xs i x e)
+
+-- ---- an element that wants a turn or a level
+
+pub pair_no_turn : IsRead → (base : ℕ) (w : World) (v : Tagged) (outer : Cursor) → is_pair w.cells.cells v ≡ true → turns_left w.counts ≡ 0 → (style : atoms.Style) (text : List ℕ) → meaning style w base (Some (state.Element v outer)) text ≡ stopped w NoTurn text
+pair_no_turn law base w v outer pair none style text =
+    let cells = w.cells.cells in
+    let read = law.pair cells v pair in
+    element_of style base w v _ (levels_left w) outer text read.value refl
+    ∙ pair_wants_turn (setting_in style w) _ (value_of cells (car_of cells v)) (value_of cells (cdr_of cells v)) (place_in cells outer ∷ waiting_places w base) (levels_left w) (progress_in w text) read.stands none
+
+pub pair_no_level : IsRead → (base : ℕ) (old new : World) (v : Tagged) (outer : Cursor) → Turned old new → is_pair old.cells.cells v ≡ true → levels_left new ≡ 0 → (style : atoms.Style) (text : List ℕ) → meaning style old base (Some (state.Element v outer)) text ≡ stopped new TooDeep text
+pair_no_level law base old new v outer t pair none style text =
+    let cells = old.cells.cells in
+    let read = law.pair cells v pair in
+    let left : levels_left old ≡ 0 = sym (ap (λ (w : World). levels_left w) t.world) ∙ none in
+    let more : turns_left old.counts ≡ suc (turns_left new.counts) = omega (arith, t.turns) in
+    element_of style base old v _ 0 outer text read.value left
+    ∙ (pair_wants_level (setting_in style old) _ (value_of cells (car_of cells v)) (value_of cells (cdr_of cells v)) (place_in cells outer ∷ waiting_places old base) (progress_in old text) (turns_left new.counts) read.stands more
+    ∙ ap (λ (p : Progress). record p { ending = TooDeep }) (sym (progress_same old new text (turned_view old new t))))
+
+pub vector_no_level : IsRead → (base : ℕ) (w : World) (v : Tagged) (outer : Cursor) → is_vector w.cells.cells v ≡ true → levels_left w ≡ 0 → (style : atoms.Style) (text : List ℕ) → meaning style w base (Some (state.Element v outer)) text ≡ stopped w TooDeep text
+vector_no_level law base w v outer vector none style text =
+    let cells = w.cells.cells in
+    let read = law.vector cells v vector in
+    element_of style base w v _ 0 outer text read.value none
+    ∙ vector_wants_level (setting_in style w) _ (map (value_of cells) (vector_of cells v)) (place_in cells outer ∷ waiting_places w base) (progress_in w text) read.stands
+
+pushed_moved : (base : ℕ) (old new : World) (outer : Cursor) → Pushed base old new outer → Moved base old new (turns_left old.counts) (levels_left new) (place_in old.cells.cells outer ∷ waiting_places old base)
+pushed_moved base old new outer p = record {
+  view = pushed_view base old new outer p;
+  turns_are = ap (λ (w : World). turns_left w.counts) p.world;
+  levels_are = refl;
+  places_are = p.places;
+}
+
+pub vector_means : IsRead → (base : ℕ) (old new : World) (v : Tagged) (outer : Cursor) → Pushed base old new outer → is_vector old.cells.cells v ≡ true → (style : atoms.Style) (text : List ℕ)
+    → meaning style old base (Some (state.Element v outer)) text ≡ all_printed (setting_in style new) (Places true (map (value_of new.cells.cells) (vector_of new.cells.cells v)) false ∷ waiting_places new base) (levels_left new) (marked (91 ∷ []) (progress_in new text))
+vector_means law base old new v outer p vector style text =
+    let cells = old.cells.cells in
+    let read = law.vector cells v vector in
+    let m = pushed_moved base old new outer p in
+    let xs = map (value_of cells) (vector_of cells v) in
+    let same : map (value_of new.cells.cells) (vector_of new.cells.cells v) ≡ xs = ap (λ (s : Store). map (value_of s.cells) (vector_of s.cells v)) m.view.cells in
+    let left : levels_left old ≡ suc (levels_left new) = omega (arith, p.levels) in
+    element_of style base old v _ (suc (levels_left new)) outer text read.value left
+    ∙ (vector_begins (setting_in style old) _ xs (place_in cells outer ∷ waiting_places old base) (levels_left new) (progress_in old text) read.stands
+    ∙ (sym (next_moved base old new (turns_left old.counts) (levels_left new) (place_in cells outer ∷ waiting_places old base) style (Places true xs false) (marked (91 ∷ [])) text m)
+    ∙ ap (λ ys. all_printed (setting_in style new) (Places true ys false ∷ waiting_places new base) (levels_left new) (marked (91 ∷ []) (progress_in new text))) (sym same)))
+
+-- ---- atoms
+
+pub atom_value : (g : Setting) (inner : Bool) (cells : List Cell) (v : Tagged) (levels : ℕ) (p : Progress) → is_atom cells v ≡ true → value_printed g (whole g) inner (value_of cells v) levels p ≡ with_atom_of g (value_of cells v) p
+atom_value g inner cells (Number z) levels p h = refl
+atom_value g inner cells (IdAt k) levels p h = refl
+atom_value g inner cells (StrAt k) levels p h = refl
+atom_value g inner cells (BigAt k) levels p h = refl
+atom_value g inner cells (FunAt k) levels p h = refl
+atom_value g inner cells (PairAt k) levels p h = absurd (cc)
+atom_value g inner cells (VectorAt k) levels p h = absurd (cc)
+
+pub atom_means : (base : ℕ) (w : World) (v : Tagged) (outer : Cursor) → is_atom w.cells.cells v ≡ true → (style : atoms.Style) (text : List ℕ)
+    → meaning style w base (Some (state.Element v outer)) text ≡ continued style w base (Some (state.Next outer)) (with_atom_of (setting_in style w) (value_of w.cells.cells v) (progress_in w text))
+atom_means base w v outer atom style text =
+    let g = setting_in style w in
+    atom_next g (value_of w.cells.cells v) (place_in w.cells.cells outer ∷ waiting_places w base) (levels_left w) (progress_in w text) (atom_value g true w.cells.cells v (levels_left w) (progress_in w text) atom) refl
+
+rest_atom : (g : Setting) (cells : List Cell) (v : Tagged) (levels : ℕ) (p : Progress) → g.nil ≡ 2 → is_atom cells v ≡ true → v ≢ IdAt 2 → place_printed g (Rest (value_of cells v)) levels p ≡ dotted_atom g (value_of cells v) p
+rest_atom g cells (Number z) levels p n h other = refl
+rest_atom g cells (StrAt k) levels p n h other = refl
+rest_atom g cells (BigAt k) levels p n h other = refl
+rest_atom g cells (FunAt k) levels p n h other = refl
+rest_atom g cells (PairAt k) levels p n h other = absurd (cc)
+rest_atom g cells (VectorAt k) levels p n h other = absurd (cc)
+rest_atom g cells (IdAt k) levels p n h other =
+    let differ : k ≢ g.nil = λ e. other (ap IdAt (e ∙ n)) in
+    let no : (k == g.nil) ≡ false = grind (arith, nat_tests) in
+    ap (λ b. if b then marked (41 ∷ []) p else dotted_atom g (Id k) p) no
+
+-- ---- the rest of a list
+
+-- what is printed last, and then what waits
+pub done_means : (base : ℕ) (old new : World) (next : Option State) (c : Place) (style : atoms.Style) (show : Progress → Progress) (text : List ℕ)
+    → new ≡ record old { levels = new.levels } → ((p : Progress) → continued style new base next p ≡ all_printed (setting_in style old) (waiting_places old base) (levels_left old + 1) p)
+    → place_printed (setting_in style old) c (levels_left old) (progress_in old text) ≡ show (progress_in old text) → (show (progress_in old text)).ending ≡ Whole
+    → all_printed (setting_in style old) (c ∷ waiting_places old base) (levels_left old) (progress_in old text) ≡ continued style new base next (show (progress_in new text))
+done_means base old new next c style show text e means is whole_is =
+    let g = setting_in style old in
+    let more : suc (levels_left old) ≡ levels_left old + 1 = omega arith in
+    let same : progress_in old text ≡ progress_in new text = ap (λ (w : World). progress_in w text) (sym e) in
+    place_done g c (waiting_places old base) (levels_left old) (progress_in old text) (show (progress_in old text)) is whole_is
+    ∙ (ap (λ n. all_printed g (waiting_places old base) n (show (progress_in old text))) more
+    ∙ (sym (means (show (progress_in old text))) ∙ ap (λ p. continued style new base next (show p)) same))
+
+pub nil_is_last : (style : atoms.Style) (w : World) (text : List ℕ) → place_printed (setting_in style w) (Rest (value_of w.cells.cells (IdAt 2))) (levels_left w) (progress_in w text) ≡ marked (41 ∷ []) (progress_in w text)
+nil_is_last style w text = rest_nil (setting_in style w) (levels_left w) (progress_in w text)
+
+pub atom_is_last : (style : atoms.Style) (w : World) (v : Tagged) (text : List ℕ) → is_atom w.cells.cells v ≡ true → v ≢ IdAt 2 → place_printed (setting_in style w) (Rest (value_of w.cells.cells v)) (levels_left w) (progress_in w text) ≡ dotted_atom (setting_in style w) (value_of w.cells.cells v) (progress_in w text)
+atom_is_last style w v text atom other = rest_atom (setting_in style w) w.cells.cells v (levels_left w) (progress_in w text) refl atom other
+
+rest_of : (style : atoms.Style) (base : ℕ) (w : World) (d : Tagged) (r : ℕ) (text : List ℕ) → value_of w.cells.cells d ≡ Ref r
+    → meaning style w base (Some (state.Next (cursor.Rest d))) text ≡ all_printed (setting_in style w) (Rest (Ref r) ∷ waiting_places w base) (levels_left w) (progress_in w text)
+rest_of style base w d r text value = ap (λ x. all_printed (setting_in style w) (Rest x ∷ waiting_places w base) (levels_left w) (progress_in w text)) value
+
+pub rest_no_turn : IsRead → (base : ℕ) (w : World) (d : Tagged) → is_pair w.cells.cells d ≡ true → turns_left w.counts ≡ 0 → (style : atoms.Style) (text : List ℕ) → meaning style w base (Some (state.Next (cursor.Rest d))) text ≡ stopped w NoTurn text
+rest_no_turn law base w d pair none style text =
+    let cells = w.cells.cells in
+    let read = law.pair cells d pair in
+    rest_of style base w d _ text read.value
+    ∙ rest_wants_turn (setting_in style w) _ (value_of cells (car_of cells d)) (value_of cells (cdr_of cells d)) (waiting_places w base) (levels_left w) (progress_in w text) read.stands none
+
+turned_moved : (base : ℕ) (old new : World) → Turned old new → Moved base old new (turns_left new.counts) (levels_left old) (waiting_places old base)
+turned_moved base old new t = record {
+  view = turned_view old new t;
+  turns_are = refl;
+  levels_are = ap (λ (w : World). levels_left w) t.world;
+  places_are = ap (λ (w : World). waiting_places w base) t.world;
+}
+
+pub rest_pair_means : IsRead → (base : ℕ) (old new : World) (v a d : Tagged) → Turned old new → is_pair old.cells.cells v ≡ true → a ≡ car_of old.cells.cells v → d ≡ cdr_of old.cells.cells v → (style : atoms.Style) (text : List ℕ)
+    → meaning style old base (Some (state.Next (cursor.Rest v))) text ≡ element_printed (setting_in style new) (value_of new.cells.cells a) (Rest (value_of new.cells.cells d) ∷ waiting_places new base) (levels_left new) (marked (32 ∷ []) (progress_in new text))
+rest_pair_means law base old new v a d t pair ea ed style text =
+    let cells = old.cells.cells in
+    let read = law.pair cells v pair in
+    let m = turned_moved base old new t in
+    let more : turns_left old.counts ≡ suc (turns_left new.counts) = omega (arith, t.turns) in
+    let car : value_of new.cells.cells a ≡ value_of cells (car_of cells v) = ap (λ (s : Store). value_of s.cells a) m.view.cells ∙ ap (value_of cells) ea in
+    let cdr : value_of new.cells.cells d ≡ value_of cells (cdr_of cells v) = ap (λ (s : Store). value_of s.cells d) m.view.cells ∙ ap (value_of cells) ed in
+    rest_of style base old v _ text read.value
+    ∙ (rest_pair (setting_in style old) _ (value_of cells (car_of cells v)) (value_of cells (cdr_of cells v)) (waiting_places old base) (levels_left old) (progress_in old text) (turns_left new.counts) read.stands more
+    ∙ (sym (element_moved base old new (turns_left new.counts) (levels_left old) (waiting_places old base) style (value_of cells (car_of cells v)) (Rest (value_of cells (cdr_of cells v))) (marked (32 ∷ [])) text m)
+    ∙ (ap (λ x. element_printed (setting_in style new) x (Rest (value_of cells (cdr_of cells v)) ∷ waiting_places new base) (levels_left new) (marked (32 ∷ []) (progress_in new text))) (sym car)
+    ∙ ap (λ y. element_printed (setting_in style new) (value_of new.cells.cells a) (Rest y ∷ waiting_places new base) (levels_left new) (marked (32 ∷ []) (progress_in new text))) (sym cdr))))
+
+pub rest_vector_means : IsRead → (base : ℕ) (w : World) (v : Tagged) → is_vector w.cells.cells v ≡ true → (style : atoms.Style) (text : List ℕ)
+    → meaning style w base (Some (state.Next (cursor.Rest v))) text ≡ all_printed (setting_in style w) (Places true (map (value_of w.cells.cells) (vector_of w.cells.cells v)) true ∷ waiting_places w base) (levels_left w) (marked (32 ∷ 46 ∷ 32 ∷ 91 ∷ []) (progress_in w text))
+rest_vector_means law base w v vector style text =
+    let cells = w.cells.cells in
+    let read = law.vector cells v vector in
+    let xs = map (value_of cells) (vector_of cells v) in
+    rest_of style base w v _ text read.value
+    ∙ (rest_vector (setting_in style w) _ xs (waiting_places w base) (levels_left w) (progress_in w text) read.stands
+    ∙ ap (λ p. all_printed (setting_in style w) (Places true xs true ∷ waiting_places w base) (levels_left w) p) (marked_twice (32 ∷ 46 ∷ 32 ∷ []) (91 ∷ []) (progress_in w text)))
+
+-- ---- the places of a vector
+
+pub end_is_last : (style : atoms.Style) (w : World) (first dotted : Bool) (text : List ℕ) → place_printed (setting_in style w) (Places first [] dotted) (levels_left w) (progress_in w text) ≡ marked (if dotted then 93 ∷ 41 ∷ [] else 93 ∷ []) (progress_in w text)
+end_is_last style w first true text = places_end (setting_in style w) first true (levels_left w) (progress_in w text) refl ∙ marked_twice (93 ∷ []) (41 ∷ []) (progress_in w text)
+end_is_last style w first false text = places_end (setting_in style w) first false (levels_left w) (progress_in w text) refl
+
+places_of : (style : atoms.Style) (base : ℕ) (w : World) (v : Tagged) (i : ℕ) (dotted : Bool) (xs : List Value) (text : List ℕ) → drop i (map (value_of w.cells.cells) (vector_of w.cells.cells v)) ≡ xs
+    → meaning style w base (Some (state.Next (cursor.Places v i dotted))) text ≡ all_printed (setting_in style w) (Places (i == 0) xs dotted ∷ waiting_places w base) (levels_left w) (progress_in w text)
+places_of style base w v i dotted xs text e = ap (λ ys. all_printed (setting_in style w) (Places (i == 0) ys dotted ∷ waiting_places w base) (levels_left w) (progress_in w text)) e
+
+pub places_no_turn : (base : ℕ) (w : World) (v : Tagged) (i : ℕ) (dotted : Bool) (x : Tagged) → slice_get (vector_of w.cells.cells v) i ≡ Some x → turns_left w.counts ≡ 0 → (style : atoms.Style) (text : List ℕ) → meaning style w base (Some (state.Next (cursor.Places v i dotted))) text ≡ stopped w NoTurn text
+places_no_turn base w v i dotted x at none style text =
+    let cells = w.cells.cells in
+    let e = drop_at (value_of cells) (vector_of cells v) i x at in
+    places_of style base w v i dotted _ text e
+    ∙ places_want_turn (setting_in style w) (i == 0) dotted (value_of cells x) (drop (i + 1) (map (value_of cells) (vector_of cells v))) (waiting_places w base) (levels_left w) (progress_in w text) none
+
+pub places_mean : (base : ℕ) (old new : World) (v : Tagged) (i : ℕ) (dotted : Bool) (x : Tagged) (mark : List ℕ) → Turned old new → slice_get (vector_of old.cells.cells v) i ≡ Some x → mark ≡ (if i == 0 then [] else 32 ∷ []) → (style : atoms.Style) (text : List ℕ)
+    → meaning style old base (Some (state.Next (cursor.Places v i dotted))) text ≡ element_printed (setting_in style new) (value_of new.cells.cells x) (place_in new.cells.cells (cursor.Places v (i + 1) dotted) ∷ waiting_places new base) (levels_left new) (marked mark (progress_in new text))
+places_mean base old new v i dotted x mark t at em style text =
+    let cells = old.cells.cells in
+    let e = drop_at (value_of cells) (vector_of cells v) i x at in
+    let rest = drop (i + 1) (map (value_of cells) (vector_of cells v)) in
+    let m = turned_moved base old new t in
+    let more : turns_left old.counts ≡ suc (turns_left new.counts) = omega (arith, t.turns) in
+    let later : ((i + 1) == 0) ≡ false = grind (arith, nat_tests) in
+    let place : Places false rest dotted ≡ place_in new.cells.cells (cursor.Places v (i + 1) dotted) =
+        ap (λ b. Places b rest dotted) (sym later) ∙ ap (λ (s : Store). Places ((i + 1) == 0) (drop (i + 1) (map (value_of s.cells) (vector_of s.cells v))) dotted) (sym m.view.cells) in
+    let value : value_of cells x ≡ value_of new.cells.cells x = ap (λ (s : Store). value_of s.cells x) (sym m.view.cells) in
+    places_of style base old v i dotted _ text e
+    ∙ (places_go_on (setting_in style old) (i == 0) dotted (value_of cells x) rest (waiting_places old base) (levels_left old) (progress_in old text) (turns_left new.counts) more
+    ∙ (ap (λ p. element_printed (setting_in style old) (value_of cells x) (Places false rest dotted ∷ waiting_places old base) (levels_left old) p) (blank_marked (i == 0) (record (progress_in old text) { turns = turns_left new.counts }) ∙ ap (λ bytes. marked bytes (record (progress_in old text) { turns = turns_left new.counts })) (sym em))
+    ∙ (sym (element_moved base old new (turns_left new.counts) (levels_left old) (waiting_places old base) style (value_of cells x) (Places false rest dotted) (marked mark) text m)
+    ∙ (ap (λ y. element_printed (setting_in style new) y (Places false rest dotted ∷ waiting_places new base) (levels_left new) (marked mark (progress_in new text))) value
+    ∙ ap (λ q. element_printed (setting_in style new) (value_of new.cells.cells x) (q ∷ waiting_places new base) (levels_left new) (marked mark (progress_in new text))) place))))
