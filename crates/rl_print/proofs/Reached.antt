@@ -1,10 +1,11 @@
 -- Each step of the walk, in a world.
-use Rattle.std.proofs.Common.{◌≡◌, ◌≢◌, ℕ, zero, suc, ◌+◌, ◌-◌, ◌*◌, ◌<◌, ◌≤◌, ◌==◌, Bool, true, false, if◌then◌else◌, List, [], ◌∷◌, ◌++◌, length, map, drop, get_or, Option, Some, None, refl, sym, ap, ◌∙◌, arith, append_assoc}
+use Rattle.std.proofs.Common.{◌≡◌, ◌≢◌, ℕ, zero, suc, ◌+◌, ◌-◌, ◌*◌, ◌<◌, ◌≤◌, ◌==◌, Bool, true, false, if◌then◌else◌, List, [], ◌∷◌, ◌++◌, length, map, drop, get_or, Option, Some, None, refl, sym, ap, ◌∙◌, arith, append_assoc, eqb-true}
 use Rattle.std.specs.Prelude.{slice_get}
 use Rattle.std.proofs.lemmas.List.{append-nil}
 use Rattle.std.proofs.lemmas.Bool.Decides.{nat_tests}
 use Rattle.std.proofs.lemmas.List.Sums.{fold-append}
-use Rattle.rl_tags.specs.Tagged.{Tagged, Number, IdAt, StrAt, PairAt, VectorAt, BigAt, FunAt}
+use Rattle.rl_tags.specs.Tagged.{Tagged, Number, IdAt, StrAt, PairAt, VectorAt, BigAt, FunAt, tag_of, word_of}
+use Rattle.rl_tags.specs.declared.Tag.TheVariants as Tag
 use Rattle.rl_cells.specs.Cell.{Cell, Store, car_of, cdr_of, is_live, is_pair, is_vector, vector_of}
 use Rattle.rl_syms.specs.Contents.{value_of, store_of}
 use Rattle.rl_syms.specs.Laws.{IsRead}
@@ -15,8 +16,8 @@ use Rattle.rl_world.specs.declared.stop.Stop.{Stop}
 use Rattle.rl_world.specs.declared.stop.Stop.TheVariants as stop
 use Rattle.rl_world.specs.declared.world.World.{World}
 use Rattle.rl_print.specs.AtomText.{is_atom}
-use Rattle.rl_print.specs.Counted.{IsStop, IsTicked, turns_left}
-use Rattle.rl_print.specs.Walk.{Advances, Ends, IsCursor, IsNext, IsReady, IsSteady, Place, Rest, Places, all_printed, continued, element_printed, place_printed, levels_left, meaning, place_in, progress_in, setting_in, shown, state_weight, stopped, waiting_places, weight, whole}
+use Rattle.rl_print.specs.Counted.{IsStop, IsTicked, last_stop, turns_left}
+use Rattle.rl_print.specs.Walk.{Advances, Ends, IsCursor, IsNext, IsReady, IsSteady, IsWorldOf, Place, Rest, Places, all_printed, continued, element_printed, place_printed, levels_left, meaning, place_in, progress_in, setting_in, shown, state_weight, stopped, waiting_places, weight, whole}
 use Rattle.rl_print.specs.declared.walk.Cursor.{Cursor}
 use Rattle.rl_print.specs.declared.walk.Cursor.TheVariants as cursor
 use Rattle.rl_print.specs.declared.walk.Piece.TheVariants as piece
@@ -90,7 +91,7 @@ pub record Pushed (base : ℕ) (old new : World) (outer : Cursor) : Type 0 where
 turned_view : (old new : World) → Turned old new → SameView old new
 turned_view old new t = record { cells = ap (λ (w : World). w.cells) t.world; syms = ap (λ (w : World). w.syms) t.world; output = ap (λ (w : World). w.output) t.world }
 
-pushed_view : (base : ℕ) (old new : World) (outer : Cursor) → Pushed base old new outer → SameView old new
+pub pushed_view : (base : ℕ) (old new : World) (outer : Cursor) → Pushed base old new outer → SameView old new
 pushed_view base old new outer t = record { cells = ap (λ (w : World). w.cells) t.world; syms = ap (λ (w : World). w.syms) t.world; output = ap (λ (w : World). w.output) t.world }
 
 view_trans : (a b c : World) → SameView a b → SameView b c → SameView a c
@@ -104,7 +105,7 @@ turned_pushed base old mid new outer t p = record {
   places_are = p.places ∙ ap (λ (w : World). place_in w.cells.cells outer ∷ waiting_places w base) t.world;
 }
 
-pub pair_means : IsRead → (base : ℕ) (old mid new : World) (v a d : Tagged) (outer : Cursor) → Turned old mid → Pushed base mid new outer → is_pair old.cells.cells v ≡ true → a ≡ car_of old.cells.cells v → d ≡ cdr_of old.cells.cells v → (style : atoms.Style) (text : List ℕ)
+pub pair_means : IsRead → (base : ℕ) (old mid new : World) (v a d : Tagged) (outer : Cursor) → Turned old mid → Pushed base mid new outer → is_pair old.cells.cells v ≡ true → a ≡ car_of new.cells.cells v → d ≡ cdr_of new.cells.cells v → (style : atoms.Style) (text : List ℕ)
     → meaning style old base (Some (state.Element v outer)) text ≡ element_printed (setting_in style new) (value_of new.cells.cells a) (Rest (value_of new.cells.cells d) ∷ waiting_places new base) (levels_left new) (marked (40 ∷ []) (progress_in new text))
 pair_means law base old mid new v a d outer t p pair ea ed style text =
     let cells = old.cells.cells in
@@ -112,8 +113,8 @@ pair_means law base old mid new v a d outer t p pair ea ed style text =
     let m = turned_pushed base old mid new outer t p in
     let left : levels_left old ≡ suc (levels_left new) = sym (ap (λ (w : World). levels_left w) t.world) ∙ omega (arith, p.levels) in
     let more : turns_left old.counts ≡ suc (turns_left mid.counts) = omega (arith, t.turns) in
-    let car : value_of new.cells.cells a ≡ value_of cells (car_of cells v) = ap (λ (s : Store). value_of s.cells a) m.view.cells ∙ ap (value_of cells) ea in
-    let cdr : value_of new.cells.cells d ≡ value_of cells (cdr_of cells v) = ap (λ (s : Store). value_of s.cells d) m.view.cells ∙ ap (value_of cells) ed in
+    let car : value_of new.cells.cells a ≡ value_of cells (car_of cells v) = ap (λ (s : Store). value_of s.cells a) m.view.cells ∙ ap (value_of cells) (ea ∙ ap (λ (s : Store). car_of s.cells v) m.view.cells) in
+    let cdr : value_of new.cells.cells d ≡ value_of cells (cdr_of cells v) = ap (λ (s : Store). value_of s.cells d) m.view.cells ∙ ap (value_of cells) (ed ∙ ap (λ (s : Store). cdr_of s.cells v) m.view.cells) in
     element_of style base old v _ (suc (levels_left new)) outer text read.value left
     ∙ (pair_begins (setting_in style old) _ (value_of cells (car_of cells v)) (value_of cells (cdr_of cells v)) (place_in cells outer ∷ waiting_places old base) (levels_left new) (progress_in old text) (turns_left mid.counts) read.stands more
     ∙ (sym (element_moved base old new (turns_left mid.counts) (levels_left new) (place_in cells outer ∷ waiting_places old base) style (value_of cells (car_of cells v)) (Rest (value_of cells (cdr_of cells v))) (marked (40 ∷ [])) text m)
@@ -256,15 +257,15 @@ turned_moved base old new t = record {
   places_are = ap (λ (w : World). waiting_places w base) t.world;
 }
 
-pub rest_pair_means : IsRead → (base : ℕ) (old new : World) (v a d : Tagged) → Turned old new → is_pair old.cells.cells v ≡ true → a ≡ car_of old.cells.cells v → d ≡ cdr_of old.cells.cells v → (style : atoms.Style) (text : List ℕ)
+pub rest_pair_means : IsRead → (base : ℕ) (old new : World) (v a d : Tagged) → Turned old new → is_pair old.cells.cells v ≡ true → a ≡ car_of new.cells.cells v → d ≡ cdr_of new.cells.cells v → (style : atoms.Style) (text : List ℕ)
     → meaning style old base (Some (state.Next (cursor.Rest v))) text ≡ element_printed (setting_in style new) (value_of new.cells.cells a) (Rest (value_of new.cells.cells d) ∷ waiting_places new base) (levels_left new) (marked (32 ∷ []) (progress_in new text))
 rest_pair_means law base old new v a d t pair ea ed style text =
     let cells = old.cells.cells in
     let read = law.pair cells v pair in
     let m = turned_moved base old new t in
     let more : turns_left old.counts ≡ suc (turns_left new.counts) = omega (arith, t.turns) in
-    let car : value_of new.cells.cells a ≡ value_of cells (car_of cells v) = ap (λ (s : Store). value_of s.cells a) m.view.cells ∙ ap (value_of cells) ea in
-    let cdr : value_of new.cells.cells d ≡ value_of cells (cdr_of cells v) = ap (λ (s : Store). value_of s.cells d) m.view.cells ∙ ap (value_of cells) ed in
+    let car : value_of new.cells.cells a ≡ value_of cells (car_of cells v) = ap (λ (s : Store). value_of s.cells a) m.view.cells ∙ ap (value_of cells) (ea ∙ ap (λ (s : Store). car_of s.cells v) m.view.cells) in
+    let cdr : value_of new.cells.cells d ≡ value_of cells (cdr_of cells v) = ap (λ (s : Store). value_of s.cells d) m.view.cells ∙ ap (value_of cells) (ed ∙ ap (λ (s : Store). cdr_of s.cells v) m.view.cells) in
     rest_of style base old v _ text read.value
     ∙ (rest_pair (setting_in style old) _ (value_of cells (car_of cells v)) (value_of cells (cdr_of cells v)) (waiting_places old base) (levels_left old) (progress_in old text) (turns_left new.counts) read.stands more
     ∙ (sym (element_moved base old new (turns_left new.counts) (levels_left old) (waiting_places old base) style (value_of cells (car_of cells v)) (Rest (value_of cells (cdr_of cells v))) (marked (32 ∷ [])) text m)
@@ -316,3 +317,110 @@ places_mean base old new v i dotted x mark t at em style text =
     ∙ (sym (element_moved base old new (turns_left new.counts) (levels_left old) (waiting_places old base) style (value_of cells x) (Places false rest dotted) (marked mark) text m)
     ∙ (ap (λ y. element_printed (setting_in style new) y (Places false rest dotted ∷ waiting_places new base) (levels_left new) (marked mark (progress_in new text))) value
     ∙ ap (λ q. element_printed (setting_in style new) (value_of new.cells.cells x) (q ∷ waiting_places new base) (levels_left new) (marked mark (progress_in new text))) place))))
+
+-- ---- steps that a world stays through
+
+pub long_pushed : (base : ℕ) (old mid new : World) (outer : Cursor) → Turned old mid → length new.levels.walk ≡ length mid.levels.walk + 1 → length new.levels.walk ≡ length old.levels.walk + 1
+long_pushed base old mid new outer t l = l ∙ ap (λ (w : World). length w.levels.walk + 1) t.world
+
+pub ready_turned : (base : ℕ) (old new : World) → Turned old new → IsReady old base → IsReady new base
+ready_turned base old new t r = rw t.world (record { table = r.table; above = r.above; kept = r.kept })
+
+-- a live value that is neither pair nor vector is an atom
+pub live_atom : (cells : List Cell) (v : Tagged) → is_live cells v ≡ true → tag_of v ≢ Tag.Pair → tag_of v ≢ Tag.Vector → is_atom cells v ≡ true
+live_atom cells (Number z) h p q = h
+live_atom cells (IdAt k) h p q = h
+live_atom cells (StrAt k) h p q = h
+live_atom cells (BigAt k) h p q = h
+live_atom cells (FunAt k) h p q = h
+live_atom cells (PairAt k) h p q = absurd (p refl)
+live_atom cells (VectorAt k) h p q = absurd (q refl)
+
+pub live_pair : (cells : List Cell) (v : Tagged) → is_live cells v ≡ true → Tag.Pair ≡ tag_of v → is_pair cells v ≡ true
+live_pair cells (PairAt k) h t = h
+live_pair cells v h t = absurd (cc)
+
+pub live_vector : (cells : List Cell) (v : Tagged) → is_live cells v ≡ true → Tag.Vector ≡ tag_of v → is_vector cells v ≡ true
+live_vector cells (VectorAt k) h t = h
+live_vector cells v h t = absurd (cc)
+
+pub end_of : (style : atoms.Style) (w : World) (v : Tagged) (i : ℕ) (dotted : Bool) (mark : List ℕ) (text : List ℕ) → i ≡ length (vector_of w.cells.cells v) → mark ≡ (if dotted then 93 ∷ 41 ∷ [] else 93 ∷ [])
+    → place_printed (setting_in style w) (place_in w.cells.cells (cursor.Places v i dotted)) (levels_left w) (progress_in w text) ≡ marked mark (progress_in w text)
+end_of style w v i dotted mark text e em =
+    let none : drop i (map (value_of w.cells.cells) (vector_of w.cells.cells v)) ≡ [] = drop_all (value_of w.cells.cells) (vector_of w.cells.cells v) i e in
+    ap (λ xs. place_printed (setting_in style w) (Places (i == 0) xs dotted) (levels_left w) (progress_in w text)) none
+    ∙ (end_is_last style w (i == 0) dotted text ∙ ap (λ bytes. marked bytes (progress_in w text)) (sym em))
+  where
+    drop_all : (f : Tagged → Value) (xs : List Tagged) (n : ℕ) → n ≡ length xs → drop n (map f xs) ≡ []
+    drop_all f [] zero e = refl
+    drop_all f [] (suc n) e = refl
+    drop_all f (x ∷ xs) zero e = absurd (omega arith)
+    drop_all f (x ∷ xs) (suc n) e = drop_all f xs n (omega arith)
+
+-- ---- fewer steps are left
+
+pub pair_less : (base : ℕ) (old mid new : World) (v a d : Tagged) (outer : Cursor) → Turned old mid → Pushed base mid new outer → length new.levels.walk ≡ length mid.levels.walk + 1 → weight new (Some (state.Element a (cursor.Rest d))) < weight old (Some (state.Element v outer))
+pair_less base old mid new v a d outer t p l =
+    let turns : turns_left new.counts ≡ turns_left mid.counts = ap (λ (w : World). turns_left w.counts) p.world in
+    let long : length mid.levels.walk ≡ length old.levels.walk = ap (λ (w : World). length w.levels.walk) t.world in
+    omega (arith, turns, long, l, t.turns)
+
+pub vector_less : (base : ℕ) (old new : World) (v : Tagged) (outer : Cursor) → Pushed base old new outer → length new.levels.walk ≡ length old.levels.walk + 1 → weight new (Some (state.Next (cursor.Places v 0 false))) < weight old (Some (state.Element v outer))
+vector_less base old new v outer p l =
+    let turns : turns_left new.counts ≡ turns_left old.counts = ap (λ (w : World). turns_left w.counts) p.world in
+    omega (arith, turns, l)
+
+pub turn_less : (old new : World) (at : State) (v : Tagged) (c : Cursor) → Turned old new → weight new (Some (state.Element v c)) < weight old (Some at)
+turn_less old new at v c t =
+    let long : length new.levels.walk ≡ length old.levels.walk = ap (λ (w : World). length w.levels.walk) t.world in
+    omega (arith, long, t.turns)
+
+pub pop_less : (old new : World) (at : State) (next : Option State) → new ≡ record old { levels = new.levels } → 4 * length new.levels.walk + state_weight next ≤ 4 * length old.levels.walk → 0 < state_weight (Some at) → weight new next < weight old (Some at)
+pop_less old new at next e l some =
+    let turns : turns_left new.counts ≡ turns_left old.counts = ap (λ (w : World). turns_left w.counts) e in
+    omega (arith, turns, l, some)
+
+pub cursor_less : (c : Cursor) → state_weight (Some (state.Next c)) < 6
+cursor_less (cursor.Rest d) = omega arith
+cursor_less (cursor.Places v i dotted) = omega arith
+
+-- ---- nothing has changed
+
+pub world_refl : (base : ℕ) (w : World) → IsWorldOf base w w
+world_refl base w = record {
+  world = refl;
+  ticked = record { number = 0; counts = refl; left = omega arith; stop = refl };
+  steady = record { below = refl; level = refl; bound = refl; aside = refl };
+}
+
+pub vector_cursor : (old new : World) (v : Tagged) → SameView old new → is_vector old.cells.cells v ≡ true → (dotted : Bool) → IsCursor new.cells.cells (cursor.Places v 0 dotted)
+vector_cursor old new v view h dotted = (ap (λ (s : Store). is_vector s.cells v) view.cells ∙ h, omega arith)
+
+-- ---- NIL, by its word
+
+pub is_nil : (d : Tagged) → (word_of d == 33) ≡ true → d ≡ IdAt 2
+is_nil d h = go d (eqb-true (word_of d) 33 h)
+  where
+    go : (v : Tagged) → word_of v ≡ 33 → v ≡ IdAt 2
+    go (IdAt k) e = let k_is : k ≡ 2 = omega (arith, e) in ap IdAt k_is
+    go (Number z) e = absurd (omega (arith, e))
+    go (StrAt k) e = absurd (omega (arith, e))
+    go (PairAt k) e = absurd (omega (arith, e))
+    go (VectorAt k) e = absurd (omega (arith, e))
+    go (BigAt k) e = absurd (omega (arith, e))
+    go (FunAt k) e = absurd (omega (arith, e))
+
+pub is_other : (d : Tagged) → (word_of d == 33) ≡ false → d ≢ IdAt 2
+is_other d h e = let same : (word_of d == 33) ≡ true = ap (λ v. word_of v == 33) e in cc
+
+pub nil_last : (style : atoms.Style) (w : World) (d : Tagged) (text : List ℕ) → d ≡ IdAt 2 → place_printed (setting_in style w) (place_in w.cells.cells (cursor.Rest d)) (levels_left w) (progress_in w text) ≡ marked (41 ∷ []) (progress_in w text)
+nil_last style w d text e = ap (λ v. place_printed (setting_in style w) (Rest (value_of w.cells.cells v)) (levels_left w) (progress_in w text)) e ∙ nil_is_last style w text
+
+pub world_popped : (base : ℕ) (old new : World) → new ≡ record old { levels = new.levels } → IsSteady base old.levels new.levels → IsWorldOf base old new
+world_popped base old new e steady =
+    let counts : new.counts ≡ old.counts = ap (λ (w : World). w.counts) e in
+    record {
+      world = e ∙ ap (λ c. record old { counts = c; levels = new.levels }) (sym counts);
+      ticked = record { number = 0; counts = counts; left = let l = ap turns_left counts in omega (arith, l); stop = ap last_stop counts };
+      steady = steady;
+    }

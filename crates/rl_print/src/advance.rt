@@ -1,5 +1,5 @@
 //! One step of printing: what it does to turns, levels and the walk, and what is to be printed.
-ghost use Rattle.std.specs.Prelude.{◌≡◌, ◌+◌, ◌-◌, ◌*◌, ◌%◌, ◌≤◌, ◌<◌, ◌∷◌, ℕ, List, None, Some, length, IsTrue, IfOk, IfErr, OnOk};
+ghost use Rattle.std.specs.Prelude.{◌≡◌, ◌+◌, ◌-◌, ◌*◌, ◌%◌, ◌≤◌, ◌<◌, ◌∷◌, ◌==◌, if◌then◌else◌, [], ℕ, List, None, Some, length, IsTrue, IfOk, IfErr, OnOk};
 ghost use Rattle.rl_cells.specs.Cell.{Cell, is_live, is_pair, is_vector, vector_of};
 ghost use Rattle.rl_tree.specs.Atoms as atoms;
 ghost use Rattle.rl_tree.specs.Printing.{Ending, NoTurn, Progress, TooDeep};
@@ -207,16 +207,28 @@ fn places(w: &mut World, v: Val, i: u64, dotted: bool, base: u64) -> Result<Step
     ensures world { IsWorldOf base w.old w.new }
 {
     if i == u64::from(w.cells.vector_len(v)) {
-        let mark = if dotted { b"])".as_slice() } else { b"]".as_slice() };
-        return Ok((Piece::Mark(mark), pop(w, base)));
+        return Ok((Piece::Mark(end_mark(dotted)), pop(w, base)));
     }
     if let Err(s) = turn(w) {
         return Err(s);
     }
     let x = w.cells.get(v, i as u32);
-    let mark = if i == 0 { b"".as_slice() } else { b" ".as_slice() };
     Ok((
-        Piece::Mark(mark),
+        Piece::Mark(mark_before(i)),
         Some(State::Element(x, Cursor::Places(v, i + 1, dotted))),
     ))
+}
+
+/// The end of a vector, and that of the list behind whose dot it stands.
+fn end_mark(dotted: bool) -> &'static [u8]
+    ensures { result.now ≡ (if dotted then 93 ∷ 41 ∷ [] else 93 ∷ []) }
+{
+    if dotted { b"])" } else { b"]" }
+}
+
+/// What stands before the place `i`.
+fn mark_before(i: u64) -> &'static [u8]
+    ensures { result.now ≡ (if i == 0 then [] else 32 ∷ []) }
+{
+    if i == 0 { b"" } else { b" " }
 }
