@@ -3,4 +3,4 @@
 
 mod atom;
 
-pub use atom::bare;
+pub use atom::{AtomText, Style};
