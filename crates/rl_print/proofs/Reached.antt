@@ -1,5 +1,5 @@
 -- Each step of the walk, in a world.
-use Rattle.std.proofs.Common.{◌≡◌, ◌≢◌, ℕ, zero, suc, ◌+◌, ◌-◌, ◌*◌, ◌<◌, ◌≤◌, ◌==◌, Bool, true, false, if◌then◌else◌, List, [], ◌∷◌, ◌++◌, length, map, drop, get_or, Option, Some, None, refl, sym, ap, ◌∙◌, arith, append_assoc, eqb-true}
+use Rattle.std.proofs.Common.{◌≡◌, ◌≢◌, ℕ, zero, suc, ◌+◌, ◌-◌, ◌*◌, ◌<◌, ◌≤◌, ◌==◌, Bool, true, false, if◌then◌else◌, List, [], ◌∷◌, ◌++◌, length, map, drop, get_or, Bor, Option, Some, None, refl, sym, ap, ◌∙◌, arith, append_assoc, eqb-true}
 use Rattle.std.specs.Prelude.{slice_get}
 use Rattle.std.proofs.lemmas.List.{append-nil}
 use Rattle.std.proofs.lemmas.Bool.Decides.{nat_tests}
@@ -9,21 +9,22 @@ use Rattle.rl_tags.specs.declared.Tag.TheVariants as Tag
 use Rattle.rl_cells.specs.Cell.{Cell, Store, car_of, cdr_of, is_live, is_pair, is_vector, vector_of}
 use Rattle.rl_syms.specs.Contents.{value_of, store_of}
 use Rattle.rl_syms.specs.Laws.{IsRead}
+use Rattle.rl_syms.specs.Table.{IsTable}
 use Rattle.rl_tree.specs.Value.{Value, Int, Id, Str, Ref, Fun, Object, Pair, Vector}
 use Rattle.rl_tree.specs.Atoms as atoms
-use Rattle.rl_tree.specs.Printing.{Ending, Whole, NoTurn, TooDeep, Progress, Setting, column_with, marked, with_atom_of, dotted_atom, value_printed}
+use Rattle.rl_tree.specs.Printing.{Ending, Whole, NoTurn, TooDeep, Progress, Setting, column_with, marked, with_atom_of, dotted_atom, printed, value_printed}
 use Rattle.rl_world.specs.declared.stop.Stop.{Stop}
 use Rattle.rl_world.specs.declared.stop.Stop.TheVariants as stop
 use Rattle.rl_world.specs.declared.world.World.{World}
 use Rattle.rl_print.specs.AtomText.{is_atom}
 use Rattle.rl_print.specs.Counted.{IsStop, IsTicked, last_stop, turns_left}
-use Rattle.rl_print.specs.Walk.{Advances, Ends, IsCursor, IsNext, IsReady, IsSteady, IsWorldOf, Place, Rest, Places, all_printed, continued, element_printed, place_printed, levels_left, meaning, place_in, progress_in, setting_in, shown, state_weight, stopped, waiting_places, weight, whole}
+use Rattle.rl_print.specs.Walk.{Advances, Begins, Ends, IsCursor, IsNext, IsReady, IsSteady, IsWorldOf, Place, Rest, Places, all_printed, continued, element_printed, place_printed, levels_left, meaning, place_in, progress_in, setting_in, shown, state_weight, stopped, waiting_places, weight, whole, whole_printed}
 use Rattle.rl_print.specs.declared.walk.Cursor.{Cursor}
 use Rattle.rl_print.specs.declared.walk.Cursor.TheVariants as cursor
 use Rattle.rl_print.specs.declared.walk.Piece.TheVariants as piece
 use Rattle.rl_print.specs.declared.walk.State.{State}
 use Rattle.rl_print.specs.declared.walk.State.TheVariants as state
-use Rattle.rl_print.proofs.Steps.{atom_next, pair_wants_turn, pair_wants_level, pair_begins, vector_wants_level, vector_begins, place_done, rest_nil, rest_wants_turn, rest_pair, rest_vector, places_end, places_want_turn, places_go_on}
+use Rattle.rl_print.proofs.Steps.{atom_next, pair_wants_turn, pair_wants_level, pair_begins, vector_wants_level, vector_begins, place_done, root_atom, root_pair, root_pair_wants_turn, root_vector, rest_nil, rest_wants_turn, rest_pair, rest_vector, places_end, places_want_turn, places_go_on}
 
 -- what printing sees of two worlds is the same
 pub record SameView (old new : World) : Type 0 where
@@ -424,3 +425,76 @@ world_popped base old new e steady =
       ticked = record { number = 0; counts = counts; left = let l = ap turns_left counts in omega (arith, l); stop = ap last_stop counts };
       steady = steady;
     }
+
+-- ---- the root
+
+ready_at : (w : World) (base : ℕ) → IsTable w.cells.cells w.syms.head → base ≡ length w.levels.walk → IsReady w base
+ready_at w base table e =
+    let none : length w.levels.walk - base ≡ 0 = omega (arith, e) in
+    record { table = table; above = omega (arith, e); kept = rw none tt }
+
+none_waits : (w : World) (base : ℕ) → base ≡ length w.levels.walk → waiting_places w base ≡ []
+none_waits w base e = let none : length w.levels.walk - base ≡ 0 = omega (arith, e) in rw none refl
+
+root_value : (style : atoms.Style) (w : World) (v : Tagged) (r : ℕ) (text : List ℕ) → value_of w.cells.cells v ≡ Ref r → whole_printed style w v text ≡ printed (setting_in style w) (Ref r) (levels_left w) (progress_in w text)
+root_value style w v r text value = ap (λ x. printed (setting_in style w) x (levels_left w) (progress_in w text)) value
+
+pub root_no_turn : IsRead → (w : World) (v : Tagged) → is_pair w.cells.cells v ≡ true → turns_left w.counts ≡ 0 → (style : atoms.Style) (text : List ℕ) → whole_printed style w v text ≡ stopped w NoTurn text
+root_no_turn law w v pair none style text =
+    let cells = w.cells.cells in
+    let read = law.pair cells v pair in
+    root_value style w v _ text read.value ∙ root_pair_wants_turn (setting_in style w) _ (value_of cells (car_of cells v)) (value_of cells (cdr_of cells v)) (levels_left w) (progress_in w text) read.stands none
+
+pub root_pair_means : IsRead → (base : ℕ) (old new : World) (v a d : Tagged) → base ≡ length old.levels.walk → Turned old new → is_pair old.cells.cells v ≡ true → a ≡ car_of new.cells.cells v → d ≡ cdr_of new.cells.cells v → (style : atoms.Style) (text : List ℕ)
+    → whole_printed style old v text ≡ element_printed (setting_in style new) (value_of new.cells.cells a) (Rest (value_of new.cells.cells d) ∷ waiting_places new base) (levels_left new) (marked (40 ∷ []) (progress_in new text))
+root_pair_means law base old new v a d eb t pair ea ed style text =
+    let cells = old.cells.cells in
+    let read = law.pair cells v pair in
+    let m = turned_moved base old new t in
+    let more : turns_left old.counts ≡ suc (turns_left new.counts) = omega (arith, t.turns) in
+    let car : value_of new.cells.cells a ≡ value_of cells (car_of cells v) = ap (λ (s : Store). value_of s.cells a) m.view.cells ∙ ap (value_of cells) (ea ∙ ap (λ (s : Store). car_of s.cells v) m.view.cells) in
+    let cdr : value_of new.cells.cells d ≡ value_of cells (cdr_of cells v) = ap (λ (s : Store). value_of s.cells d) m.view.cells ∙ ap (value_of cells) (ed ∙ ap (λ (s : Store). cdr_of s.cells v) m.view.cells) in
+    root_value style old v _ text read.value
+    ∙ (root_pair (setting_in style old) _ (value_of cells (car_of cells v)) (value_of cells (cdr_of cells v)) (levels_left old) (progress_in old text) (turns_left new.counts) read.stands more
+    ∙ (ap (λ ps. element_printed (setting_in style old) (value_of cells (car_of cells v)) (Rest (value_of cells (cdr_of cells v)) ∷ ps) (levels_left old) (marked (40 ∷ []) (record (progress_in old text) { turns = turns_left new.counts }))) (sym (none_waits old base eb))
+    ∙ (sym (element_moved base old new (turns_left new.counts) (levels_left old) (waiting_places old base) style (value_of cells (car_of cells v)) (Rest (value_of cells (cdr_of cells v))) (marked (40 ∷ [])) text m)
+    ∙ (ap (λ x. element_printed (setting_in style new) x (Rest (value_of cells (cdr_of cells v)) ∷ waiting_places new base) (levels_left new) (marked (40 ∷ []) (progress_in new text))) (sym car)
+    ∙ ap (λ y. element_printed (setting_in style new) (value_of new.cells.cells a) (Rest y ∷ waiting_places new base) (levels_left new) (marked (40 ∷ []) (progress_in new text))) (sym cdr)))))
+
+pub root_vector_means : IsRead → (base : ℕ) (w : World) (v : Tagged) → base ≡ length w.levels.walk → is_vector w.cells.cells v ≡ true → (style : atoms.Style) (text : List ℕ)
+    → whole_printed style w v text ≡ all_printed (setting_in style w) (Places true (map (value_of w.cells.cells) (vector_of w.cells.cells v)) false ∷ waiting_places w base) (levels_left w) (marked (91 ∷ []) (progress_in w text))
+root_vector_means law base w v eb vector style text =
+    let cells = w.cells.cells in
+    let read = law.vector cells v vector in
+    let xs = map (value_of cells) (vector_of cells v) in
+    root_value style w v _ text read.value
+    ∙ (root_vector (setting_in style w) _ xs (levels_left w) (progress_in w text) read.stands
+    ∙ ap (λ ps. all_printed (setting_in style w) (Places true xs false ∷ ps) (levels_left w) (marked (91 ∷ []) (progress_in w text))) (sym (none_waits w base eb)))
+
+pub root_atom_means : (w : World) (v : Tagged) → is_atom w.cells.cells v ≡ true → (style : atoms.Style) (text : List ℕ) → whole_printed style w v text ≡ with_atom_of (setting_in style w) (value_of w.cells.cells v) (progress_in w text)
+root_atom_means w v atom style text = root_atom (setting_in style w) (value_of w.cells.cells v) (levels_left w) (progress_in w text) (atom_value (setting_in style w) false w.cells.cells v (levels_left w) (progress_in w text) atom)
+
+pub pair_begun : IsRead → (base : ℕ) (old new : World) (v a d : Tagged) (mark : Bor (List ℕ)) → mark.now ≡ 40 ∷ [] → IsTable old.cells.cells old.syms.head → base ≡ length old.levels.walk → Turned old new → is_pair old.cells.cells v ≡ true → a ≡ car_of new.cells.cells v → d ≡ cdr_of new.cells.cells v → is_live new.cells.cells a ≡ true → is_live new.cells.cells d ≡ true
+    → Begins base old new v (piece.Mark mark) (Some (state.Element a (cursor.Rest d)))
+pair_begun law base old new v a d mark em table eb t pair ea ed la ld = record {
+  means = λ style text. root_pair_means law base old new v a d eb t pair ea ed style text ∙ ap (λ b. element_printed (setting_in style new) (value_of new.cells.cells a) (Rest (value_of new.cells.cells d) ∷ waiting_places new base) (levels_left new) (marked b (progress_in new text))) (sym em);
+  ready = ready_turned base old new t (ready_at old base table eb);
+  next_is = (la, ld);
+  piece_is = tt;
+}
+
+pub vector_begun : IsRead → (base : ℕ) (w : World) (v : Tagged) (mark : Bor (List ℕ)) → mark.now ≡ 91 ∷ [] → IsTable w.cells.cells w.syms.head → base ≡ length w.levels.walk → is_vector w.cells.cells v ≡ true → Begins base w w v (piece.Mark mark) (Some (state.Next (cursor.Places v 0 false)))
+vector_begun law base w v mark em table eb vector = record {
+  means = λ style text. root_vector_means law base w v eb vector style text ∙ ap (λ b. all_printed (setting_in style w) (Places true (map (value_of w.cells.cells) (vector_of w.cells.cells v)) false ∷ waiting_places w base) (levels_left w) (marked b (progress_in w text))) (sym em);
+  ready = ready_at w base table eb;
+  next_is = (vector, omega arith);
+  piece_is = tt;
+}
+
+pub atom_begun : (base : ℕ) (w : World) (v : Tagged) → IsTable w.cells.cells w.syms.head → base ≡ length w.levels.walk → is_atom w.cells.cells v ≡ true → Begins base w w v (piece.Atom v) None
+atom_begun base w v table eb atom = record {
+  means = root_atom_means w v atom;
+  ready = ready_at w base table eb;
+  next_is = sym eb;
+  piece_is = atom;
+}

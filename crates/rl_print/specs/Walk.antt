@@ -8,7 +8,7 @@ use Rattle.rl_syms.specs.Table.{IsTable, name_at}
 use Rattle.rl_syms.specs.Contents.{value_of, store_of}
 use Rattle.rl_tree.specs.Value.{Value}
 use Rattle.rl_tree.specs.Atoms as atoms
-use Rattle.rl_tree.specs.Printing.{Setting, Progress, Ending, Whole, Printer, marked, with_atom_of, and_then, places_printed, value_printed, dotted_atom, rest_printed, job_printed}
+use Rattle.rl_tree.specs.Printing.{Setting, Progress, Ending, Whole, Printer, marked, with_atom_of, and_then, places_printed, value_printed, dotted_atom, rest_printed, job_printed, printed}
 use Rattle.rl_world.specs.Levels.{Levels}
 use Rattle.rl_world.specs.Waiting.{Follows, IsCutOff}
 use Rattle.rl_world.specs.declared.world.World.{World}
@@ -180,3 +180,64 @@ pub record Ends (base : ℕ) (old new : World) (at : Option State) (s : Stop) : 
   pub ending : Ending
   pub is_stop : IsStop old.counts ending s
   pub means : (style : atoms.Style) (text : List ℕ) → meaning style old base at text ≡ stopped new ending text
+
+-- ---- what is printed at once
+
+-- these bytes follow what waited, and make what the piece is to show
+pub record Shows (before now : Option (List ℕ)) (style : atoms.Style) (old new : World) (piece : Piece) : Type 0 where
+  pub bytes : List ℕ
+  pub follows : Follows before old.output.waiting now new.output.waiting bytes
+  pub means : (text : List ℕ) → shown (setting_in style old) old.cells.cells piece (progress_in old text) ≡ progress_in new (text ++ bytes)
+
+-- a front of what waited and of these bytes came to the sink
+pub record ShowsFront (before now : Option (List ℕ)) (style : atoms.Style) (old : World) (piece : Piece) : Type 0 where
+  pub bytes : List ℕ
+  pub cut : IsCutOff before now (old.output.waiting ++ bytes)
+  pub more : (text : List ℕ) → (rest : List ℕ) × ((shown (setting_in style old) old.cells.cells piece (progress_in old text)).page.text ≡ (text ++ bytes) ++ rest)
+
+-- ---- a value from its root on
+
+-- what is printed of a value, with this text printed before
+abbrev pub whole_printed : atoms.Style → World → Tagged → List ℕ → Progress
+whole_printed style w v text = printed (setting_in style w) (value_of w.cells.cells v) (levels_left w) (progress_in w text)
+
+pub record Begins (base : ℕ) (old new : World) (v : Tagged) (piece : Piece) (next : Option State) : Type 0 where
+  pub means : (style : atoms.Style) (text : List ℕ) → whole_printed style old v text ≡ continued style new base next (shown (setting_in style new) new.cells.cells piece (progress_in new text))
+  pub ready : IsReady new base
+  pub next_is : IsNext new base next
+  pub piece_is : IsPiece new.cells.cells piece
+
+pub record Fails (old new : World) (v : Tagged) (s : Stop) : Type 0 where
+  pub ending : Ending
+  pub is_stop : IsStop old.counts ending s
+  pub means : (style : atoms.Style) (text : List ℕ) → whole_printed style old v text ≡ stopped new ending text
+
+-- ---- steps that print
+
+-- of the world only turns, levels, what a walk keeps, and what is printed have changed
+pub record IsPrinting (base : ℕ) (old new : World) : Type 0 where
+  pub world : new ≡ record old { counts = new.counts; levels = new.levels; output = record old.output { waiting = new.output.waiting; column = new.output.column } }
+  pub ticked : IsTicked old.counts new.counts
+  pub steady : IsSteady base old.levels new.levels
+
+-- a step printed something, and it goes on with the next state
+pub record Goes (before now : Option (List ℕ)) (base : ℕ) (style : atoms.Style) (old new : World) (start : List ℕ → Progress) (next : Option State) : Type 0 where
+  pub prints : Prints before now old.output.waiting new.output.waiting start (meaning style new base next)
+  pub ready : IsReady new base
+  pub next_is : IsNext new base next
+
+-- it ends for want of a turn or of a level, and what was printed is all that the definition prints
+pub record Halts (before now : Option (List ℕ)) (old new : World) (start : List ℕ → Progress) (s : Stop) : Type 0 where
+  pub ending : Ending
+  pub is_stop : IsStop old.counts ending s
+  pub prints : Prints before now old.output.waiting new.output.waiting start (stopped new ending)
+
+-- ---- all of it
+
+-- all that the definition prints follows what waited, in as many turns, and levels are as they were
+pub record IsPrinted (before now : Option (List ℕ)) (style : atoms.Style) (old new : World) (v : Tagged) : Type 0 where
+  pub whole : (whole_printed style old v []).ending ≡ Whole
+  pub follows : Follows before old.output.waiting now new.output.waiting (whole_printed style old v []).page.text
+  pub column : new.output.column ≡ (whole_printed style old v []).page.column
+  pub turns : turns_left new.counts ≡ (whole_printed style old v []).turns
+  pub levels : new.levels ≡ old.levels

@@ -1,12 +1,13 @@
 //! One step of printing: what it does to turns, levels and the walk, and what is to be printed.
 ghost use Rattle.std.specs.Prelude.{◌≡◌, ◌+◌, ◌-◌, ◌*◌, ◌%◌, ◌≤◌, ◌<◌, ◌∷◌, ◌==◌, if◌then◌else◌, [], ℕ, List, None, Some, length, IsTrue, IfOk, IfErr, OnOk};
 ghost use Rattle.rl_cells.specs.Cell.{Cell, is_live, is_pair, is_vector, vector_of};
+ghost use Rattle.rl_syms.specs.Table.{IsTable};
 ghost use Rattle.rl_tree.specs.Atoms as atoms;
 ghost use Rattle.rl_tree.specs.Printing.{Ending, NoTurn, Progress, TooDeep};
 ghost use Rattle.rl_world.specs.Counts.{ticked};
 ghost use Rattle.rl_print.specs.AtomText.{is_atom, style_of};
 ghost use Rattle.rl_print.specs.Counted.{IsStop, IsTicked, turns_left};
-ghost use Rattle.rl_print.specs.Walk.{IsCursor, IsKept, IsNext, IsPiece, IsReady, IsState, IsSteady, all_printed, continued, kept_place, levels_left, meaning, place_in, progress_in, setting_in, shown, state_weight, stopped, waiting_places, Advances, Ends, IsWorldOf};
+ghost use Rattle.rl_print.specs.Walk.{IsCursor, IsKept, IsNext, IsPiece, IsReady, IsState, IsSteady, all_printed, continued, kept_place, levels_left, meaning, place_in, progress_in, setting_in, shown, state_weight, stopped, waiting_places, Advances, Begins, Ends, Fails, IsWorldOf};
 ghost use Rattle.rl_world.specs.declared.stop.Stop.TheVariants as stop;
 ghost use Rattle.rl_print.specs.declared.walk.Cursor.TheVariants as cursor;
 ghost use Rattle.rl_print.specs.declared.walk.State.TheVariants as state;
@@ -94,7 +95,7 @@ fn pop(w: &mut World, base: u64) -> Option<State>
 }
 
 /// What is to be printed at once, and what comes next.
-type Step = (Piece<'static>, Option<State>);
+pub(crate) type Step = (Piece<'static>, Option<State>);
 
 /// An element that is a pair: `(`, and its CAR, behind which the rest waits.
 fn pair_element(w: &mut World, v: Val, outer: Cursor, base: u64) -> Result<Step, Stop>
@@ -231,4 +232,74 @@ fn mark_before(i: u64) -> &'static [u8]
     ensures { result.now ≡ (if i == 0 then [] else 32 ∷ []) }
 {
     if i == 0 { b"" } else { b" " }
+}
+
+/// One step of the walk.
+pub(crate) fn advance(w: &mut World, at: State, base: u64) -> Result<Step, Stop>
+    requires ready { IsReady w.old base }
+    requires state { IsState w.old.cells.cells at }
+    ensures ok { IfOk result (λ r. Advances base w.old w.new (Some at) r.0 r.1) }
+    ensures err { IfErr result (λ s. Ends base w.old w.new (Some at) s) }
+    ensures world { IsWorldOf base w.old w.new }
+{
+    match at {
+        State::Element(v, outer) => element(w, v, outer, base),
+        State::Next(c) => next(w, c, base),
+    }
+}
+
+/// What waits: the rest of a list, or the places of a vector.
+fn next(w: &mut World, c: Cursor, base: u64) -> Result<Step, Stop>
+    requires ready { IsReady w.old base }
+    requires cursor { IsCursor w.old.cells.cells c }
+    ensures ok { IfOk result (λ r. Advances base w.old w.new (Some (state.Next c)) r.0 r.1) }
+    ensures err { IfErr result (λ s. Ends base w.old w.new (Some (state.Next c)) s) }
+    ensures world { IsWorldOf base w.old w.new }
+{
+    match c {
+        Cursor::Rest(d) => rest(w, d, base),
+        Cursor::Places(v, i, dotted) => places(w, v, i, dotted, base),
+    }
+}
+
+/// The value at the root, which is no descent: an atom, or a pair or a vector.
+pub(crate) fn begin(w: &mut World, v: Val, base: u64) -> Result<Step, Stop>
+    requires table { IsTable w.old.cells.cells w.old.syms.head }
+    requires live { IsTrue (is_live w.old.cells.cells v) }
+    requires base { base ≡ length w.old.levels.walk }
+    ensures ok { IfOk result (λ r. Begins base w.old w.new v r.0 r.1) }
+    ensures err { IfErr result (λ s. Fails w.old w.new v s) }
+    ensures world { IsWorldOf base w.old w.new }
+{
+    meaning_of_reading();
+    match v.tag() {
+        Tag::Pair => begin_pair(w, v, base),
+        Tag::Vector => Ok((
+            Piece::Mark(b"["),
+            Some(State::Next(Cursor::Places(v, 0, false))),
+        )),
+        _ => Ok((Piece::Atom(v), None)),
+    }
+}
+
+/// A pair at the root.
+fn begin_pair(w: &mut World, v: Val, base: u64) -> Result<Step, Stop>
+    requires table { IsTable w.old.cells.cells w.old.syms.head }
+    requires pair { IsTrue (is_pair w.old.cells.cells v) }
+    requires base { base ≡ length w.old.levels.walk }
+    ensures ok { IfOk result (λ r. Begins base w.old w.new v r.0 r.1) }
+    ensures err { IfErr result (λ s. Fails w.old w.new v s) }
+    ensures world { IsWorldOf base w.old w.new }
+{
+    let _ = base;
+    meaning_of_reading();
+    if let Err(s) = turn(w) {
+        return Err(s);
+    }
+    let car = w.cells.car(v);
+    let cdr = w.cells.cdr(v);
+    Ok((
+        Piece::Mark(b"("),
+        Some(State::Element(car, Cursor::Rest(cdr))),
+    ))
 }

@@ -3,6 +3,9 @@
 
 mod advance;
 mod atom;
+mod print;
+mod put;
+mod show;
 mod walk;
 
-pub use atom::{Style, bare};
+pub use atom::{AtomText, Style, bare};

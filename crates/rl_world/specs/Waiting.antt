@@ -1,11 +1,11 @@
 -- Bytes that are on their way to a sink: what it holds, and then those that wait in a buffer.
-use Rattle.std.specs.Prelude.{◌≡◌, ℕ, List, ◌++◌, Option}
+use Rattle.std.specs.Prelude.{◌≡◌, ℕ, List, ◌++◌, take, drop, Option}
 use Rattle.rl_io.specs.Told.{WhereTold}
 use Rattle.rl_io.specs.Pieces.{AppendsFront}
 
--- these bytes follow what the sink held and what waited
+-- the sink took a front of what waited and these bytes, none or more, and the rest waits
 abbrev pub Follows : Option (List ℕ) → List ℕ → Option (List ℕ) → List ℕ → List ℕ → Type 0
-Follows old waited new waiting bytes = WhereTold old new (λ before now. now ++ waiting ≡ (before ++ waited) ++ bytes)
+Follows old waited new waiting bytes = WhereTold old new (λ before now. (n : ℕ) × (now ≡ before ++ take n (waited ++ bytes)) × (waiting ≡ drop n (waited ++ bytes)))
 
 -- a front of these bytes came to the sink, all or less
 abbrev pub IsCutOff : Option (List ℕ) → Option (List ℕ) → List ℕ → Type 0

@@ -1,0 +1,105 @@
+//! PRIN1 and PRIN2.
+ghost use Rattle.std.specs.Prelude.{◌≡◌, ◌≢◌, ◌<◌, Some, length, Ok, Err, IsTrue, IfOk, IfErr, OnOk};
+ghost use Rattle.rl_io.specs.Faults.{Rose};
+ghost use Rattle.rl_cells.specs.Cell.{is_live};
+ghost use Rattle.rl_syms.specs.Table.{IsTable};
+ghost use Rattle.rl_world.specs.declared.stop.Stop.TheVariants as stop;
+ghost use Rattle.rl_print.specs.AtomText.{style_of};
+ghost use Rattle.rl_print.specs.Walk.{Cuts, Goes, Halts, IsPrinted, IsPrinting, IsReady, IsState, meaning, weight, whole_printed};
+
+use crate::advance::{advance, begin};
+use crate::atom::Style;
+use crate::show::show;
+use crate::walk::State;
+use rl_io::{Files, Io, Sink, Source};
+use rl_tags::Val;
+use rl_world::{Stop, World};
+
+/// One step of the walk, and what it prints.
+fn step<I: Source, O: Sink, N: Sink, F: Files>(
+    w: &mut World,
+    at: State,
+    base: u64,
+    style: Style,
+    io: &mut Io<'_, I, O, N, F>,
+) -> Result<Option<State>, Stop>
+    requires ready { IsReady w.old base }
+    requires state { IsState w.old.cells.cells at }
+    ensures ok { IfOk result (λ next. Goes (O.contents io.old.out.now) (O.contents io.new.out.now) base (style_of style) w.old w.new (meaning (style_of style) w.old base (Some at)) next) }
+    ensures less { IfOk result (λ next. weight w.new next < weight w.old (Some at)) }
+    ensures halts { IfErr result (λ s. s ≢ stop.Write → Halts (O.contents io.old.out.now) (O.contents io.new.out.now) w.old w.new (meaning (style_of style) w.old base (Some at)) s) }
+    ensures cut { IfErr result (λ s. s ≡ stop.Write → Cuts (O.contents io.old.out.now) (O.contents io.new.out.now) w.old.output.waiting (meaning (style_of style) w.old base (Some at))) }
+    ensures failed { IfErr result (λ s. s ≡ stop.Write → Rose (O.faults io.old.out.now) (O.faults io.new.out.now)) }
+    ensures steady { result ≢ Err stop.Write → O.faults io.new.out.now ≡ O.faults io.old.out.now }
+    ensures world { IsPrinting base w.old w.new }
+    ensures rest { io.new ≡ record io.old { out = io.new.out } }
+{
+    let (piece, next) = match advance(w, at, base) {
+        Ok(step) => step,
+        Err(s) => return Err(s),
+    };
+    match show(w, piece, style, io) {
+        Ok(()) => Ok(next),
+        Err(s) => Err(s),
+    }
+}
+
+/// The first step, and what it prints.
+fn start<I: Source, O: Sink, N: Sink, F: Files>(
+    w: &mut World,
+    v: Val,
+    base: u64,
+    style: Style,
+    io: &mut Io<'_, I, O, N, F>,
+) -> Result<Option<State>, Stop>
+    requires table { IsTable w.old.cells.cells w.old.syms.head }
+    requires live { IsTrue (is_live w.old.cells.cells v) }
+    requires base { base ≡ length w.old.levels.walk }
+    ensures ok { IfOk result (λ next. Goes (O.contents io.old.out.now) (O.contents io.new.out.now) base (style_of style) w.old w.new (whole_printed (style_of style) w.old v) next) }
+    ensures halts { IfErr result (λ s. s ≢ stop.Write → Halts (O.contents io.old.out.now) (O.contents io.new.out.now) w.old w.new (whole_printed (style_of style) w.old v) s) }
+    ensures cut { IfErr result (λ s. s ≡ stop.Write → Cuts (O.contents io.old.out.now) (O.contents io.new.out.now) w.old.output.waiting (whole_printed (style_of style) w.old v)) }
+    ensures failed { IfErr result (λ s. s ≡ stop.Write → Rose (O.faults io.old.out.now) (O.faults io.new.out.now)) }
+    ensures steady { result ≢ Err stop.Write → O.faults io.new.out.now ≡ O.faults io.old.out.now }
+    ensures world { IsPrinting base w.old w.new }
+    ensures rest { io.new ≡ record io.old { out = io.new.out } }
+{
+    let (piece, next) = match begin(w, v, base) {
+        Ok(step) => step,
+        Err(s) => return Err(s),
+    };
+    match show(w, piece, style, io) {
+        Ok(()) => Ok(next),
+        Err(s) => Err(s),
+    }
+}
+
+/// All steps.
+fn print<I: Source, O: Sink, N: Sink, F: Files>(
+    w: &mut World,
+    v: Val,
+    style: Style,
+    io: &mut Io<'_, I, O, N, F>,
+) -> Result<(), Stop>
+    requires table { IsTable w.old.cells.cells w.old.syms.head }
+    requires live { IsTrue (is_live w.old.cells.cells v) }
+    ensures ok { OnOk result (IsPrinted (O.contents io.old.out.now) (O.contents io.new.out.now) (style_of style) w.old w.new v) }
+    ensures halts { IfErr result (λ s. s ≢ stop.Write → Halts (O.contents io.old.out.now) (O.contents io.new.out.now) w.old w.new (whole_printed (style_of style) w.old v) s) }
+    ensures cut { IfErr result (λ s. s ≡ stop.Write → Cuts (O.contents io.old.out.now) (O.contents io.new.out.now) w.old.output.waiting (whole_printed (style_of style) w.old v)) }
+    ensures failed { IfErr result (λ s. s ≡ stop.Write → Rose (O.faults io.old.out.now) (O.faults io.new.out.now)) }
+    ensures steady { result ≢ Err stop.Write → O.faults io.new.out.now ≡ O.faults io.old.out.now }
+    ensures world { IsPrinting (length w.old.levels.walk) w.old w.new }
+    ensures rest { io.new ≡ record io.old { out = io.new.out } }
+{
+    let base = w.walk_len();
+    let mut at = match start(w, v, base, style, io) {
+        Ok(at) => at,
+        Err(s) => return Err(s),
+    };
+    while let Some(state) = at {
+        at = match step(w, state, base, style, io) {
+            Ok(next) => next,
+            Err(s) => return Err(s),
+        };
+    }
+    Ok(())
+}
