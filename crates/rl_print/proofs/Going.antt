@@ -196,19 +196,28 @@ stop_before old mid Whole s same h = absurd h
 stop_before old mid NoTurn s same h = h ∙ same
 stop_before old mid TooDeep s same h = h
 
-pub halts_more : (a b c : Option (List ℕ)) (base : ℕ) (old mid new : World) (one two : List ℕ → Progress) (s : Stop) → IsPrinting base old mid → Prints a b old.output.waiting mid.output.waiting one two → Halts b c mid new two s → Halts a c old new one s
-halts_more a b c base old mid new one two s w p h = record {
-  ending = h.ending;
-  is_stop = stop_before old.counts mid.counts h.ending s w.ticked.stop h.is_stop;
-  prints = prints_more a b c old.output.waiting mid.output.waiting new.output.waiting one two (stopped new h.ending) p h.prints;
-}
+pub halts_more : (a b c : Option (List ℕ)) (base : ℕ) (style : atoms.Style) (old mid new : World) (start : List ℕ → Progress) (at : Option State) (now : State) (s : Stop) → at ≡ Some now → IsPrinting base old mid → Goes a b base style old mid start at → Halts b c mid new (meaning style mid base (Some now)) s → Halts a c old new start s
+halts_more a b c base style old mid new start at now s e w g h =
+    let p : Prints a b old.output.waiting mid.output.waiting start (meaning style mid base (Some now)) = rw (sym e) g.prints in
+    record {
+      ending = h.ending;
+      is_stop = stop_before old.counts mid.counts h.ending s w.ticked.stop h.is_stop;
+      prints = prints_more a b c old.output.waiting mid.output.waiting new.output.waiting start (meaning style mid base (Some now)) (stopped new h.ending) p h.prints;
+    }
 
-pub goes_more : (a b c : Option (List ℕ)) (base : ℕ) (style : atoms.Style) (old mid new : World) (start : List ℕ → Progress) (at next : Option State) → Goes a b base style old mid start at → Goes b c base style mid new (meaning style mid base at) next → Goes a c base style old new start next
-goes_more a b c base style old mid new start at next p q = record {
-  prints = prints_more a b c old.output.waiting mid.output.waiting new.output.waiting start (meaning style mid base at) (meaning style new base next) p.prints q.prints;
-  ready = q.ready;
-  next_is = q.next_is;
-}
+pub cuts_later : (a b c : Option (List ℕ)) (base : ℕ) (style : atoms.Style) (old mid : World) (start : List ℕ → Progress) (at : Option State) (now : State) → at ≡ Some now → Goes a b base style old mid start at → Cuts b c mid.output.waiting (meaning style mid base (Some now)) → Cuts a c old.output.waiting start
+cuts_later a b c base style old mid start at now e g h =
+    let p : Prints a b old.output.waiting mid.output.waiting start (meaning style mid base (Some now)) = rw (sym e) g.prints in
+    cuts_more a b c old.output.waiting mid.output.waiting start (meaning style mid base (Some now)) p h
+
+pub goes_more : (a b c : Option (List ℕ)) (base : ℕ) (style : atoms.Style) (old mid new : World) (start : List ℕ → Progress) (at : Option State) (now : State) (next : Option State) → at ≡ Some now → Goes a b base style old mid start at → Goes b c base style mid new (meaning style mid base (Some now)) next → Goes a c base style old new start next
+goes_more a b c base style old mid new start at now next e g q =
+    let p : Prints a b old.output.waiting mid.output.waiting start (meaning style mid base (Some now)) = rw (sym e) g.prints in
+    record {
+      prints = prints_more a b c old.output.waiting mid.output.waiting new.output.waiting start (meaning style mid base (Some now)) (meaning style new base next) p q.prints;
+      ready = q.ready;
+      next_is = q.next_is;
+    }
 
 pub printed_of : (before now : Option (List ℕ)) (style : atoms.Style) (base : ℕ) (old new : World) (v : Tagged) (at : Option State) → at ≡ None → base ≡ length old.levels.walk → IsPrinting base old new → Goes before now base style old new (whole_printed style old v) at → IsPrinted before now style old new v
 printed_of before now style base old new v None e eb w g = record {

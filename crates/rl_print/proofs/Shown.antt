@@ -5,6 +5,7 @@ use Rattle.std.proofs.lemmas.List.{append-nil, take-append-drop}
 use Rattle.std.proofs.Math.Seq.{take-append-add, drop-append-add, take-suc}
 use Rattle.std.proofs.lemmas.List.Sums.{fold-append}
 use Rattle.rl_tags.specs.Tagged.{Tagged}
+use Rattle.rl_cells.specs.Cell.{Cell}
 use Rattle.rl_syms.specs.Contents.{value_of}
 use Rattle.rl_syms.specs.Table.{name_at}
 use Rattle.rl_tree.specs.Atoms as atoms
@@ -13,6 +14,7 @@ use Rattle.rl_tree.specs.Printed.{Page}
 use Rattle.rl_tree.specs.Printing.{Progress, Whole, column_with, marked, with_atom, with_atom_of, with_text}
 use Rattle.rl_world.specs.Waiting.{Follows, IsCutOff}
 use Rattle.rl_world.specs.declared.world.World.{World}
+use Rattle.rl_print.specs.AtomText.{line_break}
 use Rattle.rl_print.specs.Counted.{turns_left}
 use Rattle.rl_print.specs.Walk.{Shows, ShowsFront, progress_in, setting_in, shown}
 use Rattle.rl_print.specs.declared.walk.Piece.TheVariants as piece
@@ -246,3 +248,48 @@ pub text_follows : (a b : Option (List ℕ)) (x y : List ℕ) (begun column : �
 text_follows a b x y begun column whole left g e =
     let all : whole ≡ g.done = g.is ∙ (ap (λ t. g.done ++ t) e ∙ append-nil g.done) in
     rw all (g.follows, g.column_is)
+
+-- ---- an atom behind a new line
+
+broken_page : (broken : Bool) (column : ℕ) (bytes : List ℕ) → with_broken broken (record { text = []; column = column }) bytes ≡ record { text = line_break broken ++ bytes; column = fold column_with (fold column_with column (line_break broken)) bytes }
+broken_page true column bytes = refl
+broken_page false column bytes = refl
+
+-- on the page of an atom are the break before it and its text
+atom_written : (style : atoms.Style) (old : World) (v : Tagged) (broken : Bool) (bytes : List ℕ) → bytes ≡ atom_text style (name_at old.cells.cells) (value_of old.cells.cells v) → broken ≡ (nat_lt 0 old.output.column && nat_lt old.output.line_length (old.output.column + length bytes))
+    → atom_page old style v ≡ record { text = line_break broken ++ bytes; column = fold column_with (fold column_with old.output.column (line_break broken)) bytes }
+atom_written style old v broken bytes is e =
+    ap (λ bs. with_atom old.output.line_length (record { text = []; column = old.output.column }) bs) (sym is)
+    ∙ (ap (λ b. with_broken b (record { text = []; column = old.output.column }) bytes) (sym e) ∙ broken_page broken old.output.column bytes)
+
+same_left : (left : List Cell → List ℕ) (old mid : World) → Writes old mid → left mid.cells.cells ≡ left old.cells.cells
+same_left left old mid e = ap (λ (w : World). left w.cells.cells) e
+
+abbrev pub IsTextOf : atoms.Style → Tagged → (List Cell → List ℕ) → Type 0
+IsTextOf style v left = (cells : List Cell) → left cells ≡ atom_text style (name_at cells) (value_of cells v)
+
+abbrev pub IsBroken : World → Bool → List ℕ → Type 0
+IsBroken w broken bytes = broken ≡ (nat_lt 0 w.output.column && nat_lt w.output.line_length (w.output.column + length bytes))
+
+pub atom_follows : (a b c : Option (List ℕ)) (style : atoms.Style) (old mid new : World) (v : Tagged) (broken : Bool) (left : List Cell → List ℕ) → IsTextOf style v left → IsBroken old broken (left old.cells.cells) → Writes old mid
+    → Follows a old.output.waiting b mid.output.waiting (line_break broken) → Follows b mid.output.waiting c new.output.waiting (left mid.cells.cells) → Follows a old.output.waiting c new.output.waiting (atom_page old style v).text
+atom_follows a b c style old mid new v broken left is e w f g =
+    let more : Follows b mid.output.waiting c new.output.waiting (left old.cells.cells) = rw (sym (same_left left old mid w)) g in
+    rw (ap (λ (p : Page). p.text) (atom_written style old v broken (left old.cells.cells) (is old.cells.cells) e)) (follows_more a b c old.output.waiting mid.output.waiting new.output.waiting (line_break broken) (left old.cells.cells) f more)
+
+pub atom_column : (style : atoms.Style) (old mid new : World) (v : Tagged) (broken : Bool) (left : List Cell → List ℕ) → IsTextOf style v left → IsBroken old broken (left old.cells.cells) → Writes old mid
+    → mid.output.column ≡ fold column_with old.output.column (line_break broken) → new.output.column ≡ fold column_with mid.output.column (left mid.cells.cells) → new.output.column ≡ (atom_page old style v).column
+atom_column style old mid new v broken left is e w f g =
+    let more : new.output.column ≡ fold column_with mid.output.column (left old.cells.cells) = g ∙ ap (fold column_with mid.output.column) (same_left left old mid w) in
+    more ∙ (ap (λ n. fold column_with n (left old.cells.cells)) f ∙ sym (ap (λ (p : Page). p.column) (atom_written style old v broken (left old.cells.cells) (is old.cells.cells) e)))
+
+pub atom_cut : (a b c : Option (List ℕ)) (style : atoms.Style) (old mid : World) (v : Tagged) (broken : Bool) (left : List Cell → List ℕ) → IsTextOf style v left → IsBroken old broken (left old.cells.cells) → Writes old mid
+    → Follows a old.output.waiting b mid.output.waiting (line_break broken) → IsCutOff b c (mid.output.waiting ++ left mid.cells.cells) → IsCutOff a c (old.output.waiting ++ (atom_page old style v).text)
+atom_cut a b c style old mid v broken left is e w f g =
+    let more : IsCutOff b c (mid.output.waiting ++ left old.cells.cells) = rw (sym (same_left left old mid w)) g in
+    rw (ap (λ (p : Page). p.text) (atom_written style old v broken (left old.cells.cells) (is old.cells.cells) e)) (cut_more a b c old.output.waiting mid.output.waiting (line_break broken) (left old.cells.cells) f more)
+
+pub break_cut : (a c : Option (List ℕ)) (style : atoms.Style) (old : World) (v : Tagged) (broken : Bool) (left : List Cell → List ℕ) → IsTextOf style v left → IsBroken old broken (left old.cells.cells)
+    → IsCutOff a c (old.output.waiting ++ line_break broken) → IsCutOff a c (old.output.waiting ++ (atom_page old style v).text)
+break_cut a c style old v broken left is e f =
+    rw (ap (λ (p : Page). p.text) (atom_written style old v broken (left old.cells.cells) (is old.cells.cells) e)) (cut_longer a c old.output.waiting (line_break broken) (left old.cells.cells) f)

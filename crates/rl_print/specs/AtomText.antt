@@ -43,3 +43,7 @@ text_from n style names v = drop n (atom_text (style_of style) names v)
 -- what `next` is still to give
 abbrev pub text_left : List Cell → AtomText → List ℕ
 text_left cells t = pending_text t.pending ++ text_from t.at t.style (name_at cells) (value_of cells t.atom)
+
+-- a new line, where one is begun
+abbrev pub line_break : Bool → List ℕ
+line_break broken = if broken then 10 ∷ [] else []

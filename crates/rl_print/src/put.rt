@@ -7,7 +7,7 @@ ghost use Rattle.rl_tree.specs.Atoms.{atom_text};
 ghost use Rattle.rl_tree.specs.Printing.{column_with, with_atom};
 ghost use Rattle.rl_world.specs.Waiting.{Follows, IsCutOff};
 ghost use Rattle.rl_world.specs.declared.stop.Stop.TheVariants as stop;
-ghost use Rattle.rl_print.specs.AtomText.{is_atom, style_of, text_left};
+ghost use Rattle.rl_print.specs.AtomText.{is_atom, line_break, style_of, text_left};
 
 use crate::atom::{AtomText, Style};
 use rl_io::{Files, Io, Sink, Source};
@@ -58,14 +58,37 @@ pub(crate) fn put_atom<I: Source, O: Sink, N: Sink, F: Files>(
     ensures world { w.new ≡ record w.old { output = record w.old.output { waiting = w.new.output.waiting; column = w.new.output.column } } }
     ensures rest { io.new ≡ record io.old { out = io.new.out } }
 {
-    let text = AtomText::styled(a, style);
-    let long = text_length(w, text);
-    if breaks(w, long) {
-        if let Err(s) = put_bytes(w, b"\n", io) {
-            return Err(s);
-        }
+    let long = text_length(w, AtomText::styled(a, style));
+    let broken = breaks(w, long);
+    if let Err(s) = put_break(w, broken, io) {
+        return Err(s);
     }
-    match put_text(w, text, io) {
+    match put_text(w, AtomText::styled(a, style), io) {
+        Ok(()) => Ok(()),
+        Err(s) => Err(s),
+    }
+}
+
+/// Begins a new line, where one is asked for.
+fn put_break<I: Source, O: Sink, N: Sink, F: Files>(
+    w: &mut World,
+    broken: bool,
+    io: &mut Io<'_, I, O, N, F>,
+) -> Result<(), Stop>
+    ensures ok { OnOk result (Follows (O.contents io.old.out.now) w.old.output.waiting (O.contents io.new.out.now) w.new.output.waiting (line_break broken)) }
+    ensures column { OnOk result (w.new.output.column ≡ fold column_with w.old.output.column (line_break broken)) }
+    ensures front { OnErr result (IsCutOff (O.contents io.old.out.now) (O.contents io.new.out.now) (w.old.output.waiting ++ line_break broken)) }
+    ensures dropped { OnErr result (w.new.output.waiting ≡ []) }
+    ensures stop { IfErr result (λ s. s ≡ stop.Write) }
+    ensures failed { OnErr result (Rose (O.faults io.old.out.now) (O.faults io.new.out.now)) }
+    ensures steady { OnOk result (O.faults io.new.out.now ≡ O.faults io.old.out.now) }
+    ensures world { w.new ≡ record w.old { output = record w.old.output { waiting = w.new.output.waiting; column = w.new.output.column } } }
+    ensures rest { io.new ≡ record io.old { out = io.new.out } }
+{
+    if !broken {
+        return Ok(());
+    }
+    match put_bytes(w, b"\n", io) {
         Ok(()) => Ok(()),
         Err(s) => Err(s),
     }

@@ -5,5 +5,4 @@ use Rattle.rl_print.proofs.put.text_length.Goals as goal
 pub returns : goal.returns
 returns c =
     let none : length (text_left c.args.w.now.cells.cells c.loop-n.left) ≡ 0 = ap length c.in_default.ensures.gives in
-    let fits = c.ranges.n.fits in
-    omega (arith, none, c.loop-n.invariant.counted, fits)
+    omega (arith, none, c.loop-n.invariant.counted, c.loop-n.invariant.small)
