@@ -2,5 +2,7 @@
 #![tactic(auto)]
 
 mod atom;
+#[cfg(test)]
+mod tests;
 
 pub use atom::{AtomText, Style};
