@@ -1,5 +1,5 @@
 -- Integers as values: a small one is a word of its own, and one outside 60 bits stands in a cell.
-use Rattle.std.specs.Prelude.{◌≡◌, ℕ, ℤ, pos, Bool, true, false, List, length}
+use Rattle.std.specs.Prelude.{◌≡◌, ℤ, pos, Bool, true, false, List, length}
 use Rattle.rl_tags.specs.Tagged.{Tagged, Number, BigAt}
 use Rattle.rl_cells.specs.Cell.{Cell, Store, BigCell, cell_at, big_in, grown, has_room, is_big_cell, is_wide}
 

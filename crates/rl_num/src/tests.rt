@@ -20,7 +20,7 @@ fn integers_are_made_and_written(rt: HostRuntime) -> Result<(), Fail> {
         let mut cells = Cells::new(rt.alloc(), 1)?;
         cells.settle();
         let Ok(v) = make(&mut cells, row.0) else {
-            return Err(Fail);
+            return Err("no cell")?;
         };
         assert_eq!(rt; value(&cells, v), row.0);
         assert_eq!(rt; cells.used(), row.2);

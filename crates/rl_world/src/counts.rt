@@ -1,5 +1,5 @@
 //! The counts of turns, expansions and their cells.
-ghost use Rattle.std.specs.Prelude.{◌≡◌, ◌+◌, ◌<◌, ◌≤◌, ◌^◌, None, Some, OnOk, IfErr};
+ghost use Rattle.std.specs.Prelude.{◌≡◌, ◌+◌, ◌<◌, ◌^◌, None, Some, OnOk, IfErr};
 ghost use Rattle.rl_world.specs.Counts.{aside_of, begun, counts_at_opening, ended, rejoined, room_stop, roomed, set_aside, tick_stop, ticked};
 
 use crate::stop::Stop;

@@ -9,6 +9,8 @@ mod levels;
 mod output;
 mod outside;
 mod stop;
+#[cfg(test)]
+mod tests;
 mod world;
 
 pub use buffer::Buffer;

@@ -27,6 +27,7 @@ impl World {
         ensures steady { OnOk result (O.faults io.new.out.now ≡ O.faults io.old.out.now) }
         ensures world { self.new ≡ record self.old { output = record self.old.output { waiting = self.new.output.waiting; column = column_with self.old.output.column b } } }
         ensures rest { io.new ≡ record io.old { out = io.new.out } }
+        ensures same_out { io.new.out.ghost_name ≡ io.old.out.ghost_name }
     {
         match self.output.put(b, io.out) {
             Ok(()) => Ok(()),
@@ -49,6 +50,7 @@ impl World {
         ensures steady { OnOk result (N.faults io.new.notes.now ≡ N.faults io.old.notes.now) }
         ensures world { self.new ≡ record self.old { notes = self.new.notes } }
         ensures rest { io.new ≡ record io.old { notes = io.new.notes } }
+        ensures same_notes { io.new.notes.ghost_name ≡ io.old.notes.ghost_name }
     {
         match self.notes.put(b, io.notes) {
             Ok(()) => Ok(()),
@@ -72,6 +74,8 @@ impl World {
         ensures steady_notes { OnOk result (N.faults io.new.notes.now ≡ N.faults io.old.notes.now) }
         ensures world { self.new ≡ record self.old { output = record self.old.output { waiting = [] }; notes = [] } }
         ensures rest { io.new ≡ record io.old { out = io.new.out; notes = io.new.notes } }
+        ensures same_out { io.new.out.ghost_name ≡ io.old.out.ghost_name }
+        ensures same_notes { io.new.notes.ghost_name ≡ io.old.notes.ghost_name }
     {
         let printed = self.output.flush(io.out);
         let noted = self.notes.flush(io.notes);
@@ -102,6 +106,8 @@ impl World {
         ensures unread { result ≡ Err stop.Write → io.new.input.now ≡ io.old.input.now }
         ensures world { self.new ≡ record self.old { output = record self.old.output { waiting = [] }; input = self.new.input } }
         ensures rest { io.new ≡ record io.old { input = io.new.input; out = io.new.out } }
+        ensures same_input { io.new.input.ghost_name ≡ io.old.input.ghost_name }
+        ensures same_out { io.new.out.ghost_name ≡ io.old.out.ghost_name }
     {
         if self.output.flush(io.out).is_err() {
             return Err(Stop::Write);

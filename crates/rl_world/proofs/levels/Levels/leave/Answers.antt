@@ -1,5 +1,4 @@
-use Rattle.std.proofs.Common.{◌≡◌, ◌+◌, ◌≤◌, length, ap, arith}
-use Rattle.rl_world.specs.Levels.{Levels}
+use Rattle.std.proofs.Common.{arith}
 use Rattle.rl_world.proofs.Threes.{length-threes}
 use Rattle.rl_world.proofs.levels.Levels.leave.Goals as goal
 
