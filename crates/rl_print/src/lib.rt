@@ -6,6 +6,9 @@ mod atom;
 mod print;
 mod put;
 mod show;
+#[cfg(test)]
+mod tests;
 mod walk;
 
 pub use atom::{AtomText, Style, bare};
+pub use print::{print1, print2};

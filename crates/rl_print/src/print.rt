@@ -1,8 +1,9 @@
 //! PRIN1 and PRIN2.
-ghost use Rattle.std.specs.Prelude.{◌≡◌, ◌≢◌, ◌<◌, Some, length, Ok, Err, IsTrue, IfOk, IfErr, OnOk};
+ghost use Rattle.std.specs.Prelude.{◌≡◌, ◌≢◌, ◌<◌, Some, [], length, Ok, Err, IsTrue, IfOk, IfErr, OnOk};
 ghost use Rattle.rl_io.specs.Faults.{Rose};
 ghost use Rattle.rl_cells.specs.Cell.{is_live};
 ghost use Rattle.rl_syms.specs.Table.{IsTable};
+ghost use Rattle.rl_tree.specs.Atoms.{Prin1, Prin2};
 ghost use Rattle.rl_world.specs.declared.stop.Stop.TheVariants as stop;
 ghost use Rattle.rl_print.specs.AtomText.{style_of};
 ghost use Rattle.rl_print.specs.Walk.{Cuts, Goes, Halts, IsPrinted, IsPrinting, IsReady, IsState, meaning, weight, whole_printed};
@@ -14,6 +15,56 @@ use crate::walk::State;
 use rl_io::{Files, Io, Sink, Source};
 use rl_tags::Val;
 use rl_world::{Stop, World};
+
+/// Prints a value so that it is read as itself: names with `!` where they need one, strings in quotes.
+///
+/// A line is broken before an atom that would pass the line length. Each pair, and each element of a vector, takes a
+/// turn as it is reached; each element that is a pair or a vector, and each vector, takes a level until it is printed.
+///
+/// # Errors
+/// `Turns`, `Expansion` and `Depth` where a turn or a level is wanting: printed is then exactly what came before.
+/// `Write` where the output failed: a front of the text came there, and what waited is dropped.
+pub fn print1<I: Source, O: Sink, N: Sink, F: Files>(
+    w: &mut World,
+    v: Val,
+    io: &mut Io<'_, I, O, N, F>,
+) -> Result<(), Stop>
+    requires table { IsTable w.old.cells.cells w.old.syms.head }
+    requires live { IsTrue (is_live w.old.cells.cells v) }
+    ensures ok { OnOk result (IsPrinted (O.contents io.old.out.now) (O.contents io.new.out.now) Prin1 w.old w.new v) }
+    ensures halts { IfErr result (λ s. s ≢ stop.Write → Halts (O.contents io.old.out.now) (O.contents io.new.out.now) w.old w.new (whole_printed Prin1 w.old v) s) }
+    ensures cut { IfErr result (λ s. s ≡ stop.Write → Cuts (O.contents io.old.out.now) (O.contents io.new.out.now) w.old.output.waiting (whole_printed Prin1 w.old v)) }
+    ensures dropped { IfErr result (λ s. s ≡ stop.Write → w.new.output.waiting ≡ []) }
+    ensures failed { IfErr result (λ s. s ≡ stop.Write → Rose (O.faults io.old.out.now) (O.faults io.new.out.now)) }
+    ensures steady { result ≢ Err stop.Write → O.faults io.new.out.now ≡ O.faults io.old.out.now }
+    ensures world { IsPrinting (length w.old.levels.walk) w.old w.new }
+    ensures rest { io.new ≡ record io.old { out = io.new.out } }
+{
+    print(w, v, Style::Prin1, io)
+}
+
+/// Prints a value with names and strings as their bytes, and else as [`print1`] does.
+///
+/// # Errors
+/// As [`print1`].
+pub fn print2<I: Source, O: Sink, N: Sink, F: Files>(
+    w: &mut World,
+    v: Val,
+    io: &mut Io<'_, I, O, N, F>,
+) -> Result<(), Stop>
+    requires table { IsTable w.old.cells.cells w.old.syms.head }
+    requires live { IsTrue (is_live w.old.cells.cells v) }
+    ensures ok { OnOk result (IsPrinted (O.contents io.old.out.now) (O.contents io.new.out.now) Prin2 w.old w.new v) }
+    ensures halts { IfErr result (λ s. s ≢ stop.Write → Halts (O.contents io.old.out.now) (O.contents io.new.out.now) w.old w.new (whole_printed Prin2 w.old v) s) }
+    ensures cut { IfErr result (λ s. s ≡ stop.Write → Cuts (O.contents io.old.out.now) (O.contents io.new.out.now) w.old.output.waiting (whole_printed Prin2 w.old v)) }
+    ensures dropped { IfErr result (λ s. s ≡ stop.Write → w.new.output.waiting ≡ []) }
+    ensures failed { IfErr result (λ s. s ≡ stop.Write → Rose (O.faults io.old.out.now) (O.faults io.new.out.now)) }
+    ensures steady { result ≢ Err stop.Write → O.faults io.new.out.now ≡ O.faults io.old.out.now }
+    ensures world { IsPrinting (length w.old.levels.walk) w.old w.new }
+    ensures rest { io.new ≡ record io.old { out = io.new.out } }
+{
+    print(w, v, Style::Prin2, io)
+}
 
 /// One step of the walk, and what it prints.
 fn step<I: Source, O: Sink, N: Sink, F: Files>(
@@ -29,6 +80,7 @@ fn step<I: Source, O: Sink, N: Sink, F: Files>(
     ensures less { IfOk result (λ next. weight w.new next < weight w.old (Some at)) }
     ensures halts { IfErr result (λ s. s ≢ stop.Write → Halts (O.contents io.old.out.now) (O.contents io.new.out.now) w.old w.new (meaning (style_of style) w.old base (Some at)) s) }
     ensures cut { IfErr result (λ s. s ≡ stop.Write → Cuts (O.contents io.old.out.now) (O.contents io.new.out.now) w.old.output.waiting (meaning (style_of style) w.old base (Some at))) }
+    ensures dropped { IfErr result (λ s. s ≡ stop.Write → w.new.output.waiting ≡ []) }
     ensures failed { IfErr result (λ s. s ≡ stop.Write → Rose (O.faults io.old.out.now) (O.faults io.new.out.now)) }
     ensures steady { result ≢ Err stop.Write → O.faults io.new.out.now ≡ O.faults io.old.out.now }
     ensures world { IsPrinting base w.old w.new }
@@ -58,6 +110,7 @@ fn start<I: Source, O: Sink, N: Sink, F: Files>(
     ensures ok { IfOk result (λ next. Goes (O.contents io.old.out.now) (O.contents io.new.out.now) base (style_of style) w.old w.new (whole_printed (style_of style) w.old v) next) }
     ensures halts { IfErr result (λ s. s ≢ stop.Write → Halts (O.contents io.old.out.now) (O.contents io.new.out.now) w.old w.new (whole_printed (style_of style) w.old v) s) }
     ensures cut { IfErr result (λ s. s ≡ stop.Write → Cuts (O.contents io.old.out.now) (O.contents io.new.out.now) w.old.output.waiting (whole_printed (style_of style) w.old v)) }
+    ensures dropped { IfErr result (λ s. s ≡ stop.Write → w.new.output.waiting ≡ []) }
     ensures failed { IfErr result (λ s. s ≡ stop.Write → Rose (O.faults io.old.out.now) (O.faults io.new.out.now)) }
     ensures steady { result ≢ Err stop.Write → O.faults io.new.out.now ≡ O.faults io.old.out.now }
     ensures world { IsPrinting base w.old w.new }
@@ -85,6 +138,7 @@ fn print<I: Source, O: Sink, N: Sink, F: Files>(
     ensures ok { OnOk result (IsPrinted (O.contents io.old.out.now) (O.contents io.new.out.now) (style_of style) w.old w.new v) }
     ensures halts { IfErr result (λ s. s ≢ stop.Write → Halts (O.contents io.old.out.now) (O.contents io.new.out.now) w.old w.new (whole_printed (style_of style) w.old v) s) }
     ensures cut { IfErr result (λ s. s ≡ stop.Write → Cuts (O.contents io.old.out.now) (O.contents io.new.out.now) w.old.output.waiting (whole_printed (style_of style) w.old v)) }
+    ensures dropped { IfErr result (λ s. s ≡ stop.Write → w.new.output.waiting ≡ []) }
     ensures failed { IfErr result (λ s. s ≡ stop.Write → Rose (O.faults io.old.out.now) (O.faults io.new.out.now)) }
     ensures steady { result ≢ Err stop.Write → O.faults io.new.out.now ≡ O.faults io.old.out.now }
     ensures world { IsPrinting (length w.old.levels.walk) w.old w.new }

@@ -23,7 +23,6 @@ fn opening(rt: &HostRuntime) -> Result<World, Fail>
     ensures texts { IfOk result (λ w. AreTexts w.cells.cells w.texts 14) }
     ensures counts { IfOk result (λ w. w.counts ≡ counts_at_opening 3 10) }
     ensures levels { IfOk result (λ w. w.levels ≡ record { bound = 4; level = 0; walk = []; aside = None }) }
-    ensures input { IfOk result (λ w. w.input ≡ record { back = None; given = 0 }) }
 {
     Ok(World::open(rt.alloc(), FEW)?)
 }
@@ -57,9 +56,7 @@ impl Run {
         read_fails: &[u64],
         write_fails: &[u64],
         note_fails: &[u64],
-    ) -> Result<Run, Fail>
-        ensures start { IfOk result (λ r. r.world.input.back ≡ None) }
-    {
+    ) -> Result<Run, Fail> {
         Ok(Run {
             world: opening(rt)?,
             input: MemSource::new(rt.alloc(), b"abc", read_fails)?,

@@ -1,0 +1,136 @@
+//! The texts of atoms by PRIN1 and by PRIN2.
+ghost use Rattle.std.specs.Prelude.{IsTrue, IfOk};
+ghost use Rattle.rl_cells.specs.Cell.{is_wide};
+ghost use Rattle.rl_syms.specs.Table.{IsTable, is_id};
+ghost use Rattle.rl_print.specs.AtomText.{is_atom};
+
+use crate::atom::{AtomText, Style};
+use rl_syms::laws::{others_leave_blocks, table_is_kept};
+use rl_tags::Val;
+use rl_world::{Limits, World};
+use std::test::Fail;
+
+/// Names, and their texts by PRIN1.
+const NAMES: [(&[u8], &[u8]); 6] = [
+    (b"NIL", b"NIL"),
+    (b"a1_+", b"!a1_!+"),
+    (b"1A", b"!1A"),
+    (b"_A", b"!_A"),
+    (b"A B", b"A! B"),
+    (b"A\n\xe9!", b"A!\n\xe9!!"),
+];
+
+/// Strings, and their texts by PRIN1.
+const STRINGS: [(&[u8], &[u8]); 4] = [
+    (b"ab", b"\"ab\""),
+    (b"a\"b", b"\"a\"\"b\""),
+    (b"\"", b"\"\"\"\""),
+    (b"!\n", b"\"!\n\""),
+];
+
+/// A world in opening.
+fn opening(rt: &HostRuntime) -> Result<World, Fail>
+    ensures { IfOk result (λ w. IsTable w.cells.cells w.syms.head) }
+{
+    let limits = Limits {
+        turns: 0,
+        cells: 0,
+        nest: 0,
+    };
+    Ok(World::open(rt.alloc(), limits)?)
+}
+
+/// Whether this is the text of an atom.
+fn is_text(w: &World, a: Val, style: Style, bytes: &[u8]) -> bool
+    requires table { IsTable w.now.cells.cells w.now.syms.head }
+    requires atom { IsTrue (is_atom w.now.cells.cells a) }
+{
+    let mut text = AtomText::styled(a, style);
+    for b in bytes {
+        if text.next(w) != Some(*b) {
+            return false;
+        }
+    }
+    text.next(w).is_none()
+}
+
+/// Whether these are the texts of an atom by PRIN1 and by PRIN2.
+fn are_texts(w: &World, a: Val, prin1: &[u8], prin2: &[u8]) -> bool
+    requires table { IsTable w.now.cells.cells w.now.syms.head }
+    requires atom { IsTrue (is_atom w.now.cells.cells a) }
+{
+    is_text(w, a, Style::Prin1, prin1) && is_text(w, a, Style::Prin2, prin2)
+}
+
+/// The identifier of a name.
+fn identifier(w: &mut World, name: &[u8]) -> Result<Val, Fail>
+    requires table { IsTable w.old.cells.cells w.old.syms.head }
+    ensures table { IsTable w.new.cells.cells w.new.syms.head }
+    ensures id { IfOk result (λ v. IsTrue (is_id w.new.cells.cells v)) }
+{
+    if name.is_empty() || name.len() > 255 {
+        return Err(Fail::new("not a name"));
+    }
+    Ok(w.syms.intern(&mut w.cells, name)?)
+}
+
+/// An integer that takes a cell.
+fn wide_integer(w: &mut World, n: i128) -> Result<Val, Fail>
+    requires table { IsTable w.old.cells.cells w.old.syms.head }
+    requires wide { IsTrue (is_wide n) }
+    ensures table { IsTable w.new.cells.cells w.new.syms.head }
+    ensures atom { IfOk result (λ v. IsTrue (is_atom w.new.cells.cells v)) }
+{
+    table_is_kept();
+    others_leave_blocks();
+    Ok(w.cells.big(n)?)
+}
+
+#[test]
+fn names_of_one_byte(rt: HostRuntime) -> Result<(), Fail> {
+    let mut w = opening(&rt)?;
+    for b in 0..=255u8 {
+        let id = identifier(&mut w, &[b])?;
+        if b.is_ascii_uppercase() || b >= 128 {
+            assert!(rt; are_texts(&w, id, &[b], &[b]));
+        } else {
+            assert!(rt; are_texts(&w, id, &[b'!', b], &[b]));
+        }
+    }
+    Ok(())
+}
+
+#[test]
+fn names(rt: HostRuntime) -> Result<(), Fail> {
+    let mut w = opening(&rt)?;
+    for (name, prin1) in NAMES {
+        let id = identifier(&mut w, name)?;
+        assert!(rt; are_texts(&w, id, prin1, name));
+    }
+    Ok(())
+}
+
+/// The name of an identifier is a string.
+#[test]
+fn strings(rt: HostRuntime) -> Result<(), Fail> {
+    let mut w = opening(&rt)?;
+    for (bytes, prin1) in STRINGS {
+        let id = identifier(&mut w, bytes)?;
+        let string = w.syms.name(&w.cells, id);
+        assert!(rt; are_texts(&w, string, prin1, bytes));
+    }
+    Ok(())
+}
+
+#[test]
+fn integers(rt: HostRuntime) -> Result<(), Fail> {
+    let mut w = opening(&rt)?;
+    let least = wide_integer(&mut w, i128::MIN)?;
+    let text = b"-170141183460469231731687303715884105728";
+    assert!(rt; are_texts(&w, least, text, text));
+    let greatest = wide_integer(&mut w, i128::MAX)?;
+    let text = b"170141183460469231731687303715884105727";
+    assert!(rt; are_texts(&w, greatest, text, text));
+    assert!(rt; are_texts(&w, Val::small(-10), b"-10", b"-10"));
+    Ok(())
+}
