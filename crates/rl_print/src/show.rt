@@ -1,5 +1,5 @@
 //! What is printed at once.
-ghost use Rattle.std.specs.Prelude.{◌≡◌, ◌++◌, IsTrue, OnOk, OnErr, IfErr};
+ghost use Rattle.std.specs.Prelude.{◌≡◌, ◌++◌, [], IsTrue, OnOk, OnErr, IfErr};
 ghost use Rattle.rl_io.specs.Faults.{Rose};
 ghost use Rattle.rl_syms.specs.Table.{IsTable};
 ghost use Rattle.rl_world.specs.Waiting.{IsCutOff};
@@ -26,6 +26,7 @@ pub(crate) fn show<I: Source, O: Sink, N: Sink, F: Files>(
     requires piece { IsPiece w.old.cells.cells piece }
     ensures ok { OnOk result (Shows (O.contents io.old.out.now) (O.contents io.new.out.now) (style_of style) w.old w.new piece.entry) }
     ensures front { OnErr result (ShowsFront (O.contents io.old.out.now) (O.contents io.new.out.now) (style_of style) w.old piece.entry) }
+    ensures dropped { OnErr result (w.new.output.waiting ≡ []) }
     ensures stop { IfErr result (λ s. s ≡ stop.Write) }
     ensures failed { OnErr result (Rose (O.faults io.old.out.now) (O.faults io.new.out.now)) }
     ensures steady { OnOk result (O.faults io.new.out.now ≡ O.faults io.old.out.now) }
@@ -49,6 +50,7 @@ fn show_mark<I: Source, O: Sink, N: Sink, F: Files>(
     ensures ok { OnOk result (Shows (O.contents io.old.out.now) (O.contents io.new.out.now) (style_of style) w.old w.new (piece.Mark bytes.entry)) }
     ensures cut { OnErr result (IsCutOff (O.contents io.old.out.now) (O.contents io.new.out.now) (w.old.output.waiting ++ bytes.now)) }
     ensures front { OnErr result (ShowsFront (O.contents io.old.out.now) (O.contents io.new.out.now) (style_of style) w.old (piece.Mark bytes.entry)) }
+    ensures dropped { OnErr result (w.new.output.waiting ≡ []) }
     ensures stop { IfErr result (λ s. s ≡ stop.Write) }
     ensures failed { OnErr result (Rose (O.faults io.old.out.now) (O.faults io.new.out.now)) }
     ensures steady { OnOk result (O.faults io.new.out.now ≡ O.faults io.old.out.now) }
@@ -73,6 +75,7 @@ fn show_atom<I: Source, O: Sink, N: Sink, F: Files>(
     requires atom { IsTrue (is_atom w.old.cells.cells v) }
     ensures ok { OnOk result (Shows (O.contents io.old.out.now) (O.contents io.new.out.now) (style_of style) w.old w.new (piece.Atom v)) }
     ensures front { OnErr result (ShowsFront (O.contents io.old.out.now) (O.contents io.new.out.now) (style_of style) w.old (piece.Atom v)) }
+    ensures dropped { OnErr result (w.new.output.waiting ≡ []) }
     ensures stop { IfErr result (λ s. s ≡ stop.Write) }
     ensures failed { OnErr result (Rose (O.faults io.old.out.now) (O.faults io.new.out.now)) }
     ensures steady { OnOk result (O.faults io.new.out.now ≡ O.faults io.old.out.now) }
@@ -96,6 +99,7 @@ fn show_dotted<I: Source, O: Sink, N: Sink, F: Files>(
     requires atom { IsTrue (is_atom w.old.cells.cells v) }
     ensures ok { OnOk result (Shows (O.contents io.old.out.now) (O.contents io.new.out.now) (style_of style) w.old w.new (piece.Dotted v)) }
     ensures front { OnErr result (ShowsFront (O.contents io.old.out.now) (O.contents io.new.out.now) (style_of style) w.old (piece.Dotted v)) }
+    ensures dropped { OnErr result (w.new.output.waiting ≡ []) }
     ensures stop { IfErr result (λ s. s ≡ stop.Write) }
     ensures failed { OnErr result (Rose (O.faults io.old.out.now) (O.faults io.new.out.now)) }
     ensures steady { OnOk result (O.faults io.new.out.now ≡ O.faults io.old.out.now) }

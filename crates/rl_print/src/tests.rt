@@ -1,13 +1,15 @@
-//! The texts of atoms by PRIN1 and by PRIN2.
+//! The texts of atoms, and of lists and vectors printed to objects in memory, by PRIN1 and by PRIN2.
 ghost use Rattle.std.specs.Prelude.{IsTrue, IfOk};
-ghost use Rattle.rl_cells.specs.Cell.{is_wide};
+ghost use Rattle.rl_cells.specs.Cell.{is_live, is_wide};
 ghost use Rattle.rl_syms.specs.Table.{IsTable, is_id};
 ghost use Rattle.rl_print.specs.AtomText.{is_atom};
 
 use crate::atom::{AtomText, Style};
+use crate::print::{print1, print2};
+use rl_io::{Io, MemFiles, MemSink, SureSource};
 use rl_syms::laws::{others_leave_blocks, table_is_kept};
-use rl_tags::Val;
-use rl_world::{Limits, World};
+use rl_tags::{NIL, Val};
+use rl_world::{Limits, Stop, World};
 use std::test::Fail;
 
 /// Names, and their texts by PRIN1.
@@ -132,5 +134,107 @@ fn integers(rt: HostRuntime) -> Result<(), Fail> {
     let text = b"170141183460469231731687303715884105727";
     assert!(rt; are_texts(&w, greatest, text, text));
     assert!(rt; are_texts(&w, Val::small(-10), b"-10", b"-10"));
+    Ok(())
+}
+
+/// A world in which so many turns and levels are left.
+fn running(rt: &HostRuntime, turns: u64, nest: u32) -> Result<World, Fail>
+    ensures { IfOk result (λ w. IsTable w.cells.cells w.syms.head) }
+{
+    let limits = Limits {
+        turns,
+        cells: 0,
+        nest,
+    };
+    let mut w = World::open(rt.alloc(), limits)?;
+    w.opened();
+    Ok(w)
+}
+
+/// A pair.
+fn pair(w: &mut World, car: Val, cdr: Val) -> Result<Val, Fail>
+    requires table { IsTable w.old.cells.cells w.old.syms.head }
+    requires car { IsTrue (is_live w.old.cells.cells car) }
+    requires cdr { IsTrue (is_live w.old.cells.cells cdr) }
+    ensures table { IsTable w.new.cells.cells w.new.syms.head }
+    ensures live { IfOk result (λ v. IsTrue (is_live w.new.cells.cells v)) }
+{
+    table_is_kept();
+    others_leave_blocks();
+    Ok(w.cells.cons(car, cdr)?)
+}
+
+/// A list of small integers with this end.
+fn list(w: &mut World, items: &[i8], end: Val) -> Result<Val, Fail>
+    requires table { IsTable w.old.cells.cells w.old.syms.head }
+    requires end { IsTrue (is_live w.old.cells.cells end) }
+    ensures table { IsTable w.new.cells.cells w.new.syms.head }
+    ensures live { IfOk result (λ v. IsTrue (is_live w.new.cells.cells v)) }
+{
+    let mut tail = end;
+    for i in (0..items.len()).rev() {
+        tail = pair(w, Val::small(i64::from(items[i])), tail)?;
+    }
+    Ok(tail)
+}
+
+/// A vector of so many NIL.
+fn vector(w: &mut World, places: u32) -> Result<Val, Fail>
+    requires table { IsTable w.old.cells.cells w.old.syms.head }
+    requires short { places ≤ 2147483648 }
+    ensures table { IsTable w.new.cells.cells w.new.syms.head }
+    ensures live { IfOk result (λ v. IsTrue (is_live w.new.cells.cells v)) }
+{
+    table_is_kept();
+    others_leave_blocks();
+    Ok(w.cells.vector(places)?)
+}
+
+/// Prints a value, and then writes what waits.
+fn print_to(
+    rt: &HostRuntime,
+    w: &mut World,
+    v: Val,
+    style: Style,
+    out: &mut MemSink,
+) -> Result<Result<(), Stop>, Fail>
+    requires table { IsTable w.old.cells.cells w.old.syms.head }
+    requires live { IsTrue (is_live w.old.cells.cells v) }
+{
+    let mut input = SureSource::new(b"");
+    let mut notes = MemSink::new(rt.alloc(), 0, &[])?;
+    let mut files = MemFiles::new(rt.alloc(), 0, &[])?;
+    let mut io = Io {
+        input: &mut input,
+        out,
+        notes: &mut notes,
+        files: &mut files,
+    };
+    let printed = match style {
+        Style::Prin1 => print1(w, v, &mut io),
+        Style::Prin2 => print2(w, v, &mut io),
+    };
+    if printed.is_ok() {
+        return Ok(w.flush(&mut io));
+    }
+    w.flush(&mut io)?;
+    Ok(printed)
+}
+
+#[test]
+fn lists(rt: HostRuntime) -> Result<(), Fail> {
+    let rows: [(&[i8], Val, &[u8]); 4] = [
+        (&[1], Val::small(2), b"(1 . 2)"),
+        (&[1, -2], NIL, b"(1 -2)"),
+        (&[1, 2], Val::small(3), b"(1 2 . 3)"),
+        (&[], Val::small(4), b"4"),
+    ];
+    for (items, end, text) in rows {
+        let mut w = opening(&rt)?;
+        let v = list(&mut w, items, end)?;
+        let mut out = MemSink::new(rt.alloc(), 100, &[])?;
+        assert_eq!(rt; print_to(&rt, &mut w, v, Style::Prin1, &mut out)?, Ok(()));
+        assert_eq!(rt; out.bytes(), text);
+    }
     Ok(())
 }
