@@ -141,6 +141,9 @@ fn integers(rt: HostRuntime) -> Result<(), Fail> {
 fn running(rt: &HostRuntime, turns: u64, nest: u32) -> Result<World, Fail>
     ensures { IfOk result (λ w. IsTable w.cells.cells w.syms.head) }
 {
+    if nest > 10 {
+        return Err(Fail::new("many levels"));
+    }
     let limits = Limits {
         turns,
         cells: 0,
@@ -156,22 +159,27 @@ fn pair(w: &mut World, car: Val, cdr: Val) -> Result<Val, Fail>
     requires table { IsTable w.old.cells.cells w.old.syms.head }
     requires car { IsTrue (is_live w.old.cells.cells car) }
     requires cdr { IsTrue (is_live w.old.cells.cells cdr) }
-    ensures table { IsTable w.new.cells.cells w.new.syms.head }
+    ensures table { IfOk result (λ _. IsTable w.new.cells.cells w.new.syms.head) }
     ensures live { IfOk result (λ v. IsTrue (is_live w.new.cells.cells v)) }
 {
     table_is_kept();
     others_leave_blocks();
-    Ok(w.cells.cons(car, cdr)?)
+    let Ok(pair) = w.cells.cons(car, cdr) else {
+        return Err(Fail::new("no room"));
+    };
+    Ok(pair)
 }
 
-/// A list of small integers with this end.
-fn list(w: &mut World, items: &[i8], end: Val) -> Result<Val, Fail>
+/// A list of small integers that ends with an integer, or with NIL.
+fn list(w: &mut World, items: &[i8], end: Option<i8>) -> Result<Val, Fail>
     requires table { IsTable w.old.cells.cells w.old.syms.head }
-    requires end { IsTrue (is_live w.old.cells.cells end) }
-    ensures table { IsTable w.new.cells.cells w.new.syms.head }
+    ensures table { IfOk result (λ _. IsTable w.new.cells.cells w.new.syms.head) }
     ensures live { IfOk result (λ v. IsTrue (is_live w.new.cells.cells v)) }
 {
-    let mut tail = end;
+    let mut tail = match end {
+        Some(n) => Val::small(i64::from(n)),
+        None => NIL,
+    };
     for i in (0..items.len()).rev() {
         tail = pair(w, Val::small(i64::from(items[i])), tail)?;
     }
@@ -181,13 +189,18 @@ fn list(w: &mut World, items: &[i8], end: Val) -> Result<Val, Fail>
 /// A vector of so many NIL.
 fn vector(w: &mut World, places: u32) -> Result<Val, Fail>
     requires table { IsTable w.old.cells.cells w.old.syms.head }
-    requires short { places ≤ 2147483648 }
-    ensures table { IsTable w.new.cells.cells w.new.syms.head }
+    ensures table { IfOk result (λ _. IsTable w.new.cells.cells w.new.syms.head) }
     ensures live { IfOk result (λ v. IsTrue (is_live w.new.cells.cells v)) }
 {
+    if places > 10_000 {
+        return Err(Fail::new("a long vector"));
+    }
     table_is_kept();
     others_leave_blocks();
-    Ok(w.cells.vector(places)?)
+    let Ok(vector) = w.cells.vector(places) else {
+        return Err(Fail::new("no room"));
+    };
+    Ok(vector)
 }
 
 /// Prints a value, and then writes what waits.
@@ -214,20 +227,20 @@ fn print_to(
         Style::Prin1 => print1(w, v, &mut io),
         Style::Prin2 => print2(w, v, &mut io),
     };
-    if printed.is_ok() {
-        return Ok(w.flush(&mut io));
-    }
-    w.flush(&mut io)?;
-    Ok(printed)
+    let flushed = w.flush(&mut io);
+    Ok(match printed {
+        Ok(()) => flushed,
+        Err(stop) => Err(stop),
+    })
 }
 
 #[test]
 fn lists(rt: HostRuntime) -> Result<(), Fail> {
-    let rows: [(&[i8], Val, &[u8]); 4] = [
-        (&[1], Val::small(2), b"(1 . 2)"),
-        (&[1, -2], NIL, b"(1 -2)"),
-        (&[1, 2], Val::small(3), b"(1 2 . 3)"),
-        (&[], Val::small(4), b"4"),
+    let rows: [(&[i8], Option<i8>, &[u8]); 4] = [
+        (&[1], Some(2), b"(1 . 2)"),
+        (&[1, -2], None, b"(1 -2)"),
+        (&[1, 2], Some(3), b"(1 2 . 3)"),
+        (&[], Some(4), b"4"),
     ];
     for (items, end, text) in rows {
         let mut w = opening(&rt)?;
@@ -235,6 +248,98 @@ fn lists(rt: HostRuntime) -> Result<(), Fail> {
         let mut out = MemSink::new(rt.alloc(), 100, &[])?;
         assert_eq!(rt; print_to(&rt, &mut w, v, Style::Prin1, &mut out)?, Ok(()));
         assert_eq!(rt; out.bytes(), text);
+    }
+    Ok(())
+}
+
+#[test]
+fn lists_in_lists(rt: HostRuntime) -> Result<(), Fail> {
+    let mut w = opening(&rt)?;
+    let inner = list(&mut w, &[1, 2], None)?;
+    let v = pair(&mut w, inner, Val::small(3))?;
+    let mut out = MemSink::new(rt.alloc(), 100, &[])?;
+    assert_eq!(rt; print_to(&rt, &mut w, v, Style::Prin1, &mut out)?, Ok(()));
+    assert_eq!(rt; out.bytes(), b"((1 2) . 3)".as_slice());
+    Ok(())
+}
+
+#[test]
+fn vectors(rt: HostRuntime) -> Result<(), Fail> {
+    let rows: [(u32, &[u8]); 3] = [(0, b"[]"), (1, b"[NIL]"), (3, b"[NIL NIL NIL]")];
+    for (places, text) in rows {
+        let mut w = opening(&rt)?;
+        let v = vector(&mut w, places)?;
+        let mut out = MemSink::new(rt.alloc(), 100, &[])?;
+        assert_eq!(rt; print_to(&rt, &mut w, v, Style::Prin2, &mut out)?, Ok(()));
+        assert_eq!(rt; out.bytes(), text);
+    }
+    Ok(())
+}
+
+#[test]
+fn names_in_both_styles(rt: HostRuntime) -> Result<(), Fail> {
+    let rows: [(Style, &[u8]); 2] = [(Style::Prin1, b"(A!+)"), (Style::Prin2, b"(A+)")];
+    for (style, text) in rows {
+        let mut w = opening(&rt)?;
+        let id = identifier(&mut w, b"A+")?;
+        let v = pair(&mut w, id, NIL)?;
+        let mut out = MemSink::new(rt.alloc(), 100, &[])?;
+        assert_eq!(rt; print_to(&rt, &mut w, v, style, &mut out)?, Ok(()));
+        assert_eq!(rt; out.bytes(), text);
+    }
+    Ok(())
+}
+
+#[test]
+fn long_lines_are_broken(rt: HostRuntime) -> Result<(), Fail> {
+    let rows: [(u64, &[u8]); 3] = [
+        (12, b"(100 101 102)"),
+        (11, b"(100 101 \n102)"),
+        (2, b"(\n100 \n101 \n102)"),
+    ];
+    for (length, text) in rows {
+        let mut w = opening(&rt)?;
+        w.set_line_length(length);
+        let v = list(&mut w, &[100, 101, 102], None)?;
+        let mut out = MemSink::new(rt.alloc(), 100, &[])?;
+        assert_eq!(rt; print_to(&rt, &mut w, v, Style::Prin1, &mut out)?, Ok(()));
+        assert_eq!(rt; out.bytes(), text);
+    }
+    Ok(())
+}
+
+/// What was printed before a stop has come to the output.
+#[test]
+fn turns_and_levels_end(rt: HostRuntime) -> Result<(), Fail> {
+    let rows: [(u64, u32, Result<(), Stop>, &[u8]); 5] = [
+        (0, 1, Err(Stop::Turns), b""),
+        (1, 1, Err(Stop::Turns), b"("),
+        (2, 1, Err(Stop::Turns), b"((1"),
+        (4, 0, Err(Stop::Depth), b"("),
+        (4, 1, Ok(()), b"((1 2) . 3)"),
+    ];
+    for (turns, nest, printed, text) in rows {
+        let mut w = running(&rt, turns, nest)?;
+        let inner = list(&mut w, &[1, 2], None)?;
+        let v = pair(&mut w, inner, Val::small(3))?;
+        let mut out = MemSink::new(rt.alloc(), 100, &[])?;
+        assert_eq!(rt; print_to(&rt, &mut w, v, Style::Prin1, &mut out)?, printed);
+        assert_eq!(rt; out.bytes(), text);
+    }
+    Ok(())
+}
+
+#[test]
+fn a_failing_write_leaves_a_front(rt: HostRuntime) -> Result<(), Fail> {
+    for (call, held) in [(1, 0), (2, 4_096)] {
+        let mut w = opening(&rt)?;
+        let v = vector(&mut w, 2_500)?;
+        let mut out = MemSink::new(rt.alloc(), 10_000, &[call])?;
+        assert_eq!(rt;
+            print_to(&rt, &mut w, v, Style::Prin1, &mut out)?,
+            Err(Stop::Write)
+        );
+        assert_eq!(rt; out.bytes().len(), held);
     }
     Ok(())
 }
