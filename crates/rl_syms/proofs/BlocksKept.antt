@@ -4,9 +4,9 @@ use Rattle.rl_tags.specs.Tagged.{Tagged, Number, IdAt, StrAt, PairAt, VectorAt, 
 use Rattle.rl_tags.specs.declared.Tag.{Tag}
 use Rattle.rl_tags.specs.declared.Tag.TheVariants as tag
 use Rattle.rl_cells.specs.Cell.{Cell, PairCell, StrCell, VectorCell, BigCell, BlockCell, More, cell_at, is_id_cell, is_str, words_in}
-use Rattle.rl_syms.specs.Table.{IsTable, IsNamed, is_id, held_in, symbol_at, symbol_of, nil_value}
+use Rattle.rl_syms.specs.Table.{IsTable, IsNamed, Among, ids_from, is_id, held_in, rank_of, symbol_at, symbol_of, nil_value}
 use Rattle.rl_syms.specs.Frame.{KeepsBlocks, block_in}
-use Rattle.rl_syms.proofs.Carried.{Carries, chained_same, named_stays}
+use Rattle.rl_syms.proofs.Carried.{Carries, among_id, chained_same, ids_carried, name_carried, named_stays}
 
 id_from : Option (Tag × List ℕ) → Bool
 id_from (Some (tag.Id, words)) = true
@@ -84,6 +84,17 @@ table_same old new head b t = record {
 
 pub names_same : (old new : List Cell) (head : Option Tagged) (bytes : List ℕ) (id : Tagged) → KeepsBlocks old new → IsTable old head → IsNamed old head bytes id → IsNamed new head bytes id
 names_same old new head bytes id b t n = named_stays old new head bytes id (keeps_carries old new b) t.chained n
+
+-- what has a name had it before
+pub named_before : (old new : List Cell) (head : Option Tagged) (bytes : List ℕ) (id : Tagged) → KeepsBlocks old new → IsTable old head → IsNamed new head bytes id → IsNamed old head bytes id
+named_before old new head bytes id b t n =
+    let c = keeps_carries old new b in
+    let ids = ids_carried old new (rank_of head) head c t.chained.linked t.chained.first in
+    let was : Among (index_of id) (ids_from old head) = rw ids at n.interned.1 in
+    record {
+      interned = (n.interned.0, was);
+      name_is = sym (name_carried old new head (index_of id) c t.chained (among_id old head (index_of id) t.chained was)) ∙ n.name_is;
+    }
 
 pub one_name : (cells : List Cell) (head : Option Tagged) (bytes : List ℕ) (one two : Tagged) → IsTable cells head → IsNamed cells head bytes one → IsNamed cells head bytes two → one ≡ two
 one_name cells head bytes one two t m n =

@@ -8,10 +8,11 @@ use Rattle.rl_syms.specs.Contents.{object_count, number_at, value_of, store_of}
 use Rattle.rl_syms.specs.Table.{IsTable, IsNamed, is_id, name_at, symbol_at}
 use Rattle.rl_syms.specs.Frame.{KeepsBlocks, block_in}
 
--- what makes or changes other objects keeps the table, its names, and what its identifiers have
+-- what makes or changes other objects keeps the table, its names and no others, and what its identifiers have
 pub record IsKept : Type 0 where
   pub table : (old new : List Cell) (head : Option Tagged) → KeepsBlocks old new → IsTable old head → IsTable new head
   pub names : (old new : List Cell) (head : Option Tagged) (bytes : List ℕ) (id : Tagged) → KeepsBlocks old new → IsTable old head → IsNamed old head bytes id → IsNamed new head bytes id
+  pub named_before : (old new : List Cell) (head : Option Tagged) (bytes : List ℕ) (id : Tagged) → KeepsBlocks old new → IsTable old head → IsNamed new head bytes id → IsNamed old head bytes id
   pub ids : (old new : List Cell) (v : Tagged) → KeepsBlocks old new → is_id new v ≡ is_id old v
   pub symbols : (old new : List Cell) (k : ℕ) → KeepsBlocks old new → symbol_at new k ≡ symbol_at old k
 

@@ -3,8 +3,8 @@ ghost use Rattle.rl_syms.specs.Laws.{AreIdentifiers, IsChanged, IsDistinct, IsKe
 
 use rl_cells::laws::{objects_are_added, objects_are_changed};
 
-/// What makes or changes pairs, strings, vectors and wide integers alone keeps the table, its names, and what its
-/// identifiers have.
+/// What makes or changes pairs, strings, vectors and wide integers alone keeps the table, its names and no others, and what
+/// its identifiers have.
 pub fn table_is_kept()
     ensures { IsKept }
 {}

@@ -1,11 +1,16 @@
--- Strings stay as other objects are made.
-use Rattle.std.proofs.Common.{◌≡◌, ℕ, ◌+◌, ◌<◌, true, List, [], length, get_or, set, refl, ◌∙◌, arith, inl, inr}
+-- Strings stay as other objects are made, and opening makes no other objects than these.
+use Rattle.std.proofs.Common.{◌≡◌, ℕ, ◌+◌, ◌<◌, true, List, [], length, get_or, set, Option, Ok, Err, refl, sym, ap, ◌∙◌, arith, inl, inr}
+use Rattle.std.specs.Prelude.{Result, IfOk, OnErr}
 use Rattle.std.proofs.lemmas.Bool.{cases_lt}
 use Rattle.std.proofs.lemmas.List.{get_or-set_same, get_or-set_other}
-use Rattle.rl_tags.specs.Tagged.{Tagged, StrAt}
-use Rattle.rl_cells.specs.Cell.{Cell, is_str, bytes_of}
+use Rattle.rl_tags.specs.Tagged.{Tagged, IdAt, StrAt}
+use Rattle.rl_cells.specs.Cell.{Cell, Store, StrCell, bytes_of, grown, is_str, placed}
+use Rattle.rl_cells.specs.Laws.{IsAdded}
 use Rattle.rl_syms.specs.Frame.{KeepsBlocks}
-use Rattle.rl_world.specs.Errors.{AreTexts, error_texts}
+use Rattle.rl_syms.specs.Laws.{IsKept}
+use Rattle.rl_syms.specs.Opened.{IsOpened, is_name_cell}
+use Rattle.rl_syms.specs.Table.{IsTable}
+use Rattle.rl_world.specs.Errors.{AddsTexts, AreTexts, error_texts}
 
 string_kept : (old new : List Cell) (v : Tagged) → KeepsBlocks old new → is_str old v ≡ true → is_str new v ≡ true
 string_kept old new (StrAt k) b h = b.live (StrAt k) h
@@ -44,3 +49,27 @@ texts_more old new texts more n v b t l e string text =
         | inr at ↦ let is : i ≡ n = omega arith in rw (is, get_or-set_same texts n v d l) text
       ];
     })
+
+string_adds : IsAdded → (old : Store) (bytes : List ℕ) → AddsTexts old.cells (grown old (StrCell bytes)).cells
+string_adds law old bytes k h =
+    let text = StrCell bytes in
+    elim (cases_lt k (length old.cells)) [
+      | inl below ↦ ap is_name_cell (law.stands old.cells (placed text) k below) ∙ h
+      | inr above ↦ elim (cases_lt (length old.cells) k) [
+        | inl past ↦ ap is_name_cell (law.past old.cells text k past)
+        | inr at ↦ let is : k ≡ length old.cells = omega arith in rw is (ap is_name_cell (law.here old.cells text))
+      ]
+    ]
+
+-- where a string is made, and where there is no room for it
+pub text_adds : {E : Type 0} → IsAdded → (old new : Store) (bytes : List ℕ) (r : Result Tagged E) → IfOk r (λ v. new ≡ grown old (StrCell bytes)) → OnErr r (new ≡ old) → AddsTexts old.cells new.cells
+text_adds law old new bytes (Ok v) made same = rw made (string_adds law old bytes)
+text_adds law old new bytes (Err f) made same = rw same (λ k h. h)
+
+-- what opening made stays all that it made, but for the texts
+pub opened_kept : IsKept → (old new : List Cell) (head : Option Tagged) → KeepsBlocks old new → AddsTexts old new → IsTable old head → IsOpened old head → IsOpened new head
+opened_kept law old new head keeps adds table opened = record {
+  blank = λ k h. rw (law.symbols old new k keeps) (opened.blank k (sym (law.ids old new (IdAt k) keeps) ∙ h));
+  known = λ bytes id h. opened.known bytes id (law.named_before old new head bytes id keeps table h);
+  objects = λ k. adds k (opened.objects k);
+}

@@ -3,7 +3,7 @@ ghost use Rattle.std.specs.Prelude.{◌≡◌, ◌+◌, ◌*◌, ◌<◌, ◌≤
 ghost use Rattle.rl_cells.specs.Cell.{bytes_of, is_str};
 ghost use Rattle.rl_syms.specs.Frame.{KeepsBlocks};
 ghost use Rattle.rl_syms.specs.Made.{IsOpening};
-ghost use Rattle.rl_world.specs.Errors.{AreTexts, error_texts};
+ghost use Rattle.rl_world.specs.Errors.{AddsTexts, AreTexts, error_texts};
 
 use rl_cells::Cells;
 use rl_cells::laws::objects_are_added;
@@ -42,6 +42,7 @@ pub(crate) fn make_texts(c: &mut Cells) -> [Val; ERRORS]
     requires long { length c.old.cells ≤ 2115 }
     ensures texts { AreTexts c.new.cells result 14 }
     ensures keeps { KeepsBlocks c.old.cells c.new.cells }
+    ensures strings { AddsTexts c.old.cells c.new.cells }
     ensures opening { IsOpening c.new c.old.bound }
 {
     let mut texts = [Val::small(0); ERRORS];
@@ -59,6 +60,7 @@ fn make_text(c: &mut Cells, i: usize) -> Val
     ensures string { IsTrue (is_str c.new.cells result) }
     ensures text { bytes_of c.new.cells result ≡ slice_index_or error_texts i [] }
     ensures keeps { KeepsBlocks c.old.cells c.new.cells }
+    ensures strings { AddsTexts c.old.cells c.new.cells }
     ensures opening { IsOpening c.new c.old.bound }
     ensures long { length c.new.cells ≤ 2115 + 4 * (i + 1) }
 {

@@ -3,10 +3,10 @@ ghost use Rattle.std.specs.Prelude.{◌≡◌, ◌↔◌, ◌+◌, ◌-◌, ◌^
 ghost use Rattle.rl_tags.specs.Tagged.{Tagged, IdAt};
 ghost use Rattle.rl_tags.specs.Opening.{name_at, place_of};
 ghost use Rattle.rl_tags.specs.declared.names.TheConstants.{OPENING_NAMES};
-ghost use Rattle.rl_cells.specs.Cell.{bytes_of, cell_at, is_id_cell, is_str, used_of};
-ghost use Rattle.rl_syms.specs.Table.{IsTable, IsNamed, symbol_at};
+ghost use Rattle.rl_cells.specs.Cell.{bytes_of, is_str, used_of};
+ghost use Rattle.rl_syms.specs.Table.{IsTable, IsNamed};
 ghost use Rattle.rl_syms.specs.Made.{IsOpening};
-ghost use Rattle.rl_syms.specs.Opened.{IsBlank};
+ghost use Rattle.rl_syms.specs.Opened.{IsOpened};
 ghost use Rattle.rl_world.specs.Counts.{aside_of, begun, counts_at_opening, ended, rejoined, room_stop, roomed, set_aside, tick_stop, ticked};
 ghost use Rattle.rl_world.specs.Errors.{AreTexts, error_text};
 ghost use Rattle.rl_world.specs.Levels.{enter_stop};
@@ -55,7 +55,7 @@ impl World {
         ensures table { IfOk result (λ w. IsTable w.cells.cells w.syms.head) }
         ensures names { IfOk result (λ w. (i : ℕ) → i < OPENING_NAMES → IsNamed w.cells.cells w.syms.head (name_at i) (IdAt (place_of i))) }
         ensures bytes { IfOk result (λ w. (b : ℕ) → b < 256 → (id : Tagged) × IsNamed w.cells.cells w.syms.head (b ∷ []) id) }
-        ensures blank { IfOk result (λ w. (k : ℕ) → IsTrue (is_id_cell (cell_at w.cells.cells k)) → IsBlank (symbol_at w.cells.cells k)) }
+        ensures opened { IfOk result (λ w. IsOpened w.cells.cells w.syms.head) }
         ensures made { IfOk result (λ w. w.syms.made ≡ 0) }
         ensures opening { IfOk result (λ w. IsOpening w.cells limits.cells) }
         ensures texts { IfOk result (λ w. AreTexts w.cells.cells w.texts 14) }

@@ -8,6 +8,7 @@ loop-i-init c = record {
   fourteen = refl;
   texts = texts_none c.args.c.now.cells _;
   keeps = keeps_refl c.args.c.now.cells;
+  strings = λ k h. h;
   opening = c.requires.opening;
   long = omega (arith, c.requires.long);
 }
@@ -17,6 +18,7 @@ loop-i-preserved c = record {
   fourteen = length-set c.loop-i.texts c.loop-i.i c.make_text.result ∙ c.loop-i.invariant.fourteen;
   texts = texts_more c.loop-i.c.cells c.make_text.new.c.cells c.loop-i.texts (set c.loop-i.texts c.loop-i.i c.make_text.result) c.loop-i.i c.make_text.result c.make_text.ensures.keeps c.loop-i.invariant.texts (omega (arith, c.loop-i.invariant.fourteen, c.loop-i-test.true)) refl c.make_text.ensures.string c.make_text.ensures.text;
   keeps = keeps_trans _ c.loop-i.c.cells c.make_text.new.c.cells c.loop-i.invariant.keeps c.make_text.ensures.keeps;
+  strings = λ k h. c.make_text.ensures.strings k (c.loop-i.invariant.strings k h);
   opening = record { count = c.make_text.ensures.opening.count; mark = c.make_text.ensures.opening.mark; bound_is = c.make_text.ensures.opening.bound_is ∙ c.loop-i.invariant.opening.bound_is };
   long = c.make_text.ensures.long;
 }

@@ -1,7 +1,7 @@
 use Rattle.std.proofs.Common.{◌≡◌, ◌+◌, ◌*◌, ◌≤◌, length}
 use Rattle.rl_syms.specs.Frame.{KeepsBlocks}
 use Rattle.rl_syms.specs.Made.{IsOpening}
-use Rattle.rl_world.specs.Errors.{AreTexts}
+use Rattle.rl_world.specs.Errors.{AddsTexts, AreTexts}
 use Rattle.rl_world.proofs.errors.make_texts.Given as goal
 
 abbrev pub invariant-loop-i : goal.invariant-loop-i
@@ -9,6 +9,7 @@ invariant-loop-i l = record {
   fourteen : length l.texts ≡ 14;
   texts : AreTexts l.c.cells l.texts l.i;
   keeps : KeepsBlocks l.fn.c.cells l.c.cells;
+  strings : AddsTexts l.fn.c.cells l.c.cells;
   opening : IsOpening l.c l.fn.c.bound;
   long : length l.c.cells ≤ 2115 + 4 * l.i;
 }
