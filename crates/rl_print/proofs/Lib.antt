@@ -1,5 +1,0 @@
-pub mod After
-pub mod Turns
-pub mod Steps
-pub mod Kept
-pub mod Reached

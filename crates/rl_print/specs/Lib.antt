@@ -1,3 +1,0 @@
-pub mod AtomText
-pub mod Counted
-pub mod Walk

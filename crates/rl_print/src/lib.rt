@@ -1,8 +1,0 @@
-//! PRIN1 and PRIN2.
-#![tactic(auto)]
-
-mod advance;
-mod atom;
-mod walk;
-
-pub use atom::{Style, bare};
