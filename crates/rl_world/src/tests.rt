@@ -1,11 +1,11 @@
-//! The calls of a world over objects in memory, and the bounds of its counts, as tables.
+//! Scripts for a world over objects in memory: tables of calls and their answers.
 ghost use Rattle.std.specs.Prelude.{◌≡◌, None, [], IfOk};
 ghost use Rattle.rl_world.specs.Counts.{counts_at_opening};
 ghost use Rattle.rl_world.specs.Errors.{AreTexts};
 ghost use Rattle.rl_world.specs.Input.{given_after};
 
 use crate::{Limits, Stop, World};
-use rl_io::{Failed, Io, MemFiles, MemSink, MemSource, Sink, SureSource};
+use rl_io::{Failed, Files, Io, MemFiles, MemSink, MemSource, Sink, Source};
 use rl_tags::{NIL, T, Val};
 use std::cell::Cell;
 use std::test::Fail;
@@ -17,29 +17,134 @@ const FEW: Limits = Limits {
     nest: 4,
 };
 
+/// A macro, for the tables: a constant can hold no `Val`.
+#[derive(Clone, Copy, PartialEq, Eq)]
+enum Macro {
+    Outer,
+    Inner,
+    Other,
+}
+
+fn name_of(of: Macro) -> Val {
+    match of {
+        Macro::Outer => T,
+        Macro::Inner => NIL,
+        Macro::Other => Val::small(0),
+    }
+}
+
+fn macro_of(name: Val) -> Macro {
+    if name == T {
+        Macro::Outer
+    } else if name == NIL {
+        Macro::Inner
+    } else {
+        Macro::Other
+    }
+}
+
+/// What a call answers.
+#[derive(Clone, Copy, PartialEq, Eq)]
+enum Answer {
+    Done,
+    Number(u64),
+    Byte(Option<u8>),
+    Words(u64, u64, u64),
+    NoTurns,
+    NoCells,
+    TooDeep,
+    Expanded(Macro),
+    NoRead,
+    NoWrite,
+    NoFiles,
+    /// The call may not be made.
+    Barred,
+}
+
+fn stopped(stop: Stop) -> Answer {
+    match stop {
+        Stop::Turns => Answer::NoTurns,
+        Stop::Cells => Answer::NoCells,
+        Stop::Depth => Answer::TooDeep,
+        Stop::Expansion(name) => Answer::Expanded(macro_of(name)),
+        Stop::Read => Answer::NoRead,
+        Stop::Write => Answer::NoWrite,
+        Stop::Files | Stop::Missing => Answer::NoFiles,
+    }
+}
+
+fn ended(end: Result<(), Stop>) -> Answer {
+    match end {
+        Ok(()) => Answer::Done,
+        Err(stop) => stopped(stop),
+    }
+}
+
+fn given(end: Result<Option<u8>, Stop>) -> Answer {
+    match end {
+        Ok(byte) => Answer::Byte(byte),
+        Err(stop) => stopped(stop),
+    }
+}
+
 /// A world in opening.
 fn opening(rt: &HostRuntime) -> Result<World, Fail>
     ensures unsettled { IfOk result (λ w. w.cells.count ≡ None) }
     ensures texts { IfOk result (λ w. AreTexts w.cells.cells w.texts 14) }
     ensures counts { IfOk result (λ w. w.counts ≡ counts_at_opening 3 10) }
-    ensures levels { IfOk result (λ w. w.levels ≡ record { bound = 4; level = 0; walk = []; aside = None }) }
+    ensures walk { IfOk result (λ w. w.levels.walk ≡ []) }
 {
     Ok(World::open(rt.alloc(), FEW)?)
 }
 
-/// A world in which turns and cells count.
-fn running(rt: &HostRuntime) -> Result<World, Fail>
-    ensures closed { IfOk result (λ w. w.counts.open_count ≡ 0) }
-    ensures together { IfOk result (λ w. w.counts.aside ≡ None) }
-    ensures level { IfOk result (λ w. w.levels.level ≡ 0) }
-    ensures walk { IfOk result (λ w. w.levels.walk ≡ []) }
-{
+/// A world, in opening or after it.
+fn world(rt: &HostRuntime, is_opened: bool) -> Result<World, Fail> {
     let mut world = opening(rt)?;
-    world.opened();
+    if is_opened {
+        world.opened();
+    }
     Ok(world)
 }
 
-/// A world with the objects around it.
+/// A call that moves bytes, or tells of it.
+#[derive(Clone, Copy)]
+enum MoveCall {
+    /// Prints this many bytes, which count up to 250 and begin again.
+    Print(u32),
+    /// Notes this many of them.
+    Note(u32),
+    Flush,
+    /// Takes a byte.
+    Next,
+    /// Takes a byte and puts it back.
+    Look,
+    Taken,
+    Column,
+}
+
+/// A call that counts, or tells of the counts.
+#[derive(Clone, Copy)]
+enum CountCall {
+    /// Takes this many turns, until a stop.
+    Tick(u32),
+    Turns,
+    Room(u32),
+    /// Makes a string of three cells, and tells the cells that are used then.
+    String,
+    Begin(Macro),
+    End,
+    Expansions,
+    Enter(u32),
+    Leave(u32),
+    Level,
+    Push(u64, u64, u64),
+    Pop,
+    Walks,
+    SetLine(u64),
+    Line,
+}
+
+/// A world, the objects around it, and which byte comes next of those that count up.
 #[derive(Drop)]
 struct Run {
     world: World,
@@ -47,27 +152,13 @@ struct Run {
     out: MemSink,
     notes: MemSink,
     files: MemFiles,
+    at: u32,
 }
 
 impl Run {
-    /// A run over the input `abc`, where these reads and these writes fail.
-    fn new(
-        rt: &HostRuntime,
-        read_fails: &[u64],
-        write_fails: &[u64],
-        note_fails: &[u64],
-    ) -> Result<Run, Fail> {
-        Ok(Run {
-            world: opening(rt)?,
-            input: MemSource::new(rt.alloc(), b"abc", read_fails)?,
-            out: MemSink::new(rt.alloc(), 10_000, write_fails)?,
-            notes: MemSink::new(rt.alloc(), 10_000, note_fails)?,
-            files: MemFiles::new(rt.alloc(), 0, &[])?,
-        })
-    }
-
-    /// Prints a byte.
-    fn put(&mut self, b: u8) -> Result<(), Stop> {
+    fn put(&mut self) -> Result<(), Stop> {
+        let b = counted(self.at);
+        self.at = self.at.wrapping_add(1);
         self.world.put_byte(
             b,
             &mut Io {
@@ -79,8 +170,9 @@ impl Run {
         )
     }
 
-    /// Notes a byte.
-    fn note(&mut self, b: u8) -> Result<(), Stop> {
+    fn note(&mut self) -> Result<(), Stop> {
+        let b = counted(self.at);
+        self.at = self.at.wrapping_add(1);
         self.world.note_byte(
             b,
             &mut Io {
@@ -92,7 +184,6 @@ impl Run {
         )
     }
 
-    /// Writes what waits.
     fn flush(&mut self) -> Result<(), Stop> {
         self.world.flush(&mut Io {
             input: &mut self.input,
@@ -102,7 +193,6 @@ impl Run {
         })
     }
 
-    /// Takes a byte of the input.
     fn next(&mut self) -> Result<Option<u8>, Stop>
         ensures { IfOk result (λ b. self.new.world.input ≡ record { back = None; given = given_after b self.old.world.input.given }) }
     {
@@ -114,123 +204,538 @@ impl Run {
         })
     }
 
-    /// Takes a byte and puts it back. The count of what was taken is known before and after.
-    fn look(&mut self) -> Option<(u8, u64, u64)> {
-        match self.next() {
-            Ok(Some(b)) => {
-                let taken = self.world.taken();
-                self.world.input_back(b);
-                Some((b, taken, self.world.taken()))
-            }
-            _ => None,
-        }
-    }
-
-    /// Prints bytes that count up, until one is refused.
-    fn print(&mut self, bytes: u32) -> Result<(), Stop> {
-        for i in 0..bytes {
-            self.put(counted(i))?;
+    fn print_all(&mut self, bytes: u32) -> Result<(), Stop> {
+        for _ in 0..bytes {
+            self.put()?;
         }
         Ok(())
     }
 
-    /// Notes bytes that count up, until one is refused.
     fn note_all(&mut self, bytes: u32) -> Result<(), Stop> {
-        for i in 0..bytes {
-            self.note(counted(i))?;
+        for _ in 0..bytes {
+            self.note()?;
         }
         Ok(())
+    }
+
+    fn look(&mut self) -> Result<Option<u8>, Stop> {
+        let byte = self.next()?;
+        if let Some(b) = byte {
+            self.world.input_back(b);
+        }
+        Ok(byte)
+    }
+
+    fn answer(&mut self, call: MoveCall) -> Answer {
+        match call {
+            MoveCall::Print(bytes) => ended(self.print_all(bytes)),
+            MoveCall::Note(bytes) => ended(self.note_all(bytes)),
+            MoveCall::Flush => ended(self.flush()),
+            MoveCall::Next => given(self.next()),
+            MoveCall::Look => given(self.look()),
+            MoveCall::Taken => Answer::Number(self.world.taken()),
+            MoveCall::Column => Answer::Number(self.world.column()),
+        }
+    }
+
+    /// The first row that fails.
+    fn first_wrong(&mut self, rows: &[MoveRow]) -> Option<usize> {
+        for (i, row) in rows.iter().enumerate() {
+            let answer = self.answer(row.0);
+            if answer != row.1 || !holds(&self.out, row.2) || !holds(&self.notes, row.3) {
+                return Some(i);
+            }
+        }
+        None
     }
 }
 
 /// The byte at this place of those that count up.
-fn counted(i: u32) -> u8 {
-    (i % 251) as u8
+fn counted(at: u32) -> u8 {
+    (at % 251) as u8
 }
 
-/// Whether these are the first bytes that count up.
-fn are_counted(bytes: &[u8]) -> bool {
-    for (i, b) in bytes.iter().enumerate() {
+/// Whether a sink holds just the first so many bytes that count up.
+fn holds(sink: &MemSink, bytes: usize) -> bool {
+    let held = sink.bytes();
+    for (i, b) in held.iter().enumerate() {
         if *b != (i % 251) as u8 {
             return false;
         }
     }
-    true
+    held.len() == bytes
+}
+
+/// A call, its answer, and how many bytes the output and the notes hold then.
+type MoveRow = (MoveCall, Answer, usize, usize);
+
+/// Rows over the input `abc`, where these reads and writes fail.
+struct MoveScript {
+    read_fails: &'static [u64],
+    write_fails: &'static [u64],
+    note_fails: &'static [u64],
+    rows: &'static [MoveRow],
+}
+
+const MOVES: &[MoveScript] = &[
+    MoveScript {
+        read_fails: &[],
+        write_fails: &[],
+        note_fails: &[],
+        rows: &[
+            (MoveCall::Print(4_095), Answer::Done, 0, 0),
+            (MoveCall::Print(1), Answer::Done, 4_096, 0),
+            (MoveCall::Print(1), Answer::Done, 4_096, 0),
+            (MoveCall::Flush, Answer::Done, 4_097, 0),
+            (MoveCall::Flush, Answer::Done, 4_097, 0),
+        ],
+    },
+    MoveScript {
+        read_fails: &[],
+        write_fails: &[],
+        note_fails: &[],
+        rows: &[
+            (MoveCall::Note(4_095), Answer::Done, 0, 0),
+            (MoveCall::Note(1), Answer::Done, 0, 4_096),
+            (MoveCall::Note(1), Answer::Done, 0, 4_096),
+            (MoveCall::Flush, Answer::Done, 0, 4_097),
+        ],
+    },
+    MoveScript {
+        read_fails: &[],
+        write_fails: &[1],
+        note_fails: &[],
+        rows: &[
+            (MoveCall::Print(9_000), Answer::NoWrite, 0, 0),
+            (MoveCall::Flush, Answer::Done, 0, 0),
+        ],
+    },
+    MoveScript {
+        read_fails: &[],
+        write_fails: &[2],
+        note_fails: &[],
+        rows: &[
+            (MoveCall::Print(9_000), Answer::NoWrite, 4_096, 0),
+            (MoveCall::Flush, Answer::Done, 4_096, 0),
+        ],
+    },
+    MoveScript {
+        read_fails: &[],
+        write_fails: &[3],
+        note_fails: &[],
+        rows: &[
+            (MoveCall::Print(9_000), Answer::Done, 8_192, 0),
+            (MoveCall::Flush, Answer::NoWrite, 8_192, 0),
+            (MoveCall::Flush, Answer::Done, 8_192, 0),
+        ],
+    },
+    MoveScript {
+        read_fails: &[],
+        write_fails: &[],
+        note_fails: &[1],
+        rows: &[
+            (MoveCall::Note(5_000), Answer::NoWrite, 0, 0),
+            (MoveCall::Flush, Answer::Done, 0, 0),
+        ],
+    },
+    MoveScript {
+        read_fails: &[],
+        write_fails: &[],
+        note_fails: &[2],
+        rows: &[
+            (MoveCall::Note(5_000), Answer::Done, 0, 4_096),
+            (MoveCall::Flush, Answer::NoWrite, 0, 4_096),
+            (MoveCall::Flush, Answer::Done, 0, 4_096),
+        ],
+    },
+    // Notes are written though the output fails.
+    MoveScript {
+        read_fails: &[],
+        write_fails: &[1],
+        note_fails: &[],
+        rows: &[
+            (MoveCall::Note(1), Answer::Done, 0, 0),
+            (MoveCall::Print(1), Answer::Done, 0, 0),
+            (MoveCall::Flush, Answer::NoWrite, 0, 1),
+        ],
+    },
+    MoveScript {
+        read_fails: &[],
+        write_fails: &[],
+        note_fails: &[],
+        rows: &[
+            (MoveCall::Look, Answer::Byte(Some(b'a')), 0, 0),
+            (MoveCall::Taken, Answer::Number(0), 0, 0),
+            (MoveCall::Next, Answer::Byte(Some(b'a')), 0, 0),
+            (MoveCall::Taken, Answer::Number(1), 0, 0),
+            (MoveCall::Next, Answer::Byte(Some(b'b')), 0, 0),
+            (MoveCall::Next, Answer::Byte(Some(b'c')), 0, 0),
+            (MoveCall::Next, Answer::Byte(None), 0, 0),
+            (MoveCall::Next, Answer::Byte(None), 0, 0),
+            (MoveCall::Taken, Answer::Number(3), 0, 0),
+        ],
+    },
+    // What waits is written before the read that fails.
+    MoveScript {
+        read_fails: &[2],
+        write_fails: &[],
+        note_fails: &[],
+        rows: &[
+            (MoveCall::Next, Answer::Byte(Some(b'a')), 0, 0),
+            (MoveCall::Print(1), Answer::Done, 0, 0),
+            (MoveCall::Next, Answer::NoRead, 1, 0),
+            (MoveCall::Taken, Answer::Number(1), 1, 0),
+            (MoveCall::Next, Answer::Byte(Some(b'b')), 1, 0),
+        ],
+    },
+    MoveScript {
+        read_fails: &[],
+        write_fails: &[1],
+        note_fails: &[],
+        rows: &[
+            (MoveCall::Print(1), Answer::Done, 0, 0),
+            (MoveCall::Next, Answer::NoWrite, 0, 0),
+            (MoveCall::Taken, Answer::Number(0), 0, 0),
+            (MoveCall::Next, Answer::Byte(Some(b'a')), 0, 0),
+        ],
+    },
+    // The eleventh byte is an end of line.
+    MoveScript {
+        read_fails: &[],
+        write_fails: &[],
+        note_fails: &[],
+        rows: &[
+            (MoveCall::Column, Answer::Number(0), 0, 0),
+            (MoveCall::Print(10), Answer::Done, 0, 0),
+            (MoveCall::Column, Answer::Number(10), 0, 0),
+            (MoveCall::Print(1), Answer::Done, 0, 0),
+            (MoveCall::Column, Answer::Number(0), 0, 0),
+            (MoveCall::Print(3), Answer::Done, 0, 0),
+            (MoveCall::Flush, Answer::Done, 14, 0),
+            (MoveCall::Column, Answer::Number(3), 14, 0),
+        ],
+    },
+];
+
+/// The first row of a script that fails.
+fn wrong_move(rt: &HostRuntime, script: &MoveScript) -> Result<Option<usize>, Fail> {
+    let mut run = Run {
+        world: opening(rt)?,
+        input: MemSource::new(rt.alloc(), b"abc", script.read_fails)?,
+        out: MemSink::new(rt.alloc(), 10_000, script.write_fails)?,
+        notes: MemSink::new(rt.alloc(), 10_000, script.note_fails)?,
+        files: MemFiles::new(rt.alloc(), 0, &[])?,
+        at: 0,
+    };
+    Ok(run.first_wrong(script.rows))
 }
 
 #[test]
-fn bytes_are_written_by_4096(rt: HostRuntime) -> Result<(), Fail> {
-    for (bytes, held) in [(4_095, 0), (4_096, 4_096), (4_097, 4_096)] {
-        let mut run = Run::new(&rt, &[], &[], &[])?;
-        assert_eq!(rt; run.print(bytes), Ok(()));
-        assert_eq!(rt; run.out.bytes().len(), held);
-        assert_eq!(rt; run.flush(), Ok(()));
-        assert_eq!(rt; run.out.bytes().len(), bytes as usize);
-        assert!(rt; are_counted(run.out.bytes()));
-        assert!(rt; run.notes.bytes().is_empty());
+fn bytes_move_as_the_scripts_say(rt: HostRuntime) -> Result<(), Fail> {
+    for (i, script) in MOVES.iter().enumerate() {
+        assert_eq!(rt; wrong_move(&rt, script)?, None, "script {i}");
     }
     Ok(())
 }
 
-#[test]
-fn notes_are_written_by_4096(rt: HostRuntime) -> Result<(), Fail> {
-    for (bytes, held) in [(4_095, 0), (4_096, 4_096), (4_097, 4_096)] {
-        let mut run = Run::new(&rt, &[], &[], &[])?;
-        assert_eq!(rt; run.note_all(bytes), Ok(()));
-        assert_eq!(rt; run.notes.bytes().len(), held);
-        assert_eq!(rt; run.flush(), Ok(()));
-        assert_eq!(rt; run.notes.bytes().len(), bytes as usize);
-        assert!(rt; are_counted(run.notes.bytes()));
-        assert!(rt; run.out.bytes().is_empty());
+/// Takes turns until a stop.
+fn take_turns(world: &mut World, turns: u32) -> Result<(), Stop> {
+    for _ in 0..turns {
+        world.tick()?;
     }
     Ok(())
 }
 
+/// Opens an expansion, where fewer than 10 are open.
+fn begin(world: &mut World, of: Macro) -> Answer {
+    if world.expansions() >= 10 {
+        return Answer::Barred;
+    }
+    world.begin_expansion(name_of(of));
+    Answer::Done
+}
+
+/// Ends the newest expansion, where there is one.
+fn end(world: &mut World) -> Answer {
+    if !world.in_expansion() {
+        return Answer::Barred;
+    }
+    world.end_expansion();
+    Answer::Done
+}
+
+/// Leaves levels, where no walk has entered them.
+fn leave(world: &mut World, levels: u32) -> Answer {
+    if world.walk_len() > 0 || levels > world.level() {
+        return Answer::Barred;
+    }
+    world.leave_level(levels);
+    Answer::Done
+}
+
+/// The newest words of a walk, where there are some.
+fn pop(world: &mut World) -> Answer {
+    if world.walk_len() == 0 {
+        return Answer::Barred;
+    }
+    let (a, b, c) = world.walk_pop();
+    Answer::Words(a, b, c)
+}
+
+/// Makes this the line length, where it may be.
+fn set_line(world: &mut World, bytes: u64) -> Answer {
+    if bytes < 1 || bytes > 1_000_000 {
+        return Answer::Barred;
+    }
+    world.set_line_length(bytes);
+    Answer::Number(world.line_length())
+}
+
+/// Makes a string of 17 bytes, and tells the cells that are used then.
+fn string(world: &mut World) -> Answer {
+    match world.cells.string(b"a string of bytes") {
+        Ok(_) => Answer::Number(u64::from(world.cells.used())),
+        Err(_) => Answer::NoCells,
+    }
+}
+
+fn count(world: &mut World, call: CountCall) -> Answer {
+    match call {
+        CountCall::Tick(turns) => ended(take_turns(world, turns)),
+        CountCall::Turns => Answer::Number(world.turns()),
+        CountCall::Room(cost) => ended(world.room(cost)),
+        CountCall::String => string(world),
+        CountCall::Begin(of) => begin(world, of),
+        CountCall::End => end(world),
+        CountCall::Expansions => Answer::Number(u64::from(world.expansions())),
+        CountCall::Enter(levels) => ended(world.enter_level(levels)),
+        CountCall::Leave(levels) => leave(world, levels),
+        CountCall::Level => Answer::Number(u64::from(world.level())),
+        CountCall::Push(a, b, c) => ended(world.walk_push(a, b, c)),
+        CountCall::Pop => pop(world),
+        CountCall::Walks => Answer::Number(world.walk_len()),
+        CountCall::Line => Answer::Number(world.line_length()),
+        CountCall::SetLine(bytes) => set_line(world, bytes),
+    }
+}
+
+/// The first row that fails.
+fn first_wrong(world: &mut World, rows: &[(CountCall, Answer)]) -> Option<usize> {
+    for (i, row) in rows.iter().enumerate() {
+        if count(world, row.0) != row.1 {
+            return Some(i);
+        }
+    }
+    None
+}
+
+/// Rows over a world in opening, or after it.
+struct CountScript {
+    is_opened: bool,
+    rows: &'static [(CountCall, Answer)],
+}
+
+const COUNTS: &[CountScript] = &[
+    CountScript {
+        is_opened: false,
+        rows: &[
+            (CountCall::String, Answer::Number(0)),
+            (CountCall::Tick(1_000_000), Answer::Done),
+            (CountCall::Turns, Answer::Number(0)),
+            (CountCall::Tick(1), Answer::NoTurns),
+        ],
+    },
+    CountScript {
+        is_opened: true,
+        rows: &[
+            (CountCall::Tick(3), Answer::Done),
+            (CountCall::Tick(1), Answer::NoTurns),
+            (CountCall::Turns, Answer::Number(3)),
+        ],
+    },
+    // An expansion has 100,000 turns of its own, with those within it.
+    CountScript {
+        is_opened: true,
+        rows: &[
+            (CountCall::Begin(Macro::Outer), Answer::Done),
+            (CountCall::Tick(5), Answer::Done),
+            (CountCall::Begin(Macro::Inner), Answer::Done),
+            (CountCall::Expansions, Answer::Number(2)),
+            (CountCall::Tick(99_995), Answer::Done),
+            (CountCall::Tick(1), Answer::Expanded(Macro::Outer)),
+            (CountCall::End, Answer::Done),
+            (CountCall::Tick(1), Answer::Expanded(Macro::Outer)),
+            (CountCall::End, Answer::Done),
+            (CountCall::End, Answer::Barred),
+            (CountCall::Turns, Answer::Number(0)),
+            (CountCall::Tick(3), Answer::Done),
+            (CountCall::Tick(1), Answer::NoTurns),
+        ],
+    },
+    CountScript {
+        is_opened: true,
+        rows: &[
+            (CountCall::String, Answer::Number(3)),
+            (CountCall::Room(7), Answer::Done),
+            (CountCall::Room(8), Answer::NoCells),
+            (CountCall::Room(u32::MAX), Answer::NoCells),
+        ],
+    },
+    // An expansion has 1,000,000 cells, and the run no more for it.
+    CountScript {
+        is_opened: true,
+        rows: &[
+            (CountCall::Begin(Macro::Outer), Answer::Done),
+            (CountCall::Room(11), Answer::NoCells),
+            (CountCall::Room(1_000_001), Answer::Expanded(Macro::Outer)),
+            (CountCall::Room(10), Answer::Done),
+            (CountCall::Room(999_990), Answer::NoCells),
+            (CountCall::Room(999_991), Answer::Expanded(Macro::Outer)),
+        ],
+    },
+    CountScript {
+        is_opened: true,
+        rows: &[
+            (CountCall::Enter(5), Answer::TooDeep),
+            (CountCall::Level, Answer::Number(0)),
+            (CountCall::Enter(3), Answer::Done),
+            (CountCall::Enter(2), Answer::TooDeep),
+            (CountCall::Enter(1), Answer::Done),
+            (CountCall::Enter(1), Answer::TooDeep),
+            (CountCall::Level, Answer::Number(4)),
+            (CountCall::Leave(3), Answer::Done),
+            (CountCall::Level, Answer::Number(1)),
+        ],
+    },
+    // Walks give the newest words first.
+    CountScript {
+        is_opened: true,
+        rows: &[
+            (CountCall::Enter(1), Answer::Done),
+            (CountCall::Push(1, 2, 3), Answer::Done),
+            (CountCall::Push(4, 5, 6), Answer::Done),
+            (CountCall::Push(7, 8, 9), Answer::Done),
+            (CountCall::Push(0, 0, 0), Answer::TooDeep),
+            (CountCall::Level, Answer::Number(4)),
+            (CountCall::Leave(2), Answer::Barred),
+            (CountCall::Pop, Answer::Words(7, 8, 9)),
+            (CountCall::Pop, Answer::Words(4, 5, 6)),
+            (CountCall::Walks, Answer::Number(1)),
+            (CountCall::Level, Answer::Number(2)),
+            (CountCall::Pop, Answer::Words(1, 2, 3)),
+            (CountCall::Level, Answer::Number(1)),
+        ],
+    },
+    CountScript {
+        is_opened: false,
+        rows: &[
+            (CountCall::Line, Answer::Number(80)),
+            (CountCall::SetLine(1), Answer::Number(1)),
+            (CountCall::SetLine(1_000_000), Answer::Number(1_000_000)),
+        ],
+    },
+];
+
+/// The first row of a script that fails.
+fn wrong_count(rt: &HostRuntime, script: &CountScript) -> Result<Option<usize>, Fail> {
+    let mut world = world(rt, script.is_opened)?;
+    Ok(first_wrong(&mut world, script.rows))
+}
+
 #[test]
-fn a_failing_write_leaves_a_front(rt: HostRuntime) -> Result<(), Fail> {
-    let rows = [
-        (1, Err(Stop::Write), Ok(()), 0),
-        (2, Err(Stop::Write), Ok(()), 4_096),
-        (3, Ok(()), Err(Stop::Write), 8_192),
-        (4, Ok(()), Ok(()), 9_000),
-    ];
-    for (call, printed, flushed, held) in rows {
-        let mut run = Run::new(&rt, &[], &[call], &[])?;
-        assert_eq!(rt; run.print(9_000), printed);
-        assert_eq!(rt; run.flush(), flushed);
-        assert_eq!(rt; run.out.bytes().len(), held);
-        assert!(rt; are_counted(run.out.bytes()));
-        assert_eq!(rt; run.flush(), Ok(()));
-        assert_eq!(rt; run.out.bytes().len(), held);
+fn counts_go_as_the_scripts_say(rt: HostRuntime) -> Result<(), Fail> {
+    for (i, script) in COUNTS.iter().enumerate() {
+        assert_eq!(rt; wrong_count(&rt, script)?, None, "script {i}");
     }
     Ok(())
 }
 
+/// What can be set aside: turns, levels, expansions and walks.
+fn told(world: &World) -> [u64; 4] {
+    [
+        world.turns(),
+        u64::from(world.level()),
+        u64::from(world.expansions()),
+        world.walk_len(),
+    ]
+}
+
+/// Opens an expansion, enters three levels, and counts apart. What is told before, at the start, at the end and afterwards.
+fn count_apart(world: &mut World) -> [[u64; 4]; 4]
+    requires closed { world.old.counts.open_count ≡ 0 }
+    requires together { world.old.counts.aside ≡ None }
+    requires walk { world.old.levels.walk ≡ [] }
+{
+    world.begin_expansion(T);
+    let _entered = world.enter_level(3);
+    let before = told(world);
+    let apart = world.apart();
+    let start = told(world);
+    let _turn = world.tick();
+    let _pushed = world.walk_push(1, 2, 3);
+    let end = told(world);
+    world.rejoin(apart);
+    [before, start, end, told(world)]
+}
+
+/// Asks for room, and leaves what is set aside.
+fn ask(world: &mut World, cost: u32) -> Result<(), Stop>
+    ensures counts { world.new.counts.aside ≡ world.old.counts.aside }
+    ensures levels { world.new.levels ≡ world.old.levels }
+{
+    world.room(cost)
+}
+
+/// Asks for the most cells apart, and for as many as an expansion has, for one more, and afterwards for one past the bound.
+fn rooms_apart(world: &mut World) -> [Result<(), Stop>; 4]
+    requires closed { world.old.counts.open_count ≡ 0 }
+    requires together { world.old.counts.aside ≡ None }
+    requires walk { world.old.levels.walk ≡ [] }
+{
+    let apart = world.apart();
+    let free = world.room(u32::MAX);
+    world.begin_expansion(T);
+    let most = ask(world, 1_000_000);
+    let past = ask(world, 1);
+    world.rejoin(apart);
+    [free, most, past, world.room(11)]
+}
+
 #[test]
-fn a_failing_write_of_notes_leaves_a_front(rt: HostRuntime) -> Result<(), Fail> {
-    let rows = [
-        (1, Err(Stop::Write), Ok(()), 0),
-        (2, Ok(()), Err(Stop::Write), 4_096),
-    ];
-    for (call, noted, flushed, held) in rows {
-        let mut run = Run::new(&rt, &[], &[], &[call])?;
-        assert_eq!(rt; run.note_all(5_000), noted);
-        assert_eq!(rt; run.flush(), flushed);
-        assert_eq!(rt; run.notes.bytes().len(), held);
-        assert!(rt; are_counted(run.notes.bytes()));
-    }
+fn what_is_set_aside_comes_back(rt: HostRuntime) -> Result<(), Fail> {
+    let mut world = opening(&rt)?;
+    world.opened();
+    let told = count_apart(&mut world);
+    assert_eq!(rt;
+        told,
+        [[0, 3, 1, 0], [0, 0, 0, 0], [1, 1, 0, 1], [0, 3, 1, 0]]
+    );
     Ok(())
 }
 
 #[test]
-fn notes_are_written_though_the_output_fails(rt: HostRuntime) -> Result<(), Fail> {
-    let mut run = Run::new(&rt, &[], &[1], &[])?;
-    assert_eq!(rt; run.put(b'x'), Ok(()));
-    assert_eq!(rt; run.note(b'y'), Ok(()));
-    assert_eq!(rt; run.flush(), Err(Stop::Write));
-    assert!(rt; run.out.bytes().is_empty());
-    assert_eq!(rt; run.notes.bytes(), b"y".as_slice());
+fn no_cells_of_the_run_are_counted_apart(rt: HostRuntime) -> Result<(), Fail> {
+    let mut world = opening(&rt)?;
+    world.opened();
+    let rooms = rooms_apart(&mut world);
+    assert_eq!(rt;
+        rooms,
+        [Ok(()), Ok(()), Err(Stop::Expansion(T)), Err(Stop::Cells)]
+    );
     Ok(())
+}
+
+/// Notes a byte and prints one, and writes both.
+fn note_and_print<I: Source, O: Sink, N: Sink, F: Files>(
+    world: &mut World,
+    io: &mut Io<'_, I, O, N, F>,
+) -> Result<(), Stop>
+    ensures same_out { io.new.out.ghost_name ≡ io.old.out.ghost_name }
+    ensures same_notes { io.new.notes.ghost_name ≡ io.old.notes.ghost_name }
+{
+    world.note_byte(b'y', io)?;
+    world.put_byte(b'x', io)?;
+    world.flush(io)
 }
 
 /// A sink that keeps when it was written to last, by a clock that all such sinks have together.
@@ -252,8 +757,8 @@ impl Sink for Stamped<'_> {
     }
 }
 
-#[test]
-fn the_output_is_written_before_the_notes(rt: HostRuntime) -> Result<(), Fail> {
+/// When the output was written, and when the notes.
+fn times_of_writing(rt: &HostRuntime) -> Result<(u32, u32), Fail> {
     let clock = Cell::new(1);
     let mut out = Stamped {
         clock: &clock,
@@ -263,247 +768,22 @@ fn the_output_is_written_before_the_notes(rt: HostRuntime) -> Result<(), Fail> {
         clock: &clock,
         at: 0,
     };
-    let mut input = SureSource::new(b"");
+    let mut input = MemSource::new(rt.alloc(), b"", &[])?;
     let mut files = MemFiles::new(rt.alloc(), 0, &[])?;
-    let mut world = opening(&rt)?;
+    let mut world = opening(rt)?;
     let mut io = Io {
         input: &mut input,
         out: &mut out,
         notes: &mut notes,
         files: &mut files,
     };
-    assert_eq!(rt; world.note_byte(b'y', &mut io), Ok(()));
-    assert_eq!(rt; world.put_byte(b'x', &mut io), Ok(()));
-    assert_eq!(rt; world.flush(&mut io), Ok(()));
-    assert_eq!(rt; out.at, 1);
-    assert_eq!(rt; notes.at, 2);
-    Ok(())
+    note_and_print(&mut world, &mut io)?;
+    Ok((out.at, notes.at))
 }
 
 #[test]
-fn input_is_given_and_put_back(rt: HostRuntime) -> Result<(), Fail> {
-    let mut run = Run::new(&rt, &[], &[], &[])?;
-    assert_eq!(rt; run.look(), Some((b'a', 1, 0)));
-    for byte in [Some(b'a'), Some(b'b'), Some(b'c'), None, None] {
-        assert_eq!(rt; run.next(), Ok(byte));
-    }
-    assert_eq!(rt; run.world.taken(), 3);
-    Ok(())
-}
-
-#[test]
-fn a_failing_read_comes_after_the_output(rt: HostRuntime) -> Result<(), Fail> {
-    let mut run = Run::new(&rt, &[2], &[], &[])?;
-    assert_eq!(rt; run.next(), Ok(Some(b'a')));
-    assert_eq!(rt; run.put(b'x'), Ok(()));
-    assert!(rt; run.out.bytes().is_empty());
-    assert_eq!(rt; run.next(), Err(Stop::Read));
-    assert_eq!(rt; run.out.bytes(), b"x".as_slice());
-    assert_eq!(rt; run.world.taken(), 1);
-    assert_eq!(rt; run.next(), Ok(Some(b'b')));
-    Ok(())
-}
-
-#[test]
-fn a_failing_write_keeps_the_input(rt: HostRuntime) -> Result<(), Fail> {
-    let mut run = Run::new(&rt, &[], &[1], &[])?;
-    assert_eq!(rt; run.put(b'x'), Ok(()));
-    assert_eq!(rt; run.next(), Err(Stop::Write));
-    assert_eq!(rt; run.world.taken(), 0);
-    assert_eq!(rt; run.next(), Ok(Some(b'a')));
-    assert!(rt; run.out.bytes().is_empty());
-    Ok(())
-}
-
-#[test]
-fn columns_begin_at_each_end_of_line(rt: HostRuntime) -> Result<(), Fail> {
-    let rows: [(&[u8], u64); 4] = [(b"", 0), (b"ab", 2), (b"ab\n", 0), (b"a\nbcd", 3)];
-    for (bytes, column) in rows {
-        let mut run = Run::new(&rt, &[], &[], &[])?;
-        for b in bytes {
-            assert_eq!(rt; run.put(*b), Ok(()));
-        }
-        assert_eq!(rt; run.world.column(), column);
-        assert_eq!(rt; run.flush(), Ok(()));
-        assert_eq!(rt; run.world.column(), column);
-    }
-    Ok(())
-}
-
-#[test]
-fn line_lengths(rt: HostRuntime) -> Result<(), Fail> {
-    let mut world = opening(&rt)?;
-    assert_eq!(rt; world.line_length(), 80);
-    for n in [1, 1_000_000] {
-        world.set_line_length(n);
-        assert_eq!(rt; world.line_length(), n);
-    }
-    Ok(())
-}
-
-/// How many turns are taken before a stop, of at most so many, and the stop.
-fn take_turns(world: &mut World, most: u32) -> (u32, Option<Stop>) {
-    for taken in 0..most {
-        if let Err(stop) = world.tick() {
-            return (taken, Some(stop));
-        }
-    }
-    (most, None)
-}
-
-#[test]
-fn turns_end_at_their_bound(rt: HostRuntime) -> Result<(), Fail> {
-    let mut world = opening(&rt)?;
-    assert_eq!(rt; world.tick(), Ok(()));
-    assert_eq!(rt; world.turns(), 0);
-    world.opened();
-    assert_eq!(rt; take_turns(&mut world, 5), (3, Some(Stop::Turns)));
-    assert_eq!(rt; world.turns(), 3);
-    Ok(())
-}
-
-#[test]
-fn opening_has_1000000_turns(rt: HostRuntime) -> Result<(), Fail> {
-    let mut world = opening(&rt)?;
-    assert_eq!(rt;
-        take_turns(&mut world, 1_000_001),
-        (1_000_000, Some(Stop::Turns))
-    );
-    Ok(())
-}
-
-#[test]
-fn an_expansion_has_100000_turns(rt: HostRuntime) -> Result<(), Fail> {
-    let mut world = running(&rt)?;
-    world.begin_expansion(T);
-    assert_eq!(rt; take_turns(&mut world, 5), (5, None));
-    assert!(rt; world.expansions() == 1);
-    world.begin_expansion(NIL);
-    assert_eq!(rt;
-        take_turns(&mut world, 100_000),
-        (99_995, Some(Stop::Expansion(T)))
-    );
-    assert_eq!(rt; world.turns(), 0);
-    assert!(rt; world.expansions() == 2);
-    world.end_expansion();
-    assert_eq!(rt; world.tick(), Err(Stop::Expansion(T)));
-    assert!(rt; world.in_expansion());
-    world.end_expansion();
-    assert!(rt; !world.in_expansion());
-    assert_eq!(rt; take_turns(&mut world, 5), (3, Some(Stop::Turns)));
-    Ok(())
-}
-
-#[test]
-fn cells_end_at_their_bound(rt: HostRuntime) -> Result<(), Fail> {
-    let mut world = running(&rt)?;
-    assert!(rt; world.cells.cons(Val::small(1), Val::small(2)).is_ok());
-    let rows = [
-        (0, Ok(())),
-        (9, Ok(())),
-        (10, Err(Stop::Cells)),
-        (u32::MAX, Err(Stop::Cells)),
-    ];
-    for (cost, room) in rows {
-        assert_eq!(rt; world.room(cost), room);
-    }
-    Ok(())
-}
-
-#[test]
-fn an_expansion_has_1000000_cells(rt: HostRuntime) -> Result<(), Fail> {
-    let mut world = running(&rt)?;
-    world.begin_expansion(T);
-    let rows = [
-        (11, Err(Stop::Cells)),
-        (1_000_001, Err(Stop::Expansion(T))),
-        (10, Ok(())),
-        (999_990, Err(Stop::Cells)),
-        (999_991, Err(Stop::Expansion(T))),
-    ];
-    for (cost, room) in rows {
-        assert_eq!(rt; world.room(cost), room);
-    }
-    Ok(())
-}
-
-#[test]
-fn no_cells_are_counted_apart(rt: HostRuntime) -> Result<(), Fail> {
-    let mut world = running(&rt)?;
-    let apart = world.apart();
-    assert_eq!(rt; world.room(u32::MAX), Ok(()));
-    world.begin_expansion(T);
-    assert_eq!(rt; world.room(1_000_000), Ok(()));
-    assert_eq!(rt; world.room(1), Err(Stop::Expansion(T)));
-    world.rejoin(apart);
-    assert_eq!(rt; world.room(11), Err(Stop::Cells));
-    Ok(())
-}
-
-#[test]
-fn levels_end_at_their_bound(rt: HostRuntime) -> Result<(), Fail> {
-    let mut world = running(&rt)?;
-    let rows = [
-        (5, Err(Stop::Depth), 0),
-        (3, Ok(()), 3),
-        (2, Err(Stop::Depth), 3),
-        (1, Ok(()), 4),
-        (1, Err(Stop::Depth), 4),
-        (0, Ok(()), 4),
-    ];
-    for (n, entered, level) in rows {
-        assert_eq!(rt; world.enter_level(n), entered);
-        assert_eq!(rt; world.level(), level);
-    }
-    assert!(rt; world.walk_len() == 0);
-    assert!(rt; world.level() == 4);
-    world.leave_level(3);
-    assert_eq!(rt; world.level(), 1);
-    Ok(())
-}
-
-#[test]
-fn walks_give_the_newest_words_first(rt: HostRuntime) -> Result<(), Fail> {
-    let mut world = running(&rt)?;
-    assert_eq!(rt; world.enter_level(1), Ok(()));
-    let rows = [
-        (1, 2, 3, Ok(())),
-        (4, 5, 6, Ok(())),
-        (7, 8, 9, Ok(())),
-        (0, 0, 0, Err(Stop::Depth)),
-    ];
-    for (a, b, c, pushed) in rows {
-        assert_eq!(rt; world.walk_push(a, b, c), pushed);
-    }
-    assert_eq!(rt; world.level(), 4);
-    assert!(rt; world.walk_len() == 3);
-    assert_eq!(rt; world.walk_pop(), (7, 8, 9));
-    assert_eq!(rt; world.walk_pop(), (4, 5, 6));
-    assert_eq!(rt; world.level(), 2);
-    assert_eq!(rt; world.walk_pop(), (1, 2, 3));
-    assert_eq!(rt; world.level(), 1);
-    assert_eq!(rt; world.walk_len(), 0);
-    Ok(())
-}
-
-#[test]
-fn what_is_set_aside_comes_back(rt: HostRuntime) -> Result<(), Fail> {
-    let mut world = running(&rt)?;
-    assert_eq!(rt; world.tick(), Ok(()));
-    assert_eq!(rt; world.enter_level(3), Ok(()));
-    assert!(rt; world.expansions() == 0);
-    world.begin_expansion(T);
-    let apart = world.apart();
-    assert_eq!(rt; world.level(), 0);
-    assert_eq!(rt; world.expansions(), 0);
-    assert_eq!(rt; world.tick(), Ok(()));
-    assert_eq!(rt; world.enter_level(2), Ok(()));
-    assert_eq!(rt; world.walk_push(1, 2, 3), Ok(()));
-    world.rejoin(apart);
-    assert_eq!(rt; world.turns(), 1);
-    assert_eq!(rt; world.level(), 3);
-    assert_eq!(rt; world.walk_len(), 0);
-    assert_eq!(rt; world.expansions(), 1);
+fn the_output_is_written_before_the_notes(rt: HostRuntime) -> Result<(), Fail> {
+    assert_eq!(rt; times_of_writing(&rt)?, (1, 2));
     Ok(())
 }
 
@@ -538,17 +818,5 @@ fn errors_have_their_texts(rt: HostRuntime) -> Result<(), Fail> {
     for (n, bytes) in rows {
         assert!(rt; has_text(&world, n, bytes), "{n}");
     }
-    Ok(())
-}
-
-#[test]
-fn cells_count_once_opening_has_ended(rt: HostRuntime) -> Result<(), Fail> {
-    let mut world = opening(&rt)?;
-    assert!(rt; world.cells.string(b"made in opening").is_ok());
-    assert_eq!(rt; world.cells.used(), 0);
-    world.opened();
-    assert_eq!(rt; world.cells.used(), 0);
-    assert!(rt; world.cells.string(b"and then 17 bytes").is_ok());
-    assert_eq!(rt; world.cells.used(), 3);
     Ok(())
 }
