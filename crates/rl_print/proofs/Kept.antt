@@ -94,9 +94,9 @@ popped_means style base old new t c e popped l is within some p =
     let left : levels_left new ≡ levels_left old + 1 = omega (arith, level, bound, within, some) in
     let setting : setting_in style new ≡ setting_in style old = ap (setting_in style) e in
     let places : place_in new.cells.cells c ∷ waiting_places new base ≡ waiting_places old base =
-        ap (λ (s : Store). place_in s.cells c ∷ map (kept_place s.cells) (kept_above base new.levels)) cells
-        ∙ (ap (λ place. place ∷ map (kept_place old.cells.cells) (kept_above base new.levels)) is
-        ∙ sym (ap (map (kept_place old.cells.cells)) (above_pushed base new.levels old.levels t popped l))) in
+    ap (λ (s : Store). place_in s.cells c ∷ map (kept_place s.cells) (kept_above base new.levels)) cells
+    ∙ (ap (λ place. place ∷ map (kept_place old.cells.cells) (kept_above base new.levels)) is
+    ∙ sym (ap (map (kept_place old.cells.cells)) (above_pushed base new.levels old.levels t popped l))) in
     ap (λ g. all_printed g (place_in new.cells.cells c ∷ waiting_places new base) (levels_left new) p) setting
     ∙ (ap (λ ps. all_printed (setting_in style old) ps (levels_left new) p) places ∙ ap (λ n. all_printed (setting_in style old) (waiting_places old base) n p) left)
 

@@ -310,7 +310,7 @@ places_mean base old new v i dotted x mark t at em style text =
     let more : turns_left old.counts ≡ suc (turns_left new.counts) = omega (arith, t.turns) in
     let later : ((i + 1) == 0) ≡ false = grind (arith, nat_tests) in
     let place : Places false rest dotted ≡ place_in new.cells.cells (cursor.Places v (i + 1) dotted) =
-        ap (λ b. Places b rest dotted) (sym later) ∙ ap (λ (s : Store). Places ((i + 1) == 0) (drop (i + 1) (map (value_of s.cells) (vector_of s.cells v))) dotted) (sym m.view.cells) in
+    ap (λ b. Places b rest dotted) (sym later) ∙ ap (λ (s : Store). Places ((i + 1) == 0) (drop (i + 1) (map (value_of s.cells) (vector_of s.cells v))) dotted) (sym m.view.cells) in
     let value : value_of cells x ≡ value_of new.cells.cells x = ap (λ (s : Store). value_of s.cells x) (sym m.view.cells) in
     places_of style base old v i dotted _ text e
     ∙ (places_go_on (setting_in style old) (i == 0) dotted (value_of cells x) rest (waiting_places old base) (levels_left old) (progress_in old text) (turns_left new.counts) more

@@ -108,9 +108,11 @@ follows_more (Some a) None c x y z first more p q = absurd p
 follows_more (Some a) (Some b) None x y z first more p q = absurd q
 follows_more (Some a) (Some b) (Some c) x y z first more p q =
     let front = take p.0 (x ++ first) in
-    let rest = drop p.0 (x ++ first) in
-    (length front + q.0, taken_more p.0 q.0 a b c x y first more p.1 p.2 q.1,
-    q.2 ∙ (ap (λ w. drop q.0 (w ++ more)) p.2 ∙ (sym (drop-append-add front (rest ++ more) q.0) ∙ ap (drop (length front + q.0)) (sym (cut_at p.0 x first more)))))
+    let rest = drop p.0 (x ++ first) in (
+      length front + q.0,
+      taken_more p.0 q.0 a b c x y first more p.1 p.2 q.1,
+      q.2 ∙ (ap (λ w. drop q.0 (w ++ more)) p.2 ∙ (sym (drop-append-add front (rest ++ more) q.0) ∙ ap (drop (length front + q.0)) (sym (cut_at p.0 x first more)))),
+    )
 
 -- and then a front of more
 pub cut_more : (a b c : Option (List ℕ)) (x y first more : List ℕ) → Follows a x b y first → IsCutOff b c (y ++ more) → IsCutOff a c (x ++ (first ++ more))
@@ -212,7 +214,7 @@ close_front before one two now style old mid late v dot close ed ec wm m a cut =
   more = λ text.
       let atom : (shown (setting_in style mid) mid.cells.cells (piece.Atom v) (progress_in mid (text ++ m.bytes))).page.text ≡ (text ++ m.bytes) ++ a.bytes = ap (λ (p : Progress). p.page.text) (a.means (text ++ m.bytes)) in
       let whole : ((text ++ m.bytes) ++ a.bytes) ++ close ≡ text ++ (m.bytes ++ (a.bytes ++ close)) = append_assoc (text ++ m.bytes) a.bytes close ∙ append_assoc text m.bytes (a.bytes ++ close) in
-      ([], dotted_text before one style old mid v dot text ed wm m ∙ (ap (λ t. t ++ 41 ∷ []) atom ∙ (ap (λ t. ((text ++ m.bytes) ++ a.bytes) ++ t) (sym ec) ∙ (whole ∙ sym (append-nil (text ++ (m.bytes ++ (a.bytes ++ close)))))))) ;
+      ([], dotted_text before one style old mid v dot text ed wm m ∙ (ap (λ t. t ++ 41 ∷ []) atom ∙ (ap (λ t. ((text ++ m.bytes) ++ a.bytes) ++ t) (sym ec) ∙ (whole ∙ sym (append-nil (text ++ (m.bytes ++ (a.bytes ++ close))))))));
 }
 
 -- ---- the bytes of a text, one after another

@@ -119,6 +119,7 @@ rest_nil g levels p = go (g.nil == g.nil) (same g.nil)
   where
     same : (n : ℕ) → (n == n) ≡ true
     same n = grind (arith, nat_tests)
+
     go : (b : Bool) → b ≡ true → (if b then marked (41 ∷ []) p else dotted_atom g (Id g.nil) p) ≡ marked (41 ∷ []) p
     go true e = refl
     go false e = absurd (cc)

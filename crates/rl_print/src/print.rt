@@ -38,6 +38,7 @@ pub fn print1<I: Source, O: Sink, N: Sink, F: Files>(
     ensures failed { IfErr result (λ s. s ≡ stop.Write → Rose (O.faults io.old.out.now) (O.faults io.new.out.now)) }
     ensures steady { result ≢ Err stop.Write → O.faults io.new.out.now ≡ O.faults io.old.out.now }
     ensures world { IsPrinting (length w.old.levels.walk) w.old w.new }
+    ensures same_out { io.new.out.ghost_name ≡ io.old.out.ghost_name }
     ensures rest { io.new ≡ record io.old { out = io.new.out } }
 {
     print(w, v, Style::Prin1, io)
@@ -61,6 +62,7 @@ pub fn print2<I: Source, O: Sink, N: Sink, F: Files>(
     ensures failed { IfErr result (λ s. s ≡ stop.Write → Rose (O.faults io.old.out.now) (O.faults io.new.out.now)) }
     ensures steady { result ≢ Err stop.Write → O.faults io.new.out.now ≡ O.faults io.old.out.now }
     ensures world { IsPrinting (length w.old.levels.walk) w.old w.new }
+    ensures same_out { io.new.out.ghost_name ≡ io.old.out.ghost_name }
     ensures rest { io.new ≡ record io.old { out = io.new.out } }
 {
     print(w, v, Style::Prin2, io)
@@ -84,6 +86,7 @@ fn step<I: Source, O: Sink, N: Sink, F: Files>(
     ensures failed { IfErr result (λ s. s ≡ stop.Write → Rose (O.faults io.old.out.now) (O.faults io.new.out.now)) }
     ensures steady { result ≢ Err stop.Write → O.faults io.new.out.now ≡ O.faults io.old.out.now }
     ensures world { IsPrinting base w.old w.new }
+    ensures same_out { io.new.out.ghost_name ≡ io.old.out.ghost_name }
     ensures rest { io.new ≡ record io.old { out = io.new.out } }
 {
     let (piece, next) = match advance(w, at, base) {
@@ -114,6 +117,7 @@ fn start<I: Source, O: Sink, N: Sink, F: Files>(
     ensures failed { IfErr result (λ s. s ≡ stop.Write → Rose (O.faults io.old.out.now) (O.faults io.new.out.now)) }
     ensures steady { result ≢ Err stop.Write → O.faults io.new.out.now ≡ O.faults io.old.out.now }
     ensures world { IsPrinting base w.old w.new }
+    ensures same_out { io.new.out.ghost_name ≡ io.old.out.ghost_name }
     ensures rest { io.new ≡ record io.old { out = io.new.out } }
 {
     let (piece, next) = match begin(w, v, base) {
@@ -142,6 +146,7 @@ fn print<I: Source, O: Sink, N: Sink, F: Files>(
     ensures failed { IfErr result (λ s. s ≡ stop.Write → Rose (O.faults io.old.out.now) (O.faults io.new.out.now)) }
     ensures steady { result ≢ Err stop.Write → O.faults io.new.out.now ≡ O.faults io.old.out.now }
     ensures world { IsPrinting (length w.old.levels.walk) w.old w.new }
+    ensures same_out { io.new.out.ghost_name ≡ io.old.out.ghost_name }
     ensures rest { io.new ≡ record io.old { out = io.new.out } }
 {
     let base = w.walk_len();

@@ -28,6 +28,7 @@ pub(crate) fn put_bytes<I: Source, O: Sink, N: Sink, F: Files>(
     ensures failed { OnErr result (Rose (O.faults io.old.out.now) (O.faults io.new.out.now)) }
     ensures steady { OnOk result (O.faults io.new.out.now ≡ O.faults io.old.out.now) }
     ensures world { w.new ≡ record w.old { output = record w.old.output { waiting = w.new.output.waiting; column = w.new.output.column } } }
+    ensures same_out { io.new.out.ghost_name ≡ io.old.out.ghost_name }
     ensures rest { io.new ≡ record io.old { out = io.new.out } }
 {
     for i in 0..bytes.len() {
@@ -56,6 +57,7 @@ pub(crate) fn put_atom<I: Source, O: Sink, N: Sink, F: Files>(
     ensures failed { OnErr result (Rose (O.faults io.old.out.now) (O.faults io.new.out.now)) }
     ensures steady { OnOk result (O.faults io.new.out.now ≡ O.faults io.old.out.now) }
     ensures world { w.new ≡ record w.old { output = record w.old.output { waiting = w.new.output.waiting; column = w.new.output.column } } }
+    ensures same_out { io.new.out.ghost_name ≡ io.old.out.ghost_name }
     ensures rest { io.new ≡ record io.old { out = io.new.out } }
 {
     let long = text_length(w, AtomText::styled(a, style));
@@ -83,6 +85,7 @@ fn put_break<I: Source, O: Sink, N: Sink, F: Files>(
     ensures failed { OnErr result (Rose (O.faults io.old.out.now) (O.faults io.new.out.now)) }
     ensures steady { OnOk result (O.faults io.new.out.now ≡ O.faults io.old.out.now) }
     ensures world { w.new ≡ record w.old { output = record w.old.output { waiting = w.new.output.waiting; column = w.new.output.column } } }
+    ensures same_out { io.new.out.ghost_name ≡ io.old.out.ghost_name }
     ensures rest { io.new ≡ record io.old { out = io.new.out } }
 {
     if !broken {
@@ -133,6 +136,7 @@ fn put_text<I: Source, O: Sink, N: Sink, F: Files>(
     ensures failed { OnErr result (Rose (O.faults io.old.out.now) (O.faults io.new.out.now)) }
     ensures steady { OnOk result (O.faults io.new.out.now ≡ O.faults io.old.out.now) }
     ensures world { w.new ≡ record w.old { output = record w.old.output { waiting = w.new.output.waiting; column = w.new.output.column } } }
+    ensures same_out { io.new.out.ghost_name ≡ io.old.out.ghost_name }
     ensures rest { io.new ≡ record io.old { out = io.new.out } }
 {
     let mut left = text;

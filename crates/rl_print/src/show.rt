@@ -31,6 +31,7 @@ pub(crate) fn show<I: Source, O: Sink, N: Sink, F: Files>(
     ensures failed { OnErr result (Rose (O.faults io.old.out.now) (O.faults io.new.out.now)) }
     ensures steady { OnOk result (O.faults io.new.out.now ≡ O.faults io.old.out.now) }
     ensures world { w.new ≡ record w.old { output = record w.old.output { waiting = w.new.output.waiting; column = w.new.output.column } } }
+    ensures same_out { io.new.out.ghost_name ≡ io.old.out.ghost_name }
     ensures rest { io.new ≡ record io.old { out = io.new.out } }
 {
     match piece {
@@ -55,6 +56,7 @@ fn show_mark<I: Source, O: Sink, N: Sink, F: Files>(
     ensures failed { OnErr result (Rose (O.faults io.old.out.now) (O.faults io.new.out.now)) }
     ensures steady { OnOk result (O.faults io.new.out.now ≡ O.faults io.old.out.now) }
     ensures world { w.new ≡ record w.old { output = record w.old.output { waiting = w.new.output.waiting; column = w.new.output.column } } }
+    ensures same_out { io.new.out.ghost_name ≡ io.old.out.ghost_name }
     ensures rest { io.new ≡ record io.old { out = io.new.out } }
 {
     let _ = style;
@@ -80,6 +82,7 @@ fn show_atom<I: Source, O: Sink, N: Sink, F: Files>(
     ensures failed { OnErr result (Rose (O.faults io.old.out.now) (O.faults io.new.out.now)) }
     ensures steady { OnOk result (O.faults io.new.out.now ≡ O.faults io.old.out.now) }
     ensures world { w.new ≡ record w.old { output = record w.old.output { waiting = w.new.output.waiting; column = w.new.output.column } } }
+    ensures same_out { io.new.out.ghost_name ≡ io.old.out.ghost_name }
     ensures rest { io.new ≡ record io.old { out = io.new.out } }
 {
     match put_atom(w, v, style, io) {
@@ -104,6 +107,7 @@ fn show_dotted<I: Source, O: Sink, N: Sink, F: Files>(
     ensures failed { OnErr result (Rose (O.faults io.old.out.now) (O.faults io.new.out.now)) }
     ensures steady { OnOk result (O.faults io.new.out.now ≡ O.faults io.old.out.now) }
     ensures world { w.new ≡ record w.old { output = record w.old.output { waiting = w.new.output.waiting; column = w.new.output.column } } }
+    ensures same_out { io.new.out.ghost_name ≡ io.old.out.ghost_name }
     ensures rest { io.new ≡ record io.old { out = io.new.out } }
 {
     if let Err(s) = show_mark(w, b" . ", style, io) {

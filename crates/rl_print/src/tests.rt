@@ -1,12 +1,12 @@
 //! The texts of atoms, and of lists and vectors printed to objects in memory, by PRIN1 and by PRIN2.
-ghost use Rattle.std.specs.Prelude.{IsTrue, IfOk};
+ghost use Rattle.std.specs.Prelude.{◌≡◌, IsTrue, IfOk};
 ghost use Rattle.rl_cells.specs.Cell.{is_live, is_wide};
 ghost use Rattle.rl_syms.specs.Table.{IsTable, is_id};
 ghost use Rattle.rl_print.specs.AtomText.{is_atom};
 
 use crate::atom::{AtomText, Style};
 use crate::print::{print1, print2};
-use rl_io::{Io, MemFiles, MemSink, SureSource};
+use rl_io::{Io, MemFiles, MemSink, MemSource};
 use rl_syms::laws::{others_leave_blocks, table_is_kept};
 use rl_tags::{NIL, Val};
 use rl_world::{Limits, Stop, World};
@@ -203,35 +203,51 @@ fn vector(w: &mut World, places: u32) -> Result<Val, Fail>
     Ok(vector)
 }
 
-/// Prints a value, and then writes what waits.
-fn print_to(
-    rt: &HostRuntime,
-    w: &mut World,
-    v: Val,
-    style: Style,
-    out: &mut MemSink,
-) -> Result<Result<(), Stop>, Fail>
-    requires table { IsTable w.old.cells.cells w.old.syms.head }
-    requires live { IsTrue (is_live w.old.cells.cells v) }
-{
-    let mut input = SureSource::new(b"");
-    let mut notes = MemSink::new(rt.alloc(), 0, &[])?;
-    let mut files = MemFiles::new(rt.alloc(), 0, &[])?;
-    let mut io = Io {
-        input: &mut input,
-        out,
-        notes: &mut notes,
-        files: &mut files,
-    };
-    let printed = match style {
-        Style::Prin1 => print1(w, v, &mut io),
-        Style::Prin2 => print2(w, v, &mut io),
-    };
-    let flushed = w.flush(&mut io);
-    Ok(match printed {
-        Ok(()) => flushed,
-        Err(stop) => Err(stop),
-    })
+/// A world with the objects around it.
+#[derive(Drop)]
+struct Run {
+    world: World,
+    input: MemSource,
+    out: MemSink,
+    notes: MemSink,
+    files: MemFiles,
+}
+
+impl Run {
+    /// A run of this world, where these writes fail.
+    fn new(rt: &HostRuntime, world: World, write_fails: &[u64]) -> Result<Run, Fail>
+        ensures { IfOk result (λ run. run.world ≡ world) }
+    {
+        Ok(Run {
+            world,
+            input: MemSource::new(rt.alloc(), b"", &[])?,
+            out: MemSink::new(rt.alloc(), 10_000, write_fails)?,
+            notes: MemSink::new(rt.alloc(), 0, &[])?,
+            files: MemFiles::new(rt.alloc(), 0, &[])?,
+        })
+    }
+
+    /// Prints a value, and then writes what waits. The first stop is the answer.
+    fn print(&mut self, v: Val, style: Style) -> Result<(), Stop>
+        requires table { IsTable self.old.world.cells.cells self.old.world.syms.head }
+        requires live { IsTrue (is_live self.old.world.cells.cells v) }
+    {
+        let io = &mut Io {
+            input: &mut self.input,
+            out: &mut self.out,
+            notes: &mut self.notes,
+            files: &mut self.files,
+        };
+        let printed = match style {
+            Style::Prin1 => print1(&mut self.world, v, io),
+            Style::Prin2 => print2(&mut self.world, v, io),
+        };
+        let flushed = self.world.flush(io);
+        match printed {
+            Ok(()) => flushed,
+            Err(stop) => Err(stop),
+        }
+    }
 }
 
 #[test]
@@ -245,9 +261,9 @@ fn lists(rt: HostRuntime) -> Result<(), Fail> {
     for (items, end, text) in rows {
         let mut w = opening(&rt)?;
         let v = list(&mut w, items, end)?;
-        let mut out = MemSink::new(rt.alloc(), 100, &[])?;
-        assert_eq!(rt; print_to(&rt, &mut w, v, Style::Prin1, &mut out)?, Ok(()));
-        assert_eq!(rt; out.bytes(), text);
+        let mut run = Run::new(&rt, w, &[])?;
+        assert_eq!(rt; run.print(v, Style::Prin1), Ok(()));
+        assert_eq!(rt; run.out.bytes(), text);
     }
     Ok(())
 }
@@ -257,9 +273,9 @@ fn lists_in_lists(rt: HostRuntime) -> Result<(), Fail> {
     let mut w = opening(&rt)?;
     let inner = list(&mut w, &[1, 2], None)?;
     let v = pair(&mut w, inner, Val::small(3))?;
-    let mut out = MemSink::new(rt.alloc(), 100, &[])?;
-    assert_eq!(rt; print_to(&rt, &mut w, v, Style::Prin1, &mut out)?, Ok(()));
-    assert_eq!(rt; out.bytes(), b"((1 2) . 3)".as_slice());
+    let mut run = Run::new(&rt, w, &[])?;
+    assert_eq!(rt; run.print(v, Style::Prin1), Ok(()));
+    assert_eq!(rt; run.out.bytes(), b"((1 2) . 3)".as_slice());
     Ok(())
 }
 
@@ -269,9 +285,9 @@ fn vectors(rt: HostRuntime) -> Result<(), Fail> {
     for (places, text) in rows {
         let mut w = opening(&rt)?;
         let v = vector(&mut w, places)?;
-        let mut out = MemSink::new(rt.alloc(), 100, &[])?;
-        assert_eq!(rt; print_to(&rt, &mut w, v, Style::Prin2, &mut out)?, Ok(()));
-        assert_eq!(rt; out.bytes(), text);
+        let mut run = Run::new(&rt, w, &[])?;
+        assert_eq!(rt; run.print(v, Style::Prin2), Ok(()));
+        assert_eq!(rt; run.out.bytes(), text);
     }
     Ok(())
 }
@@ -283,9 +299,9 @@ fn names_in_both_styles(rt: HostRuntime) -> Result<(), Fail> {
         let mut w = opening(&rt)?;
         let id = identifier(&mut w, b"A+")?;
         let v = pair(&mut w, id, NIL)?;
-        let mut out = MemSink::new(rt.alloc(), 100, &[])?;
-        assert_eq!(rt; print_to(&rt, &mut w, v, style, &mut out)?, Ok(()));
-        assert_eq!(rt; out.bytes(), text);
+        let mut run = Run::new(&rt, w, &[])?;
+        assert_eq!(rt; run.print(v, style), Ok(()));
+        assert_eq!(rt; run.out.bytes(), text);
     }
     Ok(())
 }
@@ -301,9 +317,9 @@ fn long_lines_are_broken(rt: HostRuntime) -> Result<(), Fail> {
         let mut w = opening(&rt)?;
         w.set_line_length(length);
         let v = list(&mut w, &[100, 101, 102], None)?;
-        let mut out = MemSink::new(rt.alloc(), 100, &[])?;
-        assert_eq!(rt; print_to(&rt, &mut w, v, Style::Prin1, &mut out)?, Ok(()));
-        assert_eq!(rt; out.bytes(), text);
+        let mut run = Run::new(&rt, w, &[])?;
+        assert_eq!(rt; run.print(v, Style::Prin1), Ok(()));
+        assert_eq!(rt; run.out.bytes(), text);
     }
     Ok(())
 }
@@ -322,9 +338,9 @@ fn turns_and_levels_end(rt: HostRuntime) -> Result<(), Fail> {
         let mut w = running(&rt, turns, nest)?;
         let inner = list(&mut w, &[1, 2], None)?;
         let v = pair(&mut w, inner, Val::small(3))?;
-        let mut out = MemSink::new(rt.alloc(), 100, &[])?;
-        assert_eq!(rt; print_to(&rt, &mut w, v, Style::Prin1, &mut out)?, printed);
-        assert_eq!(rt; out.bytes(), text);
+        let mut run = Run::new(&rt, w, &[])?;
+        assert_eq!(rt; run.print(v, Style::Prin1), printed);
+        assert_eq!(rt; run.out.bytes(), text);
     }
     Ok(())
 }
@@ -334,12 +350,9 @@ fn a_failing_write_leaves_a_front(rt: HostRuntime) -> Result<(), Fail> {
     for (call, held) in [(1, 0), (2, 4_096)] {
         let mut w = opening(&rt)?;
         let v = vector(&mut w, 2_500)?;
-        let mut out = MemSink::new(rt.alloc(), 10_000, &[call])?;
-        assert_eq!(rt;
-            print_to(&rt, &mut w, v, Style::Prin1, &mut out)?,
-            Err(Stop::Write)
-        );
-        assert_eq!(rt; out.bytes().len(), held);
+        let mut run = Run::new(&rt, w, &[call])?;
+        assert_eq!(rt; run.print(v, Style::Prin1), Err(Stop::Write));
+        assert_eq!(rt; run.out.bytes().len(), held);
     }
     Ok(())
 }

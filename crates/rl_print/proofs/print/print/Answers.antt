@@ -22,5 +22,6 @@ loop-at-preserved g c = record {
   printing = printing_more c.walk_len-base.result c.args.w.now c.loop-at.w c.step.new.w c.loop-at.invariant.printing c.step.ensures.world;
   base = c.loop-at.invariant.base;
   steady = search rules;
+  same_out = search rules;
   rest = search rules;
 }

@@ -9,6 +9,7 @@ invariant-loop-at g l = record {
   printing : IsPrinting l.base l.fn.w l.w;
   base : l.base ≡ length l.fn.w.levels.walk;
   steady : g.O.Sink.faults l.io.out.now ≡ g.O.Sink.faults l.fn.io.out.now;
+  same_out : l.io.out.ghost_name ≡ l.fn.io.out.ghost_name;
   rest : l.io ≡ record l.fn.io { out = l.io.out };
 }
 

@@ -13,5 +13,6 @@ loop-i-preserved g c = record {
   column = ap (λ (w : World). w.output.column) c.in_default.ensures.world ∙ (ap (λ n. column_with n (get_or c.args.bytes.now c.loop-i.i 0)) c.loop-i.invariant.column ∙ byte_column c.args.w.now.output.column c.args.bytes.now c.loop-i.i c.loop-i-test.true);
   steady = c.in_default.ensures.steady ∙ c.loop-i.invariant.steady;
   world = writes_more c.args.w.now c.loop-i.w c.put_byte.new.self _ c.loop-i.invariant.world c.in_default.ensures.world;
+  same_out = search rules;
   rest = search rules;
 }

@@ -9,5 +9,6 @@ invariant-loop-i g l = record {
   column : l.w.output.column ≡ fold column_with l.fn.w.output.column (take l.i l.bytes);
   steady : g.O.Sink.faults l.io.out.now ≡ g.O.Sink.faults l.fn.io.out.now;
   world : l.w ≡ record l.fn.w { output = record l.fn.w.output { waiting = l.w.output.waiting; column = l.w.output.column } };
+  same_out : l.io.out.ghost_name ≡ l.fn.io.out.ghost_name;
   rest : l.io ≡ record l.fn.io { out = l.io.out };
 }

@@ -20,5 +20,6 @@ loop-b-preserved g c =
       atom = c.in-Some.ensures.atom ∙ c.loop-b.invariant.atom;
       world = writes_more c.args.w.now c.loop-b.w c.put_byte.new.self _ c.loop-b.invariant.world c.in_default-put_byte.ensures.world;
       steady = c.in_default-put_byte.ensures.steady ∙ c.loop-b.invariant.steady;
+      same_out = search rules;
       rest = search rules;
     }

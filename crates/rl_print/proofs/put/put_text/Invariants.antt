@@ -9,6 +9,7 @@ invariant-loop-b g l = record {
   atom : l.left.atom ≡ l.fn.text.atom;
   world : l.w ≡ record l.fn.w { output = record l.fn.w.output { waiting = l.w.output.waiting; column = l.w.output.column } };
   steady : g.O.Sink.faults l.io.out.now ≡ g.O.Sink.faults l.fn.io.out.now;
+  same_out : l.io.out.ghost_name ≡ l.fn.io.out.ghost_name;
   rest : l.io ≡ record l.fn.io { out = l.io.out };
 }
 
