@@ -2,23 +2,21 @@
 use Rattle.std.proofs.Common.{◌≡◌, ℕ, zero, suc, ◌+◌, ◌-◌, Bool, true, false, List, [], ◌∷◌, ◌++◌, length, drop, Option, Some, None, refl, sym, ap, ◌∙◌, append_assoc, arith}
 use Rattle.std.proofs.lemmas.List.{append-nil}
 use Rattle.rl_tags.specs.Tagged.{Tagged}
-use Rattle.rl_cells.specs.Cell.{Store}
 use Rattle.rl_syms.specs.Contents.{value_of}
 use Rattle.rl_tree.specs.Atoms as atoms
-use Rattle.rl_tree.specs.Value.{Value}
-use Rattle.rl_tree.specs.Printing.{Ending, Whole, NoTurn, TooDeep, Progress, Setting, and_then, marked, places_printed, rest_printed, value_printed}
+use Rattle.rl_tree.specs.Printing.{Ending, Whole, NoTurn, TooDeep, Progress, Setting, places_printed, value_printed}
 use Rattle.rl_world.specs.Counts.{Counts, ticked}
 use Rattle.rl_world.specs.Levels.{Levels}
 use Rattle.rl_world.specs.Output.{Output}
-use Rattle.rl_world.specs.Waiting.{Follows, IsCutOff}
+use Rattle.rl_world.specs.Waiting.{Follows}
 use Rattle.rl_world.specs.declared.stop.Stop.{Stop}
 use Rattle.rl_world.specs.declared.world.World.{World}
-use Rattle.rl_print.specs.Counted.{IsStop, IsTicked, last_stop, ticks, turns_left}
-use Rattle.rl_print.specs.Walk.{Advances, Begins, Cuts, Ends, Fails, Goes, Halts, IsNext, IsPrinted, IsPrinting, IsReady, IsSteady, IsWorldOf, Place, Prints, Rest, Places, Shows, ShowsFront, all_printed, closed, continued, element_printed, meaning, levels_left, place_in, place_printed, progress_in, setting_in, shown, stopped, waiting_places, whole, whole_printed}
+use Rattle.rl_print.specs.Counted.{IsStop, IsTicked, last_stop, ticks}
+use Rattle.rl_print.specs.Walk.{Advances, Begins, Cuts, Ends, Fails, Goes, Halts, IsNext, IsPrinted, IsPrinting, IsReady, IsSteady, Place, Prints, Rest, Places, Shows, ShowsFront, all_printed, closed, continued, meaning, levels_left, place_in, place_printed, progress_in, setting_in, shown, stopped, waiting_places, whole, whole_printed}
 use Rattle.rl_print.specs.declared.walk.Piece.{Piece}
 use Rattle.rl_print.specs.declared.walk.State.{State}
 use Rattle.rl_print.specs.declared.walk.State.TheVariants as state
-use Rattle.rl_print.proofs.After.{IsAfter, after_refl, after_trans, and_then_after, marked_after, places_after, rest_after, value_after}
+use Rattle.rl_print.proofs.After.{IsAfter, after_refl, and_then_after, marked_after, places_after, rest_after, value_after}
 use Rattle.rl_print.proofs.Kept.{steady_trans}
 use Rattle.rl_print.proofs.Shown.{Writes, cut_more, follows_more}
 use Rattle.rl_print.proofs.Turns.{whole_after}

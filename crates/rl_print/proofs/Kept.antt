@@ -1,7 +1,7 @@
 -- What printing keeps on the walk.
-use Rattle.std.proofs.Common.{◌≡◌, ◌≢◌, ℕ, suc, ◌+◌, ◌-◌, ◌<◌, ◌≤◌, List, [], ◌∷◌, length, take, drop, map, Some, refl, sym, ap, ◌∙◌, arith}
+use Rattle.std.proofs.Common.{◌≡◌, ◌≢◌, ℕ, suc, ◌+◌, ◌-◌, ◌≤◌, ◌∷◌, length, take, drop, map, Some, refl, sym, ap, ◌∙◌, arith}
 use Rattle.std.specs.List.{AllByRecursion}
-use Rattle.rl_cells.specs.Cell.{Cell, Store}
+use Rattle.rl_cells.specs.Cell.{Store}
 use Rattle.rl_tree.specs.Atoms as atoms
 use Rattle.rl_tree.specs.Printing.{Progress}
 use Rattle.rl_world.specs.Levels.{Levels}

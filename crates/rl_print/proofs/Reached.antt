@@ -1,5 +1,5 @@
 -- Each step of the walk, in a world.
-use Rattle.std.proofs.Common.{◌≡◌, ◌≢◌, ℕ, zero, suc, ◌+◌, ◌-◌, ◌*◌, ◌<◌, ◌≤◌, ◌==◌, Bool, true, false, if◌then◌else◌, List, [], ◌∷◌, ◌++◌, length, map, drop, get_or, Bor, Option, Some, None, refl, sym, ap, ◌∙◌, arith, append_assoc, eqb-true}
+use Rattle.std.proofs.Common.{◌≡◌, ◌≢◌, ℕ, zero, suc, ◌+◌, ◌-◌, ◌*◌, ◌<◌, ◌≤◌, ◌==◌, Bool, true, false, if◌then◌else◌, List, [], ◌∷◌, ◌++◌, length, map, drop, Bor, Option, Some, None, refl, sym, ap, ◌∙◌, arith, append_assoc, eqb-true}
 use Rattle.std.specs.Prelude.{slice_get}
 use Rattle.std.proofs.lemmas.List.{append-nil}
 use Rattle.std.proofs.lemmas.Bool.Decides.{nat_tests}
@@ -7,18 +7,16 @@ use Rattle.std.proofs.lemmas.List.Sums.{fold-append}
 use Rattle.rl_tags.specs.Tagged.{Tagged, Number, IdAt, StrAt, PairAt, VectorAt, BigAt, FunAt, tag_of, word_of}
 use Rattle.rl_tags.specs.declared.Tag.TheVariants as Tag
 use Rattle.rl_cells.specs.Cell.{Cell, Store, car_of, cdr_of, is_live, is_pair, is_vector, vector_of}
-use Rattle.rl_syms.specs.Contents.{value_of, store_of}
+use Rattle.rl_syms.specs.Contents.{value_of}
 use Rattle.rl_syms.specs.Laws.{IsRead}
 use Rattle.rl_syms.specs.Table.{IsTable}
-use Rattle.rl_tree.specs.Value.{Value, Int, Id, Str, Ref, Fun, Object, Pair, Vector}
+use Rattle.rl_tree.specs.Value.{Value, Id, Ref}
 use Rattle.rl_tree.specs.Atoms as atoms
-use Rattle.rl_tree.specs.Printing.{Ending, Whole, NoTurn, TooDeep, Progress, Setting, column_with, marked, with_atom_of, dotted_atom, printed, value_printed}
-use Rattle.rl_world.specs.declared.stop.Stop.{Stop}
-use Rattle.rl_world.specs.declared.stop.Stop.TheVariants as stop
+use Rattle.rl_tree.specs.Printing.{Whole, NoTurn, TooDeep, Progress, Setting, column_with, marked, with_atom_of, dotted_atom, printed, value_printed}
 use Rattle.rl_world.specs.declared.world.World.{World}
 use Rattle.rl_print.specs.AtomText.{is_atom}
-use Rattle.rl_print.specs.Counted.{IsStop, IsTicked, last_stop, turns_left}
-use Rattle.rl_print.specs.Walk.{Advances, Begins, Ends, IsCursor, IsNext, IsReady, IsSteady, IsWorldOf, Place, Rest, Places, all_printed, continued, element_printed, place_printed, levels_left, meaning, place_in, progress_in, setting_in, shown, state_weight, stopped, waiting_places, weight, whole, whole_printed}
+use Rattle.rl_print.specs.Counted.{last_stop, turns_left}
+use Rattle.rl_print.specs.Walk.{Begins, IsCursor, IsReady, IsSteady, IsWorldOf, Place, Rest, Places, all_printed, continued, element_printed, place_printed, levels_left, meaning, place_in, progress_in, setting_in, state_weight, stopped, waiting_places, weight, whole, whole_printed}
 use Rattle.rl_print.specs.declared.walk.Cursor.{Cursor}
 use Rattle.rl_print.specs.declared.walk.Cursor.TheVariants as cursor
 use Rattle.rl_print.specs.declared.walk.Piece.TheVariants as piece

@@ -1,9 +1,9 @@
 -- What comes of one step of the walk.
-use Rattle.std.proofs.Common.{◌≡◌, ◌≢◌, ℕ, zero, suc, ◌+◌, ◌<◌, ◌≤◌, Bool, true, false, if◌then◌else◌, List, [], ◌∷◌, ◌++◌, length, Option, Some, None, refl, sym, ap, ◌∙◌, arith}
+use Rattle.std.proofs.Common.{◌≡◌, ◌≢◌, ℕ, suc, Bool, true, false, if◌then◌else◌, List, [], ◌∷◌, Some, refl, sym, ap, ◌∙◌, arith}
 use Rattle.std.specs.Prelude.{◌==◌, slice_get}
 use Rattle.std.proofs.lemmas.Bool.Decides.{nat_tests}
-use Rattle.rl_tree.specs.Value.{Value, Int, Id, Str, Ref, Fun, Object, Pair, Vector}
-use Rattle.rl_tree.specs.Printing.{Ending, Whole, NoTurn, TooDeep, Progress, Setting, Printer, Job, Element, Listed, marked, with_atom_of, goes_on, and_then, with_turn_of, with_turn, with_level, places_printed, vector_printed, object_printed, value_printed, dotted_atom, rest_object, rest_printed, job_printed, printed}
+use Rattle.rl_tree.specs.Value.{Value, Id, Ref, Object, Pair, Vector}
+use Rattle.rl_tree.specs.Printing.{Ending, Whole, NoTurn, TooDeep, Progress, Setting, marked, with_atom_of, goes_on, and_then, with_turn_of, with_turn, places_printed, object_printed, value_printed, dotted_atom, rest_object, rest_printed, printed}
 use Rattle.rl_print.specs.Walk.{whole, Place, Rest, Places, closed, place_printed, all_printed, element_printed}
 use Rattle.rl_print.proofs.Turns.{whole_element, whole_listed, printed_whole}
 

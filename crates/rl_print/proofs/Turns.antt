@@ -1,10 +1,10 @@
 -- More turns to begin with change nothing where those that are left suffice.
-use Rattle.std.proofs.Common.{◌≡◌, ℕ, zero, suc, ◌+◌, ◌<◌, ◌≤◌, Bool, true, false, if◌then◌else◌, List, [], ◌∷◌, length, Option, Some, None, refl, sym, ap, ◌∙◌, arith}
-use Rattle.std.specs.Prelude.{◌==◌, slice_get}
+use Rattle.std.proofs.Common.{◌≡◌, ℕ, zero, suc, ◌<◌, ◌≤◌, Bool, true, false, if◌then◌else◌, List, [], ◌∷◌, Option, Some, None, refl, ap, ◌∙◌, arith}
+use Rattle.std.specs.Prelude.{slice_get}
 use Rattle.rl_tree.specs.Value.{Value, Int, Id, Str, Ref, Fun, Object, Pair, Vector}
-use Rattle.rl_tree.specs.Printing.{Ending, Whole, NoTurn, TooDeep, Progress, Setting, Printer, Job, Element, Listed, marked, goes_on, and_then, with_turn_of, with_turn, with_level, places_printed, vector_printed, object_printed, value_printed, rest_object, rest_printed, job_printed, printed}
+use Rattle.rl_tree.specs.Printing.{Ending, Whole, NoTurn, TooDeep, Progress, Setting, Printer, Job, Element, Listed, marked, goes_on, and_then, with_turn_of, with_turn, with_level, places_printed, object_printed, value_printed, rest_object, rest_printed, job_printed, printed}
 use Rattle.rl_print.specs.Walk.{whole}
-use Rattle.rl_print.proofs.After.{IsAfter, GoesOn, after_trans, job_after, places_after, value_after}
+use Rattle.rl_print.proofs.After.{GoesOn, job_after, value_after}
 
 -- two printers do the same where fewer than n turns are left
 abbrev pub Agree : Printer → Printer → ℕ → Type 0

@@ -1,5 +1,4 @@
-use Rattle.std.proofs.Common.{◌≡◌, true, refl, sym, ◌∙◌}
-use Rattle.rl_print.specs.AtomText.{is_atom}
+use Rattle.std.proofs.Common.{refl, sym, ◌∙◌}
 use Rattle.rl_print.proofs.Reached.{atom_begun, live_atom, live_vector, vector_begun, world_refl}
 use Rattle.rl_print.proofs.advance.begin.Goals as goal
 

@@ -1,4 +1,4 @@
-use Rattle.std.proofs.Common.{◌≤◌, length, ap, arith}
+use Rattle.std.proofs.Common.{ap, arith}
 use Rattle.rl_world.specs.declared.world.World.{World}
 use Rattle.rl_print.proofs.Kept.{kept_first, left_more, none_means, pop_steady, popped_means, ready_popped}
 use Rattle.rl_print.proofs.advance.pop.Goals as goal

@@ -1,4 +1,4 @@
-use Rattle.std.proofs.Common.{ap, sym}
+use Rattle.std.proofs.Common.{ap}
 use Rattle.rl_world.specs.declared.world.World.{World}
 use Rattle.rl_print.proofs.Kept.{places_pushed, push_steady, ready_pushed}
 use Rattle.rl_print.proofs.advance.push.Goals as goal

@@ -1,6 +1,5 @@
-use Rattle.std.proofs.Common.{◌≡◌, true, false, refl, sym, ap, ◌∙◌, ◌∷◌, [], arith}
+use Rattle.std.proofs.Common.{◌≡◌, true, refl, sym, ap, ◌∙◌, ◌∷◌, [], arith}
 use Rattle.rl_tree.specs.Printing.{dotted_atom, marked}
-use Rattle.rl_tags.specs.Tagged.{IdAt}
 use Rattle.rl_syms.specs.Contents.{value_of}
 use Rattle.rl_print.specs.AtomText.{is_atom}
 use Rattle.rl_world.specs.declared.world.World.{World}

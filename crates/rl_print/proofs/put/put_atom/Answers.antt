@@ -1,6 +1,6 @@
-use Rattle.std.proofs.Common.{◌≡◌, ◌+◌, ◌-◌, ◌^◌, ℕ, List, length, min, ap, ◌∙◌, sym}
+use Rattle.std.proofs.Common.{◌-◌, ◌^◌, ℕ, List, length, min, ap, ◌∙◌, sym}
 use Rattle.rl_print.specs.AtomText.{style_of, text_left}
-use Rattle.rl_print.proofs.Shown.{atom_column, atom_cut, atom_follows, break_cut, writes_trans}
+use Rattle.rl_print.proofs.Shown.{atom_column, atom_cut, atom_follows, break_cut}
 use Rattle.rl_print.proofs.put.put_atom.Goals as goal
 
 pub returns-in-Ok-clause-ok : goal.returns-in-Ok-clause-ok

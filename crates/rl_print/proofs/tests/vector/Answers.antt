@@ -1,7 +1,6 @@
 use Rattle.std.proofs.Common.{refl, ap, replicate}
 use Rattle.rl_tags.specs.Ids.{nil_id}
 use Rattle.rl_cells.specs.Cell.{Store, VectorCell}
-use Rattle.rl_syms.specs.Laws.{IsKept, LeaveBlocks}
 use Rattle.rl_print.proofs.tests.vector.Goals as goal
 
 pub returns-clause-table : goal.returns-clause-table
