@@ -1,11 +1,13 @@
 //! The texts of atoms, and of lists and vectors printed to objects in memory, by PRIN1 and by PRIN2.
-ghost use Rattle.std.specs.Prelude.{◌≡◌, IsTrue, IfOk};
-ghost use Rattle.rl_cells.specs.Cell.{is_live, is_wide};
+ghost use Rattle.std.specs.Prelude.{◌≡◌, ◌<◌, length, IsTrue, IfOk};
+ghost use Rattle.rl_tags.specs.Tagged.{PairAt};
+ghost use Rattle.rl_cells.specs.Cell.{is_live, is_pair, is_wide};
 ghost use Rattle.rl_syms.specs.Table.{IsTable, is_id};
 ghost use Rattle.rl_print.specs.AtomText.{is_atom};
 
 use crate::atom::{AtomText, Style};
 use crate::print::{print1, print2};
+use rl_cells::laws::objects_are_changed;
 use rl_io::{Io, MemFiles, MemSink, MemSource};
 use rl_syms::laws::{others_leave_blocks, table_is_kept};
 use rl_tags::{NIL, Val};
@@ -36,7 +38,7 @@ fn opening(rt: &HostRuntime) -> Result<World, Fail>
 {
     let limits = Limits {
         turns: 0,
-        cells: 0,
+        cells: 10_000,
         nest: 0,
     };
     Ok(World::open(rt.alloc(), limits)?)
@@ -141,12 +143,12 @@ fn integers(rt: HostRuntime) -> Result<(), Fail> {
 fn running(rt: &HostRuntime, turns: u64, nest: u32) -> Result<World, Fail>
     ensures { IfOk result (λ w. IsTable w.cells.cells w.syms.head) }
 {
-    if nest > 10 {
+    if nest > 50_000 {
         return Err(Fail::new("many levels"));
     }
     let limits = Limits {
         turns,
-        cells: 0,
+        cells: 70_000,
         nest,
     };
     let mut w = World::open(rt.alloc(), limits)?;
@@ -161,6 +163,9 @@ fn pair(w: &mut World, car: Val, cdr: Val) -> Result<Val, Fail>
     requires cdr { IsTrue (is_live w.old.cells.cells cdr) }
     ensures table { IfOk result (λ _. IsTable w.new.cells.cells w.new.syms.head) }
     ensures live { IfOk result (λ v. IsTrue (is_live w.new.cells.cells v)) }
+    ensures pair { IfOk result (λ v. IsTrue (is_pair w.new.cells.cells v)) }
+    ensures named { IfOk result (λ v. v ≡ PairAt (length w.old.cells.cells)) }
+    ensures longer { IfOk result (λ _. length w.old.cells.cells < length w.new.cells.cells) }
 {
     table_is_kept();
     others_leave_blocks();
@@ -354,5 +359,63 @@ fn a_failing_write_leaves_a_front(rt: HostRuntime) -> Result<(), Fail> {
         assert_eq!(rt; run.print(v, Style::Prin1), Err(Stop::Write));
         assert_eq!(rt; run.out.bytes().len(), held);
     }
+    Ok(())
+}
+
+/// A list in a list, and so on, of so many pairs.
+fn nest(w: &mut World, pairs: u32) -> Result<Val, Fail>
+    requires table { IsTable w.old.cells.cells w.old.syms.head }
+    ensures table { IfOk result (λ _. IsTable w.new.cells.cells w.new.syms.head) }
+    ensures live { IfOk result (λ v. IsTrue (is_live w.new.cells.cells v)) }
+{
+    let mut inner = NIL;
+    for _ in 0..pairs {
+        inner = pair(w, inner, NIL)?;
+    }
+    Ok(inner)
+}
+
+/// Whether these are all `(`.
+fn are_open(bytes: &[u8]) -> bool {
+    for b in bytes {
+        if *b != b'(' {
+            return false;
+        }
+    }
+    true
+}
+
+#[test]
+fn a_nest_ends_at_the_last_level(rt: HostRuntime) -> Result<(), Fail> {
+    let mut w = running(&rt, 100_000, 50_000)?;
+    let v = nest(&mut w, 60_000)?;
+    let mut run = Run::new(&rt, w, &[])?;
+    assert_eq!(rt; run.print(v, Style::Prin1), Err(Stop::Depth));
+    assert_eq!(rt; run.out.bytes().len(), 50_001);
+    assert!(rt; are_open(run.out.bytes()));
+    Ok(())
+}
+
+/// A pair whose cdr is the pair.
+fn ring(w: &mut World) -> Result<Val, Fail>
+    requires table { IsTable w.old.cells.cells w.old.syms.head }
+    ensures table { IfOk result (λ _. IsTable w.new.cells.cells w.new.syms.head) }
+    ensures live { IfOk result (λ v. IsTrue (is_live w.new.cells.cells v)) }
+{
+    table_is_kept();
+    others_leave_blocks();
+    objects_are_changed();
+    let p = pair(w, Val::small(7), NIL)?;
+    w.cells.set_cdr(p, p);
+    Ok(p)
+}
+
+#[test]
+fn a_ring_takes_all_turns(rt: HostRuntime) -> Result<(), Fail> {
+    let mut w = running(&rt, 5, 0)?;
+    let v = ring(&mut w)?;
+    let mut run = Run::new(&rt, w, &[])?;
+    assert_eq!(rt; run.print(v, Style::Prin1), Err(Stop::Turns));
+    assert_eq!(rt; run.out.bytes(), b"(7 7 7 7 7".as_slice());
     Ok(())
 }
