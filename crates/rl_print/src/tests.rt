@@ -39,7 +39,7 @@ fn opening(rt: &HostRuntime) -> Result<World, Fail>
     let limits = Limits {
         turns: 0,
         cells: 10_000,
-        nest: 0,
+        nest: 10,
     };
     Ok(World::open(rt.alloc(), limits)?)
 }
@@ -208,6 +208,23 @@ fn vector(w: &mut World, places: u32) -> Result<Val, Fail>
     Ok(vector)
 }
 
+/// A string.
+fn string(w: &mut World, bytes: &[u8]) -> Result<Val, Fail>
+    requires table { IsTable w.old.cells.cells w.old.syms.head }
+    ensures table { IfOk result (λ _. IsTable w.new.cells.cells w.new.syms.head) }
+    ensures live { IfOk result (λ v. IsTrue (is_live w.new.cells.cells v)) }
+{
+    if bytes.len() > 1_000 {
+        return Err(Fail::new("a long string"));
+    }
+    table_is_kept();
+    others_leave_blocks();
+    let Ok(string) = w.cells.string(bytes) else {
+        return Err(Fail::new("no room"));
+    };
+    Ok(string)
+}
+
 /// A world with the objects around it.
 #[derive(Drop)]
 struct Run {
@@ -226,7 +243,7 @@ impl Run {
         Ok(Run {
             world,
             input: MemSource::new(rt.alloc(), b"", &[])?,
-            out: MemSink::new(rt.alloc(), 10_000, write_fails)?,
+            out: MemSink::new(rt.alloc(), 60_000, write_fails)?,
             notes: MemSink::new(rt.alloc(), 0, &[])?,
             files: MemFiles::new(rt.alloc(), 0, &[])?,
         })
@@ -236,6 +253,7 @@ impl Run {
     fn print(&mut self, v: Val, style: Style) -> Result<(), Stop>
         requires table { IsTable self.old.world.cells.cells self.old.world.syms.head }
         requires live { IsTrue (is_live self.old.world.cells.cells v) }
+        ensures table { IsTable self.new.world.cells.cells self.new.world.syms.head }
     {
         let io = &mut Io {
             input: &mut self.input,
@@ -417,5 +435,17 @@ fn a_ring_takes_all_turns(rt: HostRuntime) -> Result<(), Fail> {
     let mut run = Run::new(&rt, w, &[])?;
     assert_eq!(rt; run.print(v, Style::Prin1), Err(Stop::Turns));
     assert_eq!(rt; run.out.bytes(), b"(7 7 7 7 7".as_slice());
+    Ok(())
+}
+
+#[test]
+fn a_line_of_79_and_two_more(rt: HostRuntime) -> Result<(), Fail> {
+    let mut run = Run::new(&rt, opening(&rt)?, &[])?;
+    let long = string(&mut run.world, &[b'x'; 79])?;
+    assert_eq!(rt; run.print(long, Style::Prin2), Ok(()));
+    let short = string(&mut run.world, b"yy")?;
+    assert_eq!(rt; run.print(short, Style::Prin2), Ok(()));
+    assert_eq!(rt; run.out.bytes().len(), 82);
+    assert!(rt; run.out.bytes().ends_with(b"x\nyy"));
     Ok(())
 }
