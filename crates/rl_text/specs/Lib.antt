@@ -1,0 +1,11 @@
+pub mod Datum
+pub mod Byte
+pub mod Word
+pub mod Gap
+pub mod Spelling
+pub mod Refusal
+pub mod Maker
+pub mod Reader
+pub mod Reading
+pub mod Laws
+pub mod Alike
