@@ -16,6 +16,7 @@ use Rattle.rl_text.proofs.CompleteWords.{word_read}
 abbrev after_mark : Mark → List ℕ → Frames → PlainOutcome
 after_mark mark bs fs = after_step (mark_byte mark) bs (at_mark plain mark fs tt) (λ mode fs s. read_from plain mode fs s bs)
 
+-- the byte of a mark is of the class of this mark
 mark_class : (mark : Mark) → class_of (mark_byte mark) ≡ Marks mark
 mark_class Open = refl
 mark_class Close = refl
@@ -28,6 +29,7 @@ mark_class CloseVector = refl
 front_read : (token : Token) (bytes rest : List ℕ) (fs : Frames) → IsFront token bytes rest → from Gap fs bytes ≡ from Gap fs (token_text token ++ rest)
 front_read token bytes rest fs front = ap (λ bytes. from Gap fs bytes) front.is ∙ gap_skipped fs front.gap (token_text token ++ rest) front.is_gap
 
+-- a gap and a mark are read by what the mark does
 mark_read : (mark : Mark) (bytes rest : List ℕ) (fs : Frames) → IsFront (Sign mark) bytes rest → from Gap fs bytes ≡ after_mark mark rest fs
 mark_read mark bytes rest fs front = front_read (Sign mark) bytes rest fs front ∙ by_class (mark_byte mark) rest fs (Marks mark) (mark_class mark)
 
@@ -35,6 +37,7 @@ mark_read mark bytes rest fs front = front_read (Sign mark) bytes rest fs front 
 begun : (frame : Frame Items) (fs : Frames) → begins plain frame fs tt ≡ Goes Gap (frame ∷ fs) tt
 begun frame fs = cond_both (is_inner fs) _ _ (λ taken. taken ≡ Goes Gap (frame ∷ fs) tt) (λ e. refl) (λ e. refl)
 
+-- a gap and `'` are read
 quote_read : (bytes rest : List ℕ) (fs : Frames) → admits fs ≡ true → IsFront (Sign Quote) bytes rest → from Gap fs bytes ≡ from Gap (Quoting ∷ fs) rest
 quote_read bytes rest fs free front =
     mark_read Quote bytes rest fs front
@@ -44,11 +47,13 @@ quote_read bytes rest fs free front =
 abbrev items : List Datum → Items
 items es = record { elements = es; tail = nil }
 
+-- a gap and `[` are read
 vector_opened : (bytes rest : List ℕ) (fs : Frames) → admits fs ≡ true → IsFront (Sign OpenVector) bytes rest → from Gap fs bytes ≡ from Gap (Vectoring (items []) ∷ fs) rest
 vector_opened bytes rest fs free front =
     mark_read OpenVector bytes rest fs front
     ∙ ap (λ taken. after_step 91 rest taken (λ mode fs s. read_from plain mode fs s rest)) (cond-true (admits fs) _ _ free ∙ begun (Vectoring (items [])) fs)
 
+-- a gap and `]` are read, and the vector ends
 vector_closed : (es : List Datum) (bytes rest : List ℕ) (fs : Frames) → IsFront (Sign CloseVector) bytes rest → from Gap (Vectoring (items es) ∷ fs) bytes ≡ after_value (Vector (elements es)) fs rest
 vector_closed es bytes rest fs front = mark_read CloseVector bytes rest (Vectoring (items es) ∷ fs) front ∙ ended_after (ending (Vector (elements es)) fs) 93 rest
 
@@ -68,14 +73,17 @@ record Opening (fs : Frames) : Type 0 where
   ends : (t : Datum) (rest : List ℕ) → after_list list.elements t closers frames rest ≡ after_value t fs rest
   empty : (bytes rest : List ℕ) → IsFront (Sign Close) bytes rest → from Gap (Listing list closers Begun ∷ frames) bytes ≡ after_value nil fs rest
 
+-- a gap and `)` behind elements are read
 list_closed : (es : List Datum) (n : ℕ) (bytes rest : List ℕ) (fs : Frames) → IsFront (Sign Close) bytes rest → from Gap (Listing (items es) n Going ∷ fs) bytes ≡ after_list es nil n fs rest
 list_closed es zero bytes rest fs front = mark_read Close bytes rest (Listing (items es) zero Going ∷ fs) front ∙ ended_after (ending (listed es nil) fs) 41 rest
 list_closed es (suc n) bytes rest fs front = mark_read Close bytes rest (Listing (items es) (suc n) Going ∷ fs) front
 
+-- a gap and `)` are read behind what stands behind a dot
 tail_closed : (es : List Datum) (t : Datum) (n : ℕ) (bytes rest : List ℕ) (fs : Frames) → IsFront (Sign Close) bytes rest → from Gap (Listing (record { elements = []; tail = listed es t }) n Shut ∷ fs) bytes ≡ after_list es t n fs rest
 tail_closed es t zero bytes rest fs front = mark_read Close bytes rest (Listing (record { elements = []; tail = listed es t }) zero Shut ∷ fs) front ∙ ended_after (ending (listed es t) fs) 41 rest
 tail_closed es t (suc n) bytes rest fs front = mark_read Close bytes rest (Listing (record { elements = []; tail = listed es t }) (suc n) Shut ∷ fs) front
 
+-- a list that stands behind no dot is one of its own
 own_list : (fs : Frames) → admits fs ≡ true → open_list plain fs tt ≡ begins plain (Listing (items []) 0 Begun) fs tt → Opening fs
 own_list fs free own = record {
     list = items [];
@@ -86,6 +94,7 @@ own_list fs free own = record {
     empty = λ bytes rest front. mark_read Close bytes rest (Listing (items []) 0 Begun ∷ fs) front ∙ ended_after (ending nil fs) 41 rest;
   }
 
+-- a list may open where a spelling may stand
 opening : (fs : Frames) → admits fs ≡ true → Opening fs
 opening (Listing l n Phase.Dotted ∷ fs) free = record {
     list = l;
@@ -98,11 +107,12 @@ opening (Listing l n Phase.Dotted ∷ fs) free = record {
 opening (Listing l n Shut ∷ fs) free = absurd cc
 opening fs free = own_list fs free refl
 
+-- one more element comes before what stands behind the list
 listed_more : (es : List Datum) (e t : Datum) → listed (es ++ e ∷ []) t ≡ listed es (Pair e t)
 listed_more [] e t = refl
 listed_more (d ∷ es) e t = ap (λ t. Pair d t) (listed_more es e t)
 
--- one more element comes before what stands behind it
+-- reading goes on the same with the last element or with what stands behind it
 list_more : (es : List Datum) (e t : Datum) (n : ℕ) (fs : Frames) (rest : List ℕ) → after_list (es ++ e ∷ []) t n fs rest ≡ after_list es (Pair e t) n fs rest
 list_more es e t zero fs rest = ap (λ v. after_value v fs rest) (listed_more es e t)
 list_more es e t (suc n) fs rest = ap (λ v. from Gap (Listing (record { elements = []; tail = v }) n Shut ∷ fs) rest) (listed_more es e t)
@@ -114,10 +124,12 @@ abbrev placed : List Datum → Elements → Elements
 placed [] more = more
 placed (e ∷ es) more = Element e (placed es more)
 
+-- no elements follow those of a whole vector
 placed_none : (es : List Datum) → elements es ≡ placed es NoElements
 placed_none [] = refl
 placed_none (e ∷ es) = ap (λ more. Element e more) (placed_none es)
 
+-- one more element comes before those that follow
 placed_more : (es : List Datum) (e : Datum) (more : Elements) → placed (es ++ e ∷ []) more ≡ placed es (Element e more)
 placed_more [] e more = refl
 placed_more (d ∷ es) e more = ap (λ more. Element d more) (placed_more es e more)

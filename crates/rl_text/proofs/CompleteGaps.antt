@@ -9,16 +9,19 @@ use Rattle.rl_text.specs.Reader.{Dotted, Frame, Listing, Vectoring, Quoting, Mod
 use Rattle.rl_text.specs.Reading.{Items, plain}
 use Rattle.rl_text.proofs.Classes.{blank_class}
 
--- what has begun, and what is read, where data are made
+-- what has begun where data are made
 abbrev pub Frames : Type 0
 Frames = List (Frame Items)
 
+-- how an element ends where data are made
 abbrev pub PlainEnded : Type 0
 PlainEnded = Ended (Unit {0}) Datum Items ⊥
 
+-- what is read where data are made
 abbrev pub PlainOutcome : Type 0
 PlainOutcome = Outcome (Unit {0}) Datum ⊥
 
+-- reading goes on with these bytes
 abbrev pub from : Mode → Frames → List ℕ → PlainOutcome
 from mode fs bytes = read_from plain mode fs tt bytes
 
@@ -28,9 +31,11 @@ after_ended (Whole v s) rest = Read v s rest
 after_ended (Inside fs s) rest = read_from plain Gap fs s rest
 after_ended (Lacks w s) rest = Stopped w s rest
 
+-- how an element ends with this datum
 abbrev pub ending : Datum → Frames → PlainEnded
 ending v fs = value_ended plain v fs tt
 
+-- reading goes on behind an element that is this datum
 abbrev pub after_value : Datum → Frames → List ℕ → PlainOutcome
 after_value v fs rest = after_ended (ending v fs) rest
 
@@ -60,14 +65,16 @@ ended_at_end v (Listing l n phase ∷ fs) = refl
 abbrev pub after_class : Class → ℕ → List ℕ → Frames → PlainOutcome
 after_class c b bs fs = after_step b bs (at_class plain c b fs tt) (λ mode fs s. read_from plain mode fs s bs)
 
+-- a byte between spellings is read by its class
 pub by_class : (b : ℕ) (bs : List ℕ) (fs : Frames) (c : Class) → class_of b ≡ c → from Gap fs (b ∷ bs) ≡ after_class c b bs fs
 by_class b bs fs c e = ap (λ c. after_class c b bs fs) e
 
+-- `%` is of the class of what begins a comment
 percent_class : (b : ℕ) → (b == 37) ≡ true → class_of b ≡ Percent
 percent_class b e = rw (eqb-true b 37 e) refl
 
--- blanks and comments are skipped
 mutual
+  -- blanks and whole comments are skipped
   pub gap_skipped : (fs : Frames) (gap rest : List ℕ) → comment_after false gap ≡ Some false → from Gap fs (gap ++ rest) ≡ from Gap fs rest
   gap_skipped fs [] rest e = refl
   gap_skipped fs (b ∷ bs) rest e = elim (cases_Bool (is_blank b)) [
@@ -78,6 +85,7 @@ mutual
       ]
     ]
 
+  -- the rest of a comment and what follows it are skipped
   comment_skipped : (fs : Frames) (gap rest : List ℕ) → comment_after true gap ≡ Some false → from Comment fs (gap ++ rest) ≡ from Gap fs rest
   comment_skipped fs [] rest e = absurd cc
   comment_skipped fs (b ∷ bs) rest e = elim (cases_Bool (b == 10)) [
