@@ -1,6 +1,6 @@
 -- What the class of a byte says of the byte.
-use Rattle.std.proofs.Common.{◌≡◌, ℕ, Bool, true, false, ◌||◌, ◌==◌, if◌then◌else◌, refl, inl, inr, eqb-true}
-use Rattle.std.proofs.lemmas.Bool.{cond_both, cond-true, cond-false, or_cases, or_from}
+use Rattle.std.proofs.Common.{◌≡◌, ℕ, true, false, ◌==◌, refl, inl, inr, eqb-true}
+use Rattle.std.proofs.lemmas.Bool.{cond_both, cond-true, or_cases}
 use Rattle.rl_tree.specs.Bytes.{is_blank, is_digit, is_letter}
 use Rattle.rl_text.specs.Byte.{Class, Blank, Percent, Marks, Text, Escape, Letter, Digit, Sign, Special, Nothing, Open, Close, Dot, Quote, OpenVector, CloseVector, mark_byte, is_sign, is_special, class_of}
 
