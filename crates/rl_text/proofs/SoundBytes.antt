@@ -1,13 +1,9 @@
 -- What bytes may still come after what has begun, in each mode; and what is so of them where reading goes on, after a byte of a gap.
-use Rattle.std.proofs.Common.{◌≡◌, ℕ, zero, suc, ◌+◌, ◌-◌, ◌*◌, ◌^◌, ◌<◌, ◌≤◌, Bool, true, false, ◌==◌, if◌then◌else◌, List, [], ◌∷◌, ◌++◌, length, map, Some, refl, sym, ap, ◌∙◌, subst, append_assoc, arith}
-use Rattle.std.specs.List.{list_all, flat_map}
-use Rattle.std.proofs.lemmas.List.{append-nil}
+use Rattle.std.proofs.Common.{◌≡◌, ℕ, zero, suc, ◌<◌, ◌≤◌, Bool, true, false, if◌then◌else◌, List, [], ◌∷◌, ◌++◌, length, map, Some, refl, ap}
 use Rattle.std.proofs.lemmas.Bool.{cond_both}
-use Rattle.rl_tree.specs.Bytes.{is_blank, is_letter, is_digit, raised}
 use Rattle.rl_tree.specs.Token.{number_of}
 use Rattle.rl_tree.specs.Atoms.{doubled}
-use Rattle.rl_text.specs.Byte.{Mark, Open, Close, Dot, Quote, OpenVector, CloseVector, mark_byte, Class, Blank, Percent, Marks, Text, Escape, Letter, Digit, Special, Nothing, is_sign, class_of}
-use Rattle.rl_text.specs.Byte as byte
+use Rattle.rl_text.specs.Byte.{Mark, Open, Close, Dot, Quote, OpenVector, CloseVector, mark_byte, is_sign}
 use Rattle.rl_text.specs.Word.{Character, Plain, Escaped, Sign, Unsigned, Word, Number, Named, Single, character_text, sign_text, word_text, is_minus, character_of, Identifier, atom_of, datum_of_atom, IsNumber, is_name, IsWord}
 use Rattle.rl_text.specs.Word as word
 use Rattle.rl_text.specs.Datum.{Datum, quoted}
@@ -16,9 +12,8 @@ use Rattle.rl_text.specs.Spelling.{Atom, Token, Spelled, token_text, IsToken, En
 use Rattle.rl_text.specs.Spelling as spelling
 use Rattle.rl_text.specs.Reader.{Begun, Going, Shut, Frame, Listing, Vectoring, Quoting, Mode, Gap, Comment, InName, InEscape, AfterSign, InNumber, InText, AfterQuote, is_inner, admits, Ended, Whole, Inside, Lacks, left, value_ended, Step, Goes, Done, Refuses, Halts, goes_after, begins, open_list, close_list, dot, close_vector, at_mark, in_word, at_class, atom_ended, goes_before, atom_before}
 use Rattle.rl_text.specs.Reader as reader
-use Rattle.rl_text.specs.Reading.{Items, listed_items, plain}
-use Rattle.rl_text.proofs.Classed.{IsOf, class_says}
-use Rattle.rl_text.proofs.SoundComing.{After, Awaited, element_awaited, open_awaited, open_awaited_behind, dot_awaited, vector_awaited, quote_awaited, close_vector_awaited, close_awaited, close_shut_awaited, close_inner_awaited}
+use Rattle.rl_text.specs.Reading.{Items, plain}
+use Rattle.rl_text.proofs.SoundComing.{After, Awaited, open_awaited, open_awaited_behind, dot_awaited, vector_awaited, quote_awaited, close_vector_awaited, close_awaited, close_shut_awaited, close_inner_awaited}
 
 -- ---- what bytes may come
 
@@ -93,12 +88,12 @@ pub comes_tokens : (d : Datum) (rest : List ℕ) (fs : List (Frame Items)) (byte
 comes_tokens d rest fs bytes c = (c.token ∷ c.tokens, (c.after, record { gap = c.gap; is_gap = c.is_gap; is = c.is; token_is = c.token_is; ends = c.ends }, c.more), c.awaited)
 
 -- an element ends with this byte
-ended_after : (d : Datum) (rest : List ℕ) (b : ℕ) (bs : List ℕ) (e : Ended (Unit {0}) Datum Items ⊥) → Follows d rest b bs (goes_after e) → TokensWith (Leaves d e) rest bs
+pub ended_after : (d : Datum) (rest : List ℕ) (b : ℕ) (bs : List ℕ) (e : Ended (Unit {0}) Datum Items ⊥) → Follows d rest b bs (goes_after e) → TokensWith (Leaves d e) rest bs
 ended_after d rest b bs (Whole v s) f = ([], f.1, (refl, f.0))
 ended_after d rest b bs (Inside fs s) f = comes_tokens d rest fs bs f
 ended_after d rest b bs (Lacks w s) f = absurd f
 
-tokens_mapped : (P Q : List Token → Type 0) (rest bytes : List ℕ) → ((tokens : List Token) → P tokens → Q tokens) → TokensWith P rest bytes → TokensWith Q rest bytes
+pub tokens_mapped : (P Q : List Token → Type 0) (rest bytes : List ℕ) → ((tokens : List Token) → P tokens → Q tokens) → TokensWith P rest bytes → TokensWith Q rest bytes
 tokens_mapped P Q rest bytes f t = (t.0, t.1, f t.0 t.2)
 
 -- ---- marks
@@ -129,7 +124,7 @@ begun_comes d rest b bs frame fs s =
     (λ e f. comes_tokens d rest (frame ∷ fs) bs f) (λ e f. comes_tokens d rest (frame ∷ fs) bs f)
 
 -- what needs a place has one
-admitted_follows : (d : Datum) (rest : List ℕ) (b : ℕ) (bs : List ℕ) (fs : List (Frame Items)) (st : Step (Unit {0}) Datum Items ⊥) (s : Unit {0}) → Follows d rest b bs (if admits fs then st else Refuses s) → (admits fs ≡ true) × Follows d rest b bs st
+pub admitted_follows : (d : Datum) (rest : List ℕ) (b : ℕ) (bs : List ℕ) (fs : List (Frame Items)) (st : Step (Unit {0}) Datum Items ⊥) (s : Unit {0}) → Follows d rest b bs (if admits fs then st else Refuses s) → (admits fs ≡ true) × Follows d rest b bs st
 admitted_follows d rest b bs fs st s =
     cond_both (admits fs) st (Refuses s) (λ x. Follows d rest b bs x → (admits fs ≡ true) × Follows d rest b bs st) (λ e f. (e, f)) (λ e f. absurd f)
 
@@ -164,7 +159,7 @@ close_comes d rest b bs (Listing l (suc n) Going ∷ fs) s is f =
     mark_comes d rest b bs _ Close _ is (λ tokens e. close_inner_awaited d fs l n Going tokens (λ e. cc) (λ e. cc) e) (comes_tokens d rest _ bs f)
 close_comes d rest b bs _ s is f = absurd f
 
-mark_step : (d : Datum) (rest : List ℕ) (b : ℕ) (bs : List ℕ) (mark : Mark) (fs : List (Frame Items)) (s : Unit {0}) → b ≡ mark_byte mark → Follows d rest b bs (at_mark plain mark fs s) → Comes d rest false fs (b ∷ bs)
+pub mark_step : (d : Datum) (rest : List ℕ) (b : ℕ) (bs : List ℕ) (mark : Mark) (fs : List (Frame Items)) (s : Unit {0}) → b ≡ mark_byte mark → Follows d rest b bs (at_mark plain mark fs s) → Comes d rest false fs (b ∷ bs)
 mark_step d rest b bs Close fs s is f = close_comes d rest b bs fs s is f
 mark_step d rest b bs CloseVector fs s is f = close_vector_comes d rest b bs fs s is f
 mark_step d rest b bs Dot fs s is f = dot_comes d rest b bs fs s is f
