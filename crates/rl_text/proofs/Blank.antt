@@ -27,12 +27,12 @@ QuietStep bs (Done v used s) = ⊥
 QuietStep bs (Refuses s) = ⊥
 QuietStep bs (Halts w s) = ⊥
 
--- an element that has ended, in nothing or in something
+-- an element has ended inside something, or with the text
 abbrev IsLoud : Ended (Unit {0}) Datum Items ⊥ → Type 0
 IsLoud (Inside [] s) = ⊥
 IsLoud _ = Unit {0}
 
--- where an element has ended, something has begun, or the text has ended
+-- each element ends so
 ended_is_loud : (fs : List (Frame Items)) (v : Datum) (s : Unit {0}) → IsLoud (value_ended plain v fs s)
 ended_is_loud [] v s = tt
 ended_is_loud (Quoting ∷ fs) v s = ended_is_loud fs (quoted v) (left plain fs s)
@@ -42,23 +42,27 @@ ended_is_loud (Listing l n Begun ∷ fs) v s = tt
 ended_is_loud (Listing l n Going ∷ fs) v s = tt
 ended_is_loud (Listing l n Shut ∷ fs) v s = tt
 
+-- no silence follows an element that ends with its byte
 after_loud : (bs : List ℕ) (e : Ended (Unit {0}) Datum Items ⊥) → IsLoud e → QuietStep bs (goes_after e) → ⊥
 after_loud bs (Whole v s) loud q = q
 after_loud bs (Inside [] s) loud q = loud
 after_loud bs (Inside (f ∷ fs) s) loud q = q
 after_loud bs (Lacks w s) loud q = q
 
--- no step leads to silence where it leads to none on either side
+-- no silence follows a test where none follows on either side
 if_loud : (bs : List ℕ) (c : Bool) (x y : Step (Unit {0}) Datum Items ⊥) → (QuietStep bs x → ⊥) → (QuietStep bs y → ⊥) → QuietStep bs (if c then x else y) → ⊥
 if_loud bs c x y p q = cond_both c x y (λ st. QuietStep bs st → ⊥) (λ e. p) (λ e. q)
 
+-- nor a list, a vector or a quote that begins
 begins_loud : (bs : List ℕ) (frame : Frame Items) (fs : List (Frame Items)) (s : Unit {0}) → QuietStep bs (begins plain frame fs s) → ⊥
 begins_loud bs frame fs s = if_loud bs (is_inner fs) (Goes Gap (frame ∷ fs) s) (Goes Gap (frame ∷ fs) s) (λ q. q) (λ q. q)
 
+-- nor `(`
 open_loud : (bs : List ℕ) (fs : List (Frame Items)) (s : Unit {0}) → QuietStep bs (open_list plain fs s) → ⊥
 open_loud bs (Listing l n Dotted ∷ fs) s q = q
 open_loud bs fs s q = begins_loud bs (Listing plain.empty 0 Begun) fs s q
 
+-- nor `)`
 close_loud : (bs : List ℕ) (fs : List (Frame Items)) (s : Unit {0}) → QuietStep bs (close_list plain fs s) → ⊥
 close_loud bs (Listing l zero Begun ∷ fs) s q = after_loud bs _ (ended_is_loud fs _ _) q
 close_loud bs (Listing l zero Going ∷ fs) s q = after_loud bs _ (ended_is_loud fs _ _) q
@@ -68,14 +72,17 @@ close_loud bs (Listing l (suc n) Going ∷ fs) s q = q
 close_loud bs (Listing l (suc n) Shut ∷ fs) s q = q
 close_loud bs _ s q = q
 
+-- nor `]`
 close_vector_loud : (bs : List ℕ) (fs : List (Frame Items)) (s : Unit {0}) → QuietStep bs (close_vector plain fs s) → ⊥
 close_vector_loud bs (Vectoring l ∷ fs) s q = after_loud bs _ (ended_is_loud fs _ _) q
 close_vector_loud bs _ s q = q
 
+-- nor `.`
 dot_loud : (bs : List ℕ) (fs : List (Frame Items)) (s : Unit {0}) → QuietStep bs (dot plain fs s) → ⊥
 dot_loud bs (Listing l n Going ∷ fs) s q = q
 dot_loud bs _ s q = q
 
+-- nor any mark
 mark_loud : (bs : List ℕ) (mark : Mark) (fs : List (Frame Items)) (s : Unit {0}) → QuietStep bs (at_mark plain mark fs s) → ⊥
 mark_loud bs Close fs s = close_loud bs fs s
 mark_loud bs CloseVector fs s = close_vector_loud bs fs s
@@ -110,6 +117,7 @@ loud_class byte.Sign b bs f fs s q = if_loud bs (admits (f ∷ fs)) _ _ (λ q. q
 loud_class Special b bs f fs s q = if_loud bs (admits (f ∷ fs)) _ _ (after_loud bs _ (ended_is_loud (f ∷ fs) _ _)) (λ q. q) q
 loud_class Nothing b bs f fs s q = q
 
+-- no silence follows an element that ends before its byte
 before_loud : (b : ℕ) (bs : List ℕ) (e : Ended (Unit {0}) Datum Items ⊥) → IsLoud e → QuietStep bs (goes_before plain b e) → ⊥
 before_loud b bs (Whole v s) loud q = q
 before_loud b bs (Inside [] s) loud q = loud
@@ -120,9 +128,11 @@ before_loud b bs (Lacks w s) loud q = q
 atom_loud : (a : Atom) (b : ℕ) (bs : List ℕ) (fs : List (Frame Items)) (s : Unit {0}) → QuietStep bs (atom_before plain a b fs s) → ⊥
 atom_loud a b bs fs s = before_loud b bs (atom_ended plain a fs s) (ended_is_loud fs (datum_of_atom a) s)
 
+-- nor a name or a string that goes on
 grown_loud : (bs : List ℕ) (most : ℕ) (cs ds : List ℕ) (mode : List ℕ → Mode) (fs : List (Frame Items)) (s : Unit {0}) → (Quiet (mode ds) fs bs → ⊥) → QuietStep bs (grown_to most cs (mode ds) fs s) → ⊥
 grown_loud bs most cs ds mode fs s loud = if_loud bs (nat_lt (length cs) most) (Goes (mode ds) fs s) (Refuses s) loud (λ q. q)
 
+-- nor a number that goes on
 number_loud : (bs : List ℕ) (minus : Bool) (n : ℕ) (fs : List (Frame Items)) (s : Unit {0}) → QuietStep bs (in_number minus n fs s) → ⊥
 number_loud bs minus n fs s = if_loud bs (if minus then nat_le n (2 ^ 59) else nat_lt n (2 ^ 59)) (Goes (InNumber minus n) fs s) (Refuses s) (λ q. q) (λ q. q)
 
@@ -150,6 +160,7 @@ no_end (Whole v s) t e = cc
 no_end (Inside fs s) t e = cc
 no_end (Lacks w s) t e = w
 
+-- the end of the text, where nothing is read
 quiet_end : (mode : Mode) (fs : List (Frame Items)) (s t : Unit {0}) → at_end plain mode fs s ≡ NoneLeft t → Quiet mode fs []
 quiet_end Gap [] s t e = refl
 quiet_end Gap (f ∷ fs) s t e = cc
@@ -162,6 +173,7 @@ quiet_end (InNumber minus n) fs s t e = no_end (atom_ended plain (Integer (signe
 quiet_end (InText cs) fs s t e = cc
 quiet_end (AfterQuote cs) fs s t e = no_end (atom_ended plain (String cs) fs s) t e
 
+-- where nothing is read after a step, the step is such
 step_is_quiet : (t : Unit {0}) (b : ℕ) (bs : List ℕ) → ((mode : Mode) (fs : List (Frame Items)) (s : Unit {0}) → read_from plain mode fs s bs ≡ NoneLeft t → Quiet mode fs bs) → (st : Step (Unit {0}) Datum Items ⊥) → after_step b bs st (λ mode fs s. read_from plain mode fs s bs) ≡ NoneLeft t → QuietStep bs st
 step_is_quiet t b bs further (Goes mode fs s) e = further mode fs s e
 step_is_quiet t b bs further (Done v used s) e = cc
@@ -173,6 +185,7 @@ none_left : (t : Unit {0}) (bytes : List ℕ) (mode : Mode) (fs : List (Frame It
 none_left t [] mode fs s e = quiet_end mode fs s t e
 none_left t (b ∷ bs) mode fs s e = quiet_step mode b bs fs s (step_is_quiet t b bs (none_left t bs) (step plain mode b fs s) e)
 
+-- where no text is found, nothing was left
 no_text : (bytes : List ℕ) (o : Outcome (Unit {0}) Datum ⊥) → reading_of bytes o ≡ NoText → o ≡ NoneLeft tt
 no_text bytes (Read v s rest) e = absurd cc
 no_text bytes (NoneLeft s) e = refl

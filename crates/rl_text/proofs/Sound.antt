@@ -41,6 +41,7 @@ ended_at_end d rest t (Whole v s) is = ([], (cc), (refl, (cc)))
 ended_at_end d rest t (Inside fs s) is = absurd cc
 ended_at_end d rest t (Lacks w s) is = absurd w
 
+-- a word ends with the text
 word_at_end : (d : Datum) (rest first : List ℕ) (fs : List (Frame Items)) (s t : Unit {0}) (w : Word) → word_text w ≡ first → IsWord w → ends_after (atom_ended plain (atom_of w) fs s) ≡ Read d t rest → WordGoes d rest first fs []
 word_at_end d rest first fs s t w is word_is e =
     word_ends d rest first fs [] w is word_is tt
@@ -51,6 +52,7 @@ no_gap_at_end : (d : Datum) (rest : List ℕ) (fs : List (Frame Items)) (s t : U
 no_gap_at_end d rest [] s t P e = absurd cc
 no_gap_at_end d rest (f ∷ fs) s t P e = absurd cc
 
+-- where something is read at the end of the text, the text may end so
 end_step : (d : Datum) (rest : List ℕ) (mode : Mode) (fs : List (Frame Items)) (s t : Unit {0}) → at_end plain mode fs s ≡ Read d t rest → Lexes d rest mode fs []
 end_step d rest Gap fs s t e = no_gap_at_end d rest fs s t _ e
 end_step d rest Comment fs s t e = no_gap_at_end d rest fs s t _ e
@@ -86,6 +88,7 @@ read_is_spelled bytes datum rest e =
       is = t.2.2;
     }
 
+-- what is found was read
 read_found : (bytes : List ℕ) (datum : Datum) (rest : List ℕ) (o : Outcome (Unit {0}) Datum ⊥) → reading_of bytes o ≡ Found datum rest → o ≡ Read datum tt rest
 read_found bytes datum rest (Read v s more) e = let v_is : v ≡ datum = cc in let more_is : more ≡ rest = cc in rw (v_is, more_is) refl
 read_found bytes datum rest (NoneLeft s) e = absurd cc

@@ -1,4 +1,4 @@
--- What bytes may still come after what has begun, in each mode; and what is so of them where reading goes on, after a byte of a gap.
+-- What bytes may still come after what has begun, in each mode; and that a mark goes before what may come after it.
 use Rattle.std.proofs.Common.{◌≡◌, ℕ, zero, suc, ◌<◌, ◌≤◌, Bool, true, false, if◌then◌else◌, List, [], ◌∷◌, ◌++◌, length, map, Some, refl, ap}
 use Rattle.std.proofs.lemmas.Bool.{cond_both}
 use Rattle.rl_tree.specs.Token.{number_of}
@@ -84,6 +84,7 @@ after_value d (Listing l n Begun ∷ fs) v s tokens e = e refl
 after_value d (Listing l n Going ∷ fs) v s tokens e = e refl
 after_value d (Listing l n Shut ∷ fs) v s tokens e = e refl
 
+-- what comes at a gap is tokens
 pub comes_tokens : (d : Datum) (rest : List ℕ) (fs : List (Frame Items)) (bytes : List ℕ) → Comes d rest false fs bytes → TokensWith (Awaited d fs) rest bytes
 comes_tokens d rest fs bytes c = (c.token ∷ c.tokens, (c.after, record { gap = c.gap; is_gap = c.is_gap; is = c.is; token_is = c.token_is; ends = c.ends }, c.more), c.awaited)
 
@@ -93,11 +94,13 @@ ended_after d rest b bs (Whole v s) f = ([], f.1, (refl, f.0))
 ended_after d rest b bs (Inside fs s) f = comes_tokens d rest fs bs f
 ended_after d rest b bs (Lacks w s) f = absurd f
 
+-- tokens of which P holds are tokens of which Q does, where P says so
 pub tokens_mapped : (P Q : List Token → Type 0) (rest bytes : List ℕ) → ((tokens : List Token) → P tokens → Q tokens) → TokensWith P rest bytes → TokensWith Q rest bytes
 tokens_mapped P Q rest bytes f t = (t.0, t.1, f t.0 t.2)
 
 -- ---- marks
 
+-- a mark ends before anything
 mark_ends : (mark : Mark) (bytes : List ℕ) → EndsBefore (spelling.Sign mark) bytes
 mark_ends mark [] = tt
 mark_ends mark (b ∷ bs) = refl
@@ -128,22 +131,26 @@ pub admitted_follows : (d : Datum) (rest : List ℕ) (b : ℕ) (bs : List ℕ) (
 admitted_follows d rest b bs fs st s =
     cond_both (admits fs) st (Refuses s) (λ x. Follows d rest b bs x → (admits fs ≡ true) × Follows d rest b bs st) (λ e f. (e, f)) (λ e f. absurd f)
 
+-- a byte `(`
 open_comes : (d : Datum) (rest : List ℕ) (b : ℕ) (bs : List ℕ) (fs : List (Frame Items)) (s : Unit {0}) → b ≡ 40 → admits fs ≡ true → Follows d rest b bs (open_list plain fs s) → Comes d rest false fs (b ∷ bs)
 open_comes d rest b bs (Listing l n reader.Dotted ∷ fs) s is admitted f =
     mark_comes d rest b bs (Listing l n reader.Dotted ∷ fs) Open (Awaited d (Listing l (suc n) Begun ∷ fs)) is (open_awaited_behind d fs l n) (comes_tokens d rest (Listing l (suc n) Begun ∷ fs) bs f)
 open_comes d rest b bs fs s is admitted f =
     mark_comes d rest b bs fs Open (Awaited d (Listing plain.empty 0 Begun ∷ fs)) is (λ tokens. open_awaited d fs plain.empty tokens refl refl admitted) (begun_comes d rest b bs (Listing plain.empty 0 Begun) fs s f)
 
+-- a byte `.`
 dot_comes : (d : Datum) (rest : List ℕ) (b : ℕ) (bs : List ℕ) (fs : List (Frame Items)) (s : Unit {0}) → b ≡ 46 → Follows d rest b bs (dot plain fs s) → Comes d rest false fs (b ∷ bs)
 dot_comes d rest b bs (Listing l n Going ∷ fs) s is f =
     mark_comes d rest b bs (Listing l n Going ∷ fs) Dot (Awaited d (Listing l n reader.Dotted ∷ fs)) is (dot_awaited d fs l n) (comes_tokens d rest (Listing l n reader.Dotted ∷ fs) bs f)
 dot_comes d rest b bs _ s is f = absurd f
 
+-- a byte `]`
 close_vector_comes : (d : Datum) (rest : List ℕ) (b : ℕ) (bs : List ℕ) (fs : List (Frame Items)) (s : Unit {0}) → b ≡ 93 → Follows d rest b bs (close_vector plain fs s) → Comes d rest false fs (b ∷ bs)
 close_vector_comes d rest b bs (Vectoring l ∷ fs) s is f =
     mark_comes d rest b bs (Vectoring l ∷ fs) CloseVector _ is (λ tokens e. close_vector_awaited d fs l tokens (after_value d fs _ _ tokens e)) (ended_after d rest b bs _ f)
 close_vector_comes d rest b bs _ s is f = absurd f
 
+-- a byte `)`
 close_comes : (d : Datum) (rest : List ℕ) (b : ℕ) (bs : List ℕ) (fs : List (Frame Items)) (s : Unit {0}) → b ≡ 41 → Follows d rest b bs (close_list plain fs s) → Comes d rest false fs (b ∷ bs)
 close_comes d rest b bs (Listing l zero Begun ∷ fs) s is f =
     mark_comes d rest b bs _ Close _ is (λ tokens e. close_awaited d fs l Begun tokens (λ e. cc) (after_value d fs _ _ tokens e)) (ended_after d rest b bs _ f)
@@ -159,6 +166,7 @@ close_comes d rest b bs (Listing l (suc n) Going ∷ fs) s is f =
     mark_comes d rest b bs _ Close _ is (λ tokens e. close_inner_awaited d fs l n Going tokens (λ e. cc) (λ e. cc) e) (comes_tokens d rest _ bs f)
 close_comes d rest b bs _ s is f = absurd f
 
+-- a byte that is a mark
 pub mark_step : (d : Datum) (rest : List ℕ) (b : ℕ) (bs : List ℕ) (mark : Mark) (fs : List (Frame Items)) (s : Unit {0}) → b ≡ mark_byte mark → Follows d rest b bs (at_mark plain mark fs s) → Comes d rest false fs (b ∷ bs)
 mark_step d rest b bs Close fs s is f = close_comes d rest b bs fs s is f
 mark_step d rest b bs CloseVector fs s is f = close_vector_comes d rest b bs fs s is f

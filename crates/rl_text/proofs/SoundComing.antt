@@ -20,7 +20,7 @@ elements_before (e ∷ es) more = Element e (elements_before es more)
 
 -- ---- what may come, by what has begun
 
--- what may come after a value, for the datum d of the whole text
+-- what tokens may come after a value
 abbrev pub Coming : Type 1
 Coming = Datum → List Token → Type 0
 
@@ -32,7 +32,7 @@ Closing after n v tokens = (more : List Token) × (tokens ≡ closes n ++ more) 
 abbrev pub ListGoes : Coming → List Datum → ℕ → List Token → Type 0
 ListGoes after items n tokens = (r : Rest) × (more : List Token) × (tokens ≡ rest_tokens r ++ (closes n ++ more)) × after (listed items (rest_datum r)) more
 
--- an element, and so many `)`, with these tokens before them all
+-- an element, and so many `)`
 abbrev pub ElementGoes : Coming → List Datum → ℕ → List Token → Type 0
 ElementGoes after items n tokens = (s : Spelling) × (more : List Token) × (tokens ≡ tokens_of s ++ (closes n ++ more)) × after (listed items (datum_of s)) more
 
@@ -60,14 +60,17 @@ Awaited d (Listing l n Shut ∷ fs) tokens = Closing (After d fs) (suc n) (liste
 
 -- ---- lists of elements
 
+-- the last element of a list may be said of its end
 listed-append : (items : List Datum) (e t : Datum) → listed (items ++ e ∷ []) t ≡ listed items (Pair e t)
 listed-append [] e t = refl
 listed-append (i ∷ is) e t = ap (Pair i) (listed-append is e t)
 
+-- the last of these elements may be said of those behind them
 elements_before-append : (items : List Datum) (e : Datum) (more : Elements) → elements_before (items ++ e ∷ []) more ≡ elements_before items (Element e more)
 elements_before-append [] e more = refl
 elements_before-append (i ∷ is) e more = ap (Element i) (elements_before-append is e more)
 
+-- elements before none are the elements
 elements_before-none : (items : List Datum) → elements_before items NoElements ≡ elements items
 elements_before-none [] = refl
 elements_before-none (i ∷ is) = ap (Element i) (elements_before-none is)
@@ -88,6 +91,7 @@ with_first after items n s tokens goes =
     ap (λ l. Sign Open ∷ l) (ap (λ l. tokens_of s ++ l) goes.2 ∙ sym (append_assoc (tokens_of s) (rest_tokens goes.0) (closes n ++ goes.1))),
     rw (listed-append items (datum_of s) (rest_datum goes.0)) at goes.3)
 
+-- the vector goes on after an element, so it went on with that element
 with_place : (after : Coming) (items : List Datum) (s : Spelling) (tokens : List Token) → VectorGoes after (items ++ datum_of s ∷ []) tokens → VectorGoes after items (tokens_of s ++ tokens)
 with_place after items s tokens goes =
     (Place s goes.0, goes.1,
@@ -117,16 +121,19 @@ open_awaited d fs l tokens none bare admitted awaited =
 pub open_awaited_behind : (d : Datum) (fs : List (Frame Items)) (l : Items) (n : ℕ) (tokens : List Token) → Awaited d (Listing l (suc n) Begun ∷ fs) tokens → Awaited d (Listing l n reader.Dotted ∷ fs) (Sign Open ∷ tokens)
 open_awaited_behind d fs l n tokens awaited = awaited
 
+-- `.` goes before what is awaited behind it
 pub dot_awaited : (d : Datum) (fs : List (Frame Items)) (l : Items) (n : ℕ) (tokens : List Token) → Awaited d (Listing l n reader.Dotted ∷ fs) tokens → Awaited d (Listing l n Going ∷ fs) (Sign Dot ∷ tokens)
 dot_awaited d fs l n tokens awaited = λ bare.
     let goes = awaited bare in
     (Dotted goes.0, goes.1, ap (λ l. Sign Dot ∷ l) (goes.2 ∙ sym (append_assoc (tokens_of goes.0) (Sign Close ∷ []) (closes n ++ goes.1))), goes.3)
 
+-- `[` goes before what is awaited in the vector that it begins
 pub vector_awaited : (d : Datum) (fs : List (Frame Items)) (l : Items) (tokens : List Token) → l.elements ≡ [] → admits fs ≡ true → Awaited d (Vectoring l ∷ fs) tokens → Awaited d fs (Sign OpenVector ∷ tokens)
 vector_awaited d fs l tokens none admitted awaited =
     let after : After d fs (datum_of (Vectored awaited.0)) awaited.1 = rw none at awaited.3 in
     rw awaited.2 (element_awaited d fs (Vectored awaited.0) awaited.1 admitted after)
 
+-- `'` goes before what is awaited behind it
 pub quote_awaited : (d : Datum) (fs : List (Frame Items)) (tokens : List Token) → admits fs ≡ true → Awaited d (Quoting ∷ fs) tokens → Awaited d fs (Sign Quote ∷ tokens)
 quote_awaited d fs tokens admitted awaited = rw awaited.2 (element_awaited d fs (Quoted awaited.0) awaited.1 admitted awaited.3)
 

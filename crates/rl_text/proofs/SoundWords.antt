@@ -70,15 +70,19 @@ word_comes d rest fs b bs admitted w = record {
 
 -- ---- how a word begins
 
+-- a name begins with a letter
 letter_word : (d : Datum) (rest : List ℕ) (fs : List (Frame Items)) (b : ℕ) (bs : List ℕ) → is_letter b ≡ true → Lexes d rest (InName (raised b ∷ [])) fs bs → WordGoes d rest (b ∷ []) fs bs
 letter_word d rest fs b bs letter goes = goes (Plain b ∷ []) refl (and_from (is_letter b) true letter refl) (omega arith)
 
+-- a name begins with `!`
 escape_word : (d : Datum) (rest : List ℕ) (fs : List (Frame Items)) (b : ℕ) (bs : List ℕ) → b ≡ 33 → Lexes d rest (InEscape []) fs bs → WordGoes d rest (b ∷ []) fs bs
 escape_word d rest fs b bs is goes = rw is (goes [] refl (λ c. refl) (omega arith))
 
+-- a string begins
 text_word : (d : Datum) (rest : List ℕ) (fs : List (Frame Items)) (b : ℕ) (bs : List ℕ) → b ≡ 34 → Lexes d rest (InText []) fs bs → WordGoes d rest (b ∷ []) fs bs
 text_word d rest fs b bs is goes = rw is (goes (omega arith))
 
+-- a digit alone is in range
 digit_in_range : (minus : Bool) (b : ℕ) → is_digit b ≡ true → is_in_range minus (number_of (b ∷ []))
 digit_in_range true b digit = let most = leb-true b 57 (and_parts (nat_le 48 b) (nat_le b 57) digit).1 in omega arith
 digit_in_range false b digit = let most = leb-true b 57 (and_parts (nat_le 48 b) (nat_le b 57) digit).1 in omega arith
@@ -91,15 +95,18 @@ one_digit sign b digit = record {
   in_range = digit_in_range (is_minus sign) b digit;
 }
 
+-- a number begins with a digit
 digit_word : (d : Datum) (rest : List ℕ) (fs : List (Frame Items)) (b : ℕ) (bs : List ℕ) → is_digit b ≡ true → Lexes d rest (InNumber false (b - 48)) fs bs → WordGoes d rest (b ∷ []) fs bs
 digit_word d rest fs b bs digit goes = goes Unsigned (b ∷ []) refl (omega arith) (one_digit Unsigned b digit)
 
 -- ---- a byte in a gap
 
+-- a special that is no sign ends before anything
 special_ends : (c : ℕ) (bytes : List ℕ) → is_sign c ≡ false → EndsBefore (Spelled (Single c)) bytes
 special_ends c [] unsigned = tt
 special_ends c (b ∷ bs) unsigned = and_left (is_sign c) (is_digit b) unsigned
 
+-- a special that is no sign is a word
 special_word : (d : Datum) (rest : List ℕ) (fs : List (Frame Items)) (s : Unit {0}) (b : ℕ) (bs : List ℕ) → IsOf Special b → Follows d rest b bs (goes_after (atom_ended plain (Identifier (b ∷ [])) fs s)) → WordGoes d rest (b ∷ []) fs bs
 special_word d rest fs s b bs is f =
     word_ends d rest (b ∷ []) fs bs (Single b) refl is.0 (special_ends b bs is.1)
@@ -120,6 +127,7 @@ gap_byte d rest before inside fs b bs opens c = record {
   awaited = c.awaited;
 }
 
+-- a byte in a gap, by its class
 pub gap_step : (d : Datum) (rest : List ℕ) (b : ℕ) (bs : List ℕ) (c : Class) (fs : List (Frame Items)) (s : Unit {0}) → IsOf c b → Follows d rest b bs (at_class plain c b fs s) → Comes d rest false fs (b ∷ bs)
 gap_step d rest b bs Blank fs s is f = gap_byte d rest false false fs b bs (λ gap e. rw is e) f
 gap_step d rest b bs Percent fs s is f = gap_byte d rest false true fs b bs (λ gap e. rw is e) f
@@ -146,11 +154,13 @@ gap_step d rest b bs Nothing fs s is f = absurd f
 
 -- ---- an atom ends before a byte
 
+-- an element ends before this byte
 ended_before : (d : Datum) (rest : List ℕ) (b : ℕ) (bs : List ℕ) (e : Ended (Unit {0}) Datum Items ⊥) → Follows d rest b bs (goes_before plain b e) → TokensWith (Leaves d e) rest (b ∷ bs)
 ended_before d rest b bs (Whole v s) f = ([], f.1, (refl, f.0))
 ended_before d rest b bs (Inside fs s) f = comes_tokens d rest fs (b ∷ bs) (gap_step d rest b bs (class_of b) fs s (class_says b) f)
 ended_before d rest b bs (Lacks w s) f = absurd f
 
+-- a word ends before this byte, with which it does not go on
 word_before : (d : Datum) (rest first : List ℕ) (fs : List (Frame Items)) (s : Unit {0}) (b : ℕ) (bs : List ℕ) (w : Word) → word_text w ≡ first → IsWord w → goes_on w b ≡ false → Follows d rest b bs (atom_before plain (atom_of w) b fs s) → WordGoes d rest first fs (b ∷ bs)
 word_before d rest first fs s b bs w is word_is ends f =
     word_ends d rest first fs (b ∷ bs) w is word_is ends
@@ -177,9 +187,11 @@ name_longer d rest fs bs cs chars c is name short goes =
     let text : flat_map character_text (chars ++ c ∷ []) ≡ flat_map character_text chars ++ character_text c = flat_map-append character_text chars (c ∷ []) ∙ ap (λ l. flat_map character_text chars ++ l) (append-nil (character_text c)) in
     subst (λ l. WordGoes d rest l fs bs) text w
 
+-- a name has as many characters as bytes
 length_of_name : (cs : List ℕ) (chars : List Character) → cs ≡ map character_of chars → length cs < 255 → length chars < 255
 length_of_name cs chars is short = omega (arith, ap length is, length-map chars character_of)
 
+-- a byte in a name
 pub name_step : (d : Datum) (rest : List ℕ) (b : ℕ) (bs cs : List ℕ) (fs : List (Frame Items)) (s : Unit {0}) → Follows d rest b bs (step plain (InName cs) b fs s) → Lexes d rest (InName cs) fs (b ∷ bs)
 name_step d rest b bs cs fs s f chars is name short =
     cond_both (is_name_byte b) (grown_to 255 cs (InName (cs ++ raised b ∷ [])) fs s) _ (λ x. Follows d rest b bs x → WordGoes d rest (word_text (Named chars)) fs (b ∷ bs))
@@ -197,6 +209,7 @@ name_step d rest b bs cs fs s f chars is name short =
             word_before d rest (word_text (Named chars)) fs s b bs (Named chars) refl (record { name = name; short = short }) (or_from (is_name_byte b) (b == 33) fails other) (rw is at f)))
     f
 
+-- a byte after `!`
 pub escape_step : (d : Datum) (rest : List ℕ) (b : ℕ) (bs cs : List ℕ) (fs : List (Frame Items)) (s : Unit {0}) → Follows d rest b bs (step plain (InEscape cs) b fs s) → Lexes d rest (InEscape cs) fs (b ∷ bs)
 escape_step d rest b bs cs fs s f chars is name short =
     word_byte d rest (word_text (Named chars) ++ 33 ∷ []) fs b bs
@@ -204,6 +217,7 @@ escape_step d rest b bs cs fs s f chars is name short =
 
 -- ---- numbers
 
+-- a number with one more digit
 number_after-append : (n : ℕ) (ds : List ℕ) (b : ℕ) → number_after n (ds ++ b ∷ []) ≡ 10 * number_after n ds + (b - 48)
 number_after-append n [] b = refl
 number_after-append n (d ∷ ds) b = number_after-append (10 * n + (d - 48)) ds b
@@ -215,9 +229,11 @@ in_number_follows d rest b bs true n fs s =
 in_number_follows d rest b bs false n fs s =
     cond_both (nat_lt n (2 ^ 59)) (Goes (InNumber false n) fs s) (Refuses s) (λ x. Follows d rest b bs x → (n < 2 ^ 59) × Lexes d rest (InNumber false n) fs bs) (λ e f. (ltb-true _ _ e, f)) (λ e f. absurd f)
 
+-- and where the number so far is known by another name
 number_after-grown : (n : ℕ) (digits : List ℕ) (b : ℕ) → n ≡ number_of digits → 10 * n + (b - 48) ≡ number_of (digits ++ b ∷ [])
 number_after-grown n digits b is = rw is (sym (number_after-append 0 digits b))
 
+-- digits in range with one more, in range, are a number
 more_digits : (sign : Sign) (minus : Bool) (n : ℕ) (digits : List ℕ) (b : ℕ) → minus ≡ is_minus sign → n ≡ number_of digits → IsNumber sign digits → is_digit b ≡ true → is_in_range minus (10 * n + (b - 48)) → IsNumber sign (digits ++ b ∷ [])
 more_digits sign minus n digits b minus_is is number digit in_range = record {
   some = omega (arith, length-append digits (b ∷ []));
@@ -231,6 +247,7 @@ number_longer d rest b bs minus n fs sign digits minus_is is number digit in_ran
     word_byte d rest (word_text (Number sign digits)) fs b bs
     (rw (append_assoc (sign_text sign) digits (b ∷ [])) (goes sign (digits ++ b ∷ []) minus_is (number_after-grown n digits b is) (more_digits sign minus n digits b minus_is is number digit in_range)))
 
+-- a byte in a number
 pub number_step : (d : Datum) (rest : List ℕ) (b : ℕ) (bs : List ℕ) (minus : Bool) (n : ℕ) (fs : List (Frame Items)) (s : Unit {0}) → Follows d rest b bs (step plain (InNumber minus n) b fs s) → Lexes d rest (InNumber minus n) fs (b ∷ bs)
 number_step d rest b bs minus n fs s f sign digits minus_is is number =
     cond_both (is_digit b) (in_number minus (10 * n + (b - 48)) fs s) (atom_before plain (Integer (signed minus n)) b fs s) (λ x. Follows d rest b bs x → WordGoes d rest (word_text (Number sign digits)) fs (b ∷ bs))
@@ -249,6 +266,7 @@ signed_word d rest b bs c fs sign digit goes =
       | inr e ↦ rw (plus_left c sign e) (goes Plus (b ∷ []) e (omega arith) (one_digit Plus b digit))
     ]
 
+-- a byte after a sign
 pub sign_step : (d : Datum) (rest : List ℕ) (b : ℕ) (bs : List ℕ) (c : ℕ) (fs : List (Frame Items)) (s : Unit {0}) → Follows d rest b bs (step plain (AfterSign c) b fs s) → Lexes d rest (AfterSign c) fs (b ∷ bs)
 sign_step d rest b bs c fs s f sign =
     cond_both (is_digit b) (Goes (InNumber (c == 45) (b - 48)) fs s) (atom_before plain (Identifier (c ∷ [])) b fs s) (λ x. Follows d rest b bs x → WordGoes d rest (c ∷ []) fs (b ∷ bs))
@@ -258,6 +276,7 @@ sign_step d rest b bs c fs s f sign =
 
 -- ---- strings
 
+-- a string is doubled piece by piece
 doubled-append : (xs ys : List ℕ) → doubled (xs ++ ys) ≡ doubled xs ++ doubled ys
 doubled-append [] ys = refl
 doubled-append (x ∷ xs) ys =
@@ -266,6 +285,7 @@ doubled-append (x ∷ xs) ys =
       | inr e ↦ rw e (ap (λ l. x ∷ l) (doubled-append xs ys))
     ]
 
+-- a byte in a string
 pub text_step : (d : Datum) (rest : List ℕ) (b : ℕ) (bs cs : List ℕ) (fs : List (Frame Items)) (s : Unit {0}) → Follows d rest b bs (step plain (InText cs) b fs s) → Lexes d rest (InText cs) fs (b ∷ bs)
 text_step d rest b bs cs fs s f short =
     cond_both (b == 34) (Goes (AfterQuote cs) fs s) (grown_to 65535 cs (InText (cs ++ b ∷ [])) fs s) (λ x. Follows d rest b bs x → WordGoes d rest (34 ∷ doubled cs) fs (b ∷ bs))
@@ -276,6 +296,7 @@ text_step d rest b bs cs fs s f short =
         (subst (λ l. WordGoes d rest (34 ∷ l) fs bs) (doubled-append cs (b ∷ []) ∙ ap (λ l. doubled cs ++ l) (cond-false (b == 34) (34 ∷ 34 ∷ []) (b ∷ []) other)) (g.1 (omega (arith, g.0, length-append cs (b ∷ []))))))
     f
 
+-- a byte after a `"` in a string
 pub after_quote_step : (d : Datum) (rest : List ℕ) (b : ℕ) (bs cs : List ℕ) (fs : List (Frame Items)) (s : Unit {0}) → Follows d rest b bs (step plain (AfterQuote cs) b fs s) → Lexes d rest (AfterQuote cs) fs (b ∷ bs)
 after_quote_step d rest b bs cs fs s f short =
     cond_both (b == 34) (grown_to 65535 cs (InText (cs ++ 34 ∷ [])) fs s) (atom_before plain (String cs) b fs s) (λ x. Follows d rest b bs x → WordGoes d rest (word_text (word.Text cs)) fs (b ∷ bs))
