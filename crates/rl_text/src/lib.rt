@@ -1,3 +1,4 @@
-//! Lisp text: the relation between bytes and the data that they spell, and reading, in `specs/`, with laws about them. A law
-//! is the contract of a function that does nothing.
+//! Lisp text: the relation between bytes and the data that they spell, and reading, in `specs/`, with laws about them.
 #![tactic(auto)]
+
+pub mod laws;

@@ -1,0 +1,22 @@
+//! Laws of Lisp text. A law is the contract of a function that does nothing.
+ghost use Rattle.rl_text.specs.Laws.{FindsNone, FindsSpelled, RefusesFirst, SpellsOnce};
+
+/// A datum is found exactly where the bytes begin with a spelling of it, and what is left is what follows that spelling.
+pub fn what_is_found_is_spelled()
+    ensures { FindsSpelled }
+{}
+
+/// Bytes begin with a spelling of one datum, and it takes so many of them; or with none.
+pub fn text_spells_once()
+    ensures { SpellsOnce }
+{}
+
+/// Nothing is found exactly where nothing but blanks and comments is there.
+pub fn blank_text_has_none()
+    ensures { FindsNone }
+{}
+
+/// Bytes are unreadable exactly at the first of them with which no spelling goes on, or at their end inside a spelling.
+pub fn unreadable_at_first_byte()
+    ensures { RefusesFirst }
+{}
