@@ -19,7 +19,8 @@ use rl_world::{Stop, World};
 /// Prints a value so that it is read as itself: names with `!` where they need one, strings in quotes.
 ///
 /// A line is broken before an atom that would pass the line length. Each pair, and each element of a vector, takes a
-/// turn as it is reached; each element that is a pair or a vector, and each vector, takes a level until it is printed.
+/// turn as it is reached; each element that is a pair or a vector takes a level until it is printed. A vector at the
+/// root or behind a dot takes none.
 ///
 /// # Errors
 /// `Turns`, `Expansion` and `Depth` where a turn or a level is wanting: printed is then exactly what came before.
