@@ -1,7 +1,7 @@
 //! The texts of atoms, and of lists and vectors printed to objects in memory, by PRIN1 and by PRIN2.
 ghost use Rattle.std.specs.Prelude.{◌≡◌, ◌<◌, length, IsTrue, IfOk};
-ghost use Rattle.rl_tags.specs.Tagged.{PairAt};
-ghost use Rattle.rl_cells.specs.Cell.{is_live, is_pair, is_wide};
+ghost use Rattle.rl_tags.specs.Tagged.{Tagged, PairAt};
+ghost use Rattle.rl_cells.specs.Cell.{is_live, is_pair, is_vector, is_wide, vector_of};
 ghost use Rattle.rl_syms.specs.Table.{IsTable, is_id};
 ghost use Rattle.rl_print.specs.AtomText.{is_atom};
 
@@ -71,6 +71,8 @@ fn identifier(w: &mut World, name: &[u8]) -> Result<Val, Fail>
     requires table { IsTable w.old.cells.cells w.old.syms.head }
     ensures table { IsTable w.new.cells.cells w.new.syms.head }
     ensures id { IfOk result (λ v. IsTrue (is_id w.new.cells.cells v)) }
+    ensures live { IfOk result (λ v. IsTrue (is_live w.new.cells.cells v)) }
+    ensures kept { IfOk result (λ _. (u : Tagged) → IsTrue (is_live w.old.cells.cells u) → IsTrue (is_live w.new.cells.cells u)) }
 {
     if name.is_empty() || name.len() > 255 {
         return Err(Fail::new("not a name"));
@@ -196,6 +198,9 @@ fn vector(w: &mut World, places: u32) -> Result<Val, Fail>
     requires table { IsTable w.old.cells.cells w.old.syms.head }
     ensures table { IfOk result (λ _. IsTable w.new.cells.cells w.new.syms.head) }
     ensures live { IfOk result (λ v. IsTrue (is_live w.new.cells.cells v)) }
+    ensures vector { IfOk result (λ v. IsTrue (is_vector w.new.cells.cells v)) }
+    ensures long { IfOk result (λ v. length (vector_of w.new.cells.cells v) ≡ places) }
+    ensures kept { IfOk result (λ _. (u : Tagged) → IsTrue (is_live w.old.cells.cells u) → IsTrue (is_live w.new.cells.cells u)) }
 {
     if places > 10_000 {
         return Err(Fail::new("a long vector"));
@@ -208,11 +213,29 @@ fn vector(w: &mut World, places: u32) -> Result<Val, Fail>
     Ok(vector)
 }
 
+/// Puts a value at a place of a vector.
+fn put(w: &mut World, v: Val, i: u32, x: Val)
+    requires table { IsTable w.old.cells.cells w.old.syms.head }
+    requires vector { IsTrue (is_vector w.old.cells.cells v) }
+    requires within { i < length (vector_of w.old.cells.cells v) }
+    requires live { IsTrue (is_live w.old.cells.cells x) }
+    ensures table { IsTable w.new.cells.cells w.new.syms.head }
+    ensures vector { IsTrue (is_vector w.new.cells.cells v) }
+    ensures long { length (vector_of w.new.cells.cells v) ≡ length (vector_of w.old.cells.cells v) }
+    ensures kept { (u : Tagged) → IsTrue (is_live w.old.cells.cells u) → IsTrue (is_live w.new.cells.cells u) }
+{
+    table_is_kept();
+    others_leave_blocks();
+    objects_are_changed();
+    w.cells.put(v, i, x);
+}
+
 /// A string.
 fn string(w: &mut World, bytes: &[u8]) -> Result<Val, Fail>
     requires table { IsTable w.old.cells.cells w.old.syms.head }
     ensures table { IfOk result (λ _. IsTable w.new.cells.cells w.new.syms.head) }
     ensures live { IfOk result (λ v. IsTrue (is_live w.new.cells.cells v)) }
+    ensures kept { IfOk result (λ _. (u : Tagged) → IsTrue (is_live w.old.cells.cells u) → IsTrue (is_live w.new.cells.cells u)) }
 {
     if bytes.len() > 1_000 {
         return Err(Fail::new("a long string"));
@@ -310,6 +333,39 @@ fn vectors(rt: HostRuntime) -> Result<(), Fail> {
         let v = vector(&mut w, places)?;
         let mut run = Run::new(&rt, w, &[])?;
         assert_eq!(rt; run.print(v, Style::Prin2), Ok(()));
+        assert_eq!(rt; run.out.bytes(), text);
+    }
+    Ok(())
+}
+
+/// A vector of an integer, a string, and a pair of two names.
+fn mixed_vector(w: &mut World) -> Result<Val, Fail>
+    requires table { IsTable w.old.cells.cells w.old.syms.head }
+    ensures table { IfOk result (λ _. IsTable w.new.cells.cells w.new.syms.head) }
+    ensures live { IfOk result (λ v. IsTrue (is_live w.new.cells.cells v)) }
+{
+    let upper = identifier(w, b"X")?;
+    let lower = identifier(w, b"y")?;
+    let names = pair(w, upper, lower)?;
+    let text = string(w, b"a\"b")?;
+    let v = vector(w, 3)?;
+    put(w, v, 0, Val::small(1));
+    put(w, v, 1, text);
+    put(w, v, 2, names);
+    Ok(v)
+}
+
+#[test]
+fn a_mixed_vector_in_both_styles(rt: HostRuntime) -> Result<(), Fail> {
+    let rows: [(Style, &[u8]); 2] = [
+        (Style::Prin1, b"[1 \"a\"\"b\" (X . !y)]"),
+        (Style::Prin2, b"[1 a\"b (X . y)]"),
+    ];
+    for (style, text) in rows {
+        let mut w = opening(&rt)?;
+        let v = mixed_vector(&mut w)?;
+        let mut run = Run::new(&rt, w, &[])?;
+        assert_eq!(rt; run.print(v, style), Ok(()));
         assert_eq!(rt; run.out.bytes(), text);
     }
     Ok(())
@@ -428,13 +484,17 @@ fn ring(w: &mut World) -> Result<Val, Fail>
     Ok(p)
 }
 
+/// Forty elements stand in a line of 80 columns, so the next one begins a line.
 #[test]
 fn a_ring_takes_all_turns(rt: HostRuntime) -> Result<(), Fail> {
-    let mut w = running(&rt, 5, 0)?;
+    let mut w = running(&rt, 50, 0)?;
     let v = ring(&mut w)?;
     let mut run = Run::new(&rt, w, &[])?;
     assert_eq!(rt; run.print(v, Style::Prin1), Err(Stop::Turns));
-    assert_eq!(rt; run.out.bytes(), b"(7 7 7 7 7".as_slice());
+    let text =
+        b"(7 7 7 7 7 7 7 7 7 7 7 7 7 7 7 7 7 7 7 7 7 7 7 7 7 7 7 7 7 7 7 7 7 7 7 7 7 7 7 7 \n\
+        7 7 7 7 7 7 7 7 7 7";
+    assert_eq!(rt; run.out.bytes(), text.as_slice());
     Ok(())
 }
 
