@@ -1,11 +1,10 @@
 use Rattle.std.specs.Prelude.{slice_set}
-use Rattle.std.proofs.Common.{◌≡◌, ◌<◌, ℕ, true, false, List, length, refl, sym, ap, ◌∙◌, inl, inr}
+use Rattle.std.proofs.Common.{◌≡◌, ◌<◌, ℕ, true, false, List, length, sym, ap, ◌∙◌, inl, inr}
 use Rattle.std.proofs.lemmas.Bool.{cases_lt}
 use Rattle.std.proofs.lemmas.List.{get_or_past, length-set}
 use Rattle.rl_tags.specs.Tagged.{Tagged, VectorAt}
 use Rattle.rl_cells.specs.Cell.{Cell, More, Store, VectorCell, cell_at, changed_at, is_vector, is_vector_cell, vector_in, vector_of}
 use Rattle.rl_cells.specs.Laws as laws
-use Rattle.rl_syms.specs.Laws.{IsKept, LeaveBlocks}
 use Rattle.rl_print.proofs.tests.put.Goals as goal
 
 -- a vector begins within the cells

@@ -1,8 +1,7 @@
-use Rattle.std.proofs.Common.{◌≡◌, ◌<◌, true, List, length, refl, ap, ◌∙◌}
+use Rattle.std.proofs.Common.{◌≡◌, ◌<◌, true, List, length, refl, ap}
 use Rattle.rl_tags.specs.Tagged.{Tagged, PairAt}
-use Rattle.rl_cells.specs.Cell.{Cell, PairCell, Store, cdr_of, car_of, changed_at, is_live}
+use Rattle.rl_cells.specs.Cell.{Cell, PairCell, Store, car_of, changed_at, is_live}
 use Rattle.rl_cells.specs.Laws as laws
-use Rattle.rl_syms.specs.Laws.{IsKept, LeaveBlocks}
 use Rattle.rl_print.proofs.tests.ring.Goals as goal
 
 pub returns-clause-table : goal.returns-clause-table

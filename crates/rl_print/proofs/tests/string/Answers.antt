@@ -1,6 +1,5 @@
 use Rattle.std.proofs.Common.{refl, ap}
 use Rattle.rl_cells.specs.Cell.{Store, StrCell}
-use Rattle.rl_syms.specs.Laws.{IsKept, LeaveBlocks}
 use Rattle.rl_print.proofs.tests.string.Goals as goal
 
 pub returns-clause-table : goal.returns-clause-table
