@@ -3,8 +3,10 @@ use Rattle.std.proofs.Common.{◌≡◌, ℕ, true, false, ◌&&◌, ◌==◌, n
 use Rattle.std.proofs.lemmas.Bool.{cond-true, or_cases, and_parts, not-true}
 use Rattle.std.proofs.lemmas.Bool.Decides.{nat_tests}
 use Rattle.rl_tree.specs.Bytes.{is_blank, is_letter, is_digit}
-use Rattle.rl_tree.proofs.Classes.{digit_no_letter}
 use Rattle.rl_text.specs.Byte.{is_reserved, is_sign, is_special, Blank, Letter, Digit, Sign, Special, class_of}
+
+digit_no_letter : (b : ℕ) → is_digit b ≡ true → is_letter b ≡ false
+digit_no_letter b digit = grind (arith, nat_tests)
 
 -- a letter is no blank
 letter_no_blank : (b : ℕ) → is_letter b ≡ true → is_blank b ≡ false
@@ -29,9 +31,9 @@ digit_class b digit = rw (digit_no_blank b digit, digit_no_letter b digit, digit
 -- `+` and `-` are of the class of signs
 pub sign_class : (b : ℕ) → is_sign b ≡ true → class_of b ≡ Sign
 sign_class b sign = elim (or_cases (b == 43) (b == 45) sign) [
-    | inl e ↦ rw (eqb-true b 43 e) refl
-    | inr e ↦ rw (eqb-true b 45 e) refl
-  ]
+  | inl e ↦ rw (eqb-true b 43 e) refl
+  | inr e ↦ rw (eqb-true b 45 e) refl
+]
 
 -- a byte that is not reserved is none of the reserved ones
 record IsOrdinary (b : ℕ) : Type 0 where
@@ -48,16 +50,16 @@ record IsOrdinary (b : ℕ) : Type 0 where
 -- none of the tests for a reserved byte passes where the byte is not reserved
 is_ordinary : (b : ℕ) → is_reserved b ≡ false → IsOrdinary b
 is_ordinary b free = record {
-    no_escape = grind (arith, nat_tests);
-    no_text = grind (arith, nat_tests);
-    no_percent = grind (arith, nat_tests);
-    no_quote = grind (arith, nat_tests);
-    no_open = grind (arith, nat_tests);
-    no_close = grind (arith, nat_tests);
-    no_dot = grind (arith, nat_tests);
-    no_open_vector = grind (arith, nat_tests);
-    no_close_vector = grind (arith, nat_tests);
-  }
+  no_escape = grind (arith, nat_tests);
+  no_text = grind (arith, nat_tests);
+  no_percent = grind (arith, nat_tests);
+  no_quote = grind (arith, nat_tests);
+  no_open = grind (arith, nat_tests);
+  no_close = grind (arith, nat_tests);
+  no_dot = grind (arith, nat_tests);
+  no_open_vector = grind (arith, nat_tests);
+  no_close_vector = grind (arith, nat_tests);
+}
 
 -- what a special is not
 record IsNoOther (b : ℕ) : Type 0 where

@@ -86,24 +86,24 @@ tail_closed es t (suc n) bytes rest fs front = mark_read Close bytes rest (Listi
 -- a list that stands behind no dot is one of its own
 own_list : (fs : Frames) → admits fs ≡ true → open_list plain fs tt ≡ begins plain (Listing (items []) 0 Begun) fs tt → Opening fs
 own_list fs free own = record {
-    list = items [];
-    closers = 0;
-    frames = fs;
-    opens = λ bytes rest front. mark_read Open bytes rest fs front ∙ ap (λ taken. after_step 40 rest taken (λ mode fs s. read_from plain mode fs s rest)) (cond-true (admits fs) _ _ free ∙ own ∙ begun (Listing (items []) 0 Begun) fs);
-    ends = λ t rest. refl;
-    empty = λ bytes rest front. mark_read Close bytes rest (Listing (items []) 0 Begun ∷ fs) front ∙ ended_after (ending nil fs) 41 rest;
-  }
+  list = items [];
+  closers = 0;
+  frames = fs;
+  opens = λ bytes rest front. mark_read Open bytes rest fs front ∙ ap (λ taken. after_step 40 rest taken (λ mode fs s. read_from plain mode fs s rest)) (cond-true (admits fs) _ _ free ∙ own ∙ begun (Listing (items []) 0 Begun) fs);
+  ends = λ t rest. refl;
+  empty = λ bytes rest front. mark_read Close bytes rest (Listing (items []) 0 Begun ∷ fs) front ∙ ended_after (ending nil fs) 41 rest;
+}
 
 -- a list may open where a spelling may stand
 opening : (fs : Frames) → admits fs ≡ true → Opening fs
 opening (Listing l n Phase.Dotted ∷ fs) free = record {
-    list = l;
-    closers = suc n;
-    frames = fs;
-    opens = λ bytes rest front. mark_read Open bytes rest (Listing l n Phase.Dotted ∷ fs) front;
-    ends = λ t rest. refl;
-    empty = λ bytes rest front. mark_read Close bytes rest (Listing l (suc n) Begun ∷ fs) front;
-  }
+  list = l;
+  closers = suc n;
+  frames = fs;
+  opens = λ bytes rest front. mark_read Open bytes rest (Listing l n Phase.Dotted ∷ fs) front;
+  ends = λ t rest. refl;
+  empty = λ bytes rest front. mark_read Close bytes rest (Listing l (suc n) Begun ∷ fs) front;
+}
 opening (Listing l n Shut ∷ fs) free = absurd cc
 opening fs free = own_list fs free refl
 
@@ -150,10 +150,10 @@ mutual
   -- a spelling is read as its datum, where a spelling may stand
   spelling_read : (e : Spelling) (fs : Frames) (more : List Token) (bytes rest : List ℕ) → admits fs ≡ true → AreTokens (tokens_of e ++ more) bytes rest → ReadsOn (from Gap fs bytes) (after_value (datum_of e) fs) more rest
   spelling_read (Atom word) fs more bytes rest free are = record {
-      middle = are.0;
-      read = front_read (Spelled word) bytes are.0 fs are.1 ∙ word_read word are.0 fs free (are.1).token_is (are.1).ends;
-      left = are.2;
-    }
+    middle = are.0;
+    read = front_read (Spelled word) bytes are.0 fs are.1 ∙ word_read word are.0 fs free (are.1).token_is (are.1).ends;
+    left = are.2;
+  }
   spelling_read (Quoted e) fs more bytes rest free are =
       let inner = spelling_read e (Quoting ∷ fs) more are.0 rest refl are.2 in
       record { middle = inner.middle; read = quote_read bytes are.0 fs free are.1 ∙ inner.read; left = inner.left }
@@ -193,10 +193,10 @@ mutual
   -- the places of a vector are read as its elements
   places_read : (places : Places) (es : List Datum) (fs : Frames) (more : List Token) (bytes rest : List ℕ) → AreTokens (places_tokens places ++ more) bytes rest → ReadsOn (from Gap (Vectoring (items es) ∷ fs) bytes) (after_value (Vector (placed es (places_datum places))) fs) more rest
   places_read Last es fs more bytes rest are = record {
-      middle = are.0;
-      read = vector_closed es bytes are.0 fs are.1 ∙ ap (λ es. after_value (Vector es) fs are.0) (placed_none es);
-      left = are.2;
-    }
+    middle = are.0;
+    read = vector_closed es bytes are.0 fs are.1 ∙ ap (λ es. after_value (Vector es) fs are.0) (placed_none es);
+    left = are.2;
+  }
   places_read (Place e places) es fs more bytes rest are =
       let inner = spelling_read e (Vectoring (items es) ∷ fs) (places_tokens places ++ more) bytes rest refl (parted (tokens_of e) (places_tokens places) more bytes rest are) in
       let others = places_read places (es ++ datum_of e ∷ []) fs more inner.middle rest inner.left in

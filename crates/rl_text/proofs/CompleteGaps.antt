@@ -78,17 +78,17 @@ mutual
   pub gap_skipped : (fs : Frames) (gap rest : List ℕ) → comment_after false gap ≡ Some false → from Gap fs (gap ++ rest) ≡ from Gap fs rest
   gap_skipped fs [] rest e = refl
   gap_skipped fs (b ∷ bs) rest e = elim (cases_Bool (is_blank b)) [
-      | inl blank ↦ by_class b (bs ++ rest) fs Blank (blank_class b blank) ∙ gap_skipped fs bs rest (rw blank at e)
-      | inr other ↦ elim (cases_Bool (b == 37)) [
-        | inl percent ↦ by_class b (bs ++ rest) fs Percent (percent_class b percent) ∙ comment_skipped fs bs rest (rw (other, percent) at e)
-        | inr neither ↦ absurd (let none : None ≡ Some false = rw (other, neither) at e in cc)
-      ]
+    | inl blank ↦ by_class b (bs ++ rest) fs Blank (blank_class b blank) ∙ gap_skipped fs bs rest (rw blank at e)
+    | inr other ↦ elim (cases_Bool (b == 37)) [
+      | inl percent ↦ by_class b (bs ++ rest) fs Percent (percent_class b percent) ∙ comment_skipped fs bs rest (rw (other, percent) at e)
+      | inr neither ↦ absurd (let none : None ≡ Some false = rw (other, neither) at e in cc)
     ]
+  ]
 
   -- the rest of a comment and what follows it are skipped
   comment_skipped : (fs : Frames) (gap rest : List ℕ) → comment_after true gap ≡ Some false → from Comment fs (gap ++ rest) ≡ from Gap fs rest
   comment_skipped fs [] rest e = absurd cc
   comment_skipped fs (b ∷ bs) rest e = elim (cases_Bool (b == 10)) [
-      | inl line ↦ ap (λ mode. from mode fs (bs ++ rest)) (cond-true (b == 10) Gap Comment line) ∙ gap_skipped fs bs rest (rw line at e)
-      | inr inside ↦ ap (λ mode. from mode fs (bs ++ rest)) (cond-false (b == 10) Gap Comment inside) ∙ comment_skipped fs bs rest (rw inside at e)
-    ]
+    | inl line ↦ ap (λ mode. from mode fs (bs ++ rest)) (cond-true (b == 10) Gap Comment line) ∙ gap_skipped fs bs rest (rw line at e)
+    | inr inside ↦ ap (λ mode. from mode fs (bs ++ rest)) (cond-false (b == 10) Gap Comment inside) ∙ comment_skipped fs bs rest (rw inside at e)
+  ]

@@ -6,7 +6,6 @@ use Rattle.std.proofs.lemmas.List.{append-nil}
 use Rattle.rl_tree.specs.Bytes.{is_letter, is_digit, is_name_byte, raised}
 use Rattle.rl_tree.specs.Token.{number_after, number_of}
 use Rattle.rl_tree.specs.Atoms.{doubled}
-use Rattle.rl_tree.proofs.Fronts.{Ends}
 use Rattle.rl_text.specs.Byte.{is_sign, is_special, Class, Letter, Digit, Special, class_of}
 use Rattle.rl_text.specs.Byte as byte
 use Rattle.rl_text.specs.Datum.{Datum, Int, Id, Str}
@@ -16,6 +15,11 @@ use Rattle.rl_text.specs.Reader.{Mode, Gap, InName, InEscape, AfterSign, InNumbe
 use Rattle.rl_text.specs.Reading.{Items, plain}
 use Rattle.rl_text.proofs.Classes.{letter_class, digit_class, sign_class, special_class}
 use Rattle.rl_text.proofs.CompleteGaps.{Frames, PlainOutcome, from, ending, after_value, ended_before, ended_after, ended_at_end, by_class}
+
+-- no byte that passes the test comes next
+abbrev Ends : (ℕ → Bool) → List ℕ → Type 0
+Ends test [] = Unit {0}
+Ends test (b ∷ bs) = test b ≡ false
 
 -- what a byte does where data are made
 abbrev PlainStep : Type 0
@@ -147,19 +151,19 @@ string_read cs [] rest fs fits ends =
     word_ends (AfterQuote cs) (Str cs) fs (λ b. b == 34) rest refl (quote_before cs fs) ends
     ∙ ap (λ bytes. after_value (Str bytes) fs rest) (sym (append-nil cs))
 string_read cs (b ∷ bs) rest fs fits ends = elim (cases_Bool (b == 34)) [
-    | inl quote ↦
+  | inl quote ↦
       let more = (doubled bs ++ 34 ∷ []) ++ rest in
       ap (λ text. from (InText cs) fs ((text ++ 34 ∷ []) ++ rest)) (cond-true (b == 34) (34 ∷ 34 ∷ doubled bs) (b ∷ doubled bs) quote)
       ∙ taken (AfterQuote cs) (InText (cs ++ 34 ∷ [])) fs 34 more (cond-true (nat_lt (length cs) 65535) _ _ (shorter 65535 cs (length bs) fits))
       ∙ string_read (cs ++ 34 ∷ []) bs rest fs (longer 65535 cs 34 (length bs) fits) ends
       ∙ ap (λ bytes. after_value (Str bytes) fs rest) (append_assoc cs (34 ∷ []) bs ∙ ap (λ c. cs ++ c ∷ bs) (sym (eqb-true b 34 quote)))
-    | inr other ↦
+  | inr other ↦
       let more = (doubled bs ++ 34 ∷ []) ++ rest in
       ap (λ text. from (InText cs) fs ((text ++ 34 ∷ []) ++ rest)) (cond-false (b == 34) (34 ∷ 34 ∷ doubled bs) (b ∷ doubled bs) other)
       ∙ taken (InText cs) (InText (cs ++ b ∷ [])) fs b more (cond-false (b == 34) _ _ other ∙ cond-true (nat_lt (length cs) 65535) _ _ (shorter 65535 cs (length bs) fits))
       ∙ string_read (cs ++ b ∷ []) bs rest fs (longer 65535 cs b (length bs) fits) ends
       ∙ ap (λ bytes. after_value (Str bytes) fs rest) (append_assoc cs (b ∷ []) bs)
-  ]
+]
 
 -- a string is read as its bytes
 string_word : (bytes rest : List ℕ) (fs : Frames) → admits fs ≡ true → length bytes ≤ 65535 → Ends (λ b. b == 34) rest → from Gap fs (word_text (Text bytes) ++ rest) ≡ after_value (Str bytes) fs rest
@@ -173,14 +177,14 @@ string_word bytes rest fs free fits ends =
 -- a single special is read as its identifier
 single_word : (b : ℕ) (rest : List ℕ) (fs : Frames) → admits fs ≡ true → is_special b ≡ true → Ends (λ c. is_sign b && is_digit c) rest → from Gap fs (b ∷ rest) ≡ after_value (Id (b ∷ [])) fs rest
 single_word b rest fs free special ends = elim (cases_Bool (is_sign b)) [
-    | inl sign ↦
+  | inl sign ↦
       word_begins (AfterSign b) fs b rest byte.Sign (sign_class b sign) refl free
       ∙ word_ends (AfterSign b) (Id (b ∷ [])) fs (λ c. is_sign b && is_digit c) rest refl (λ c e. cond-false (is_digit c) _ _ (rw sign at e)) ends
-    | inr other ↦
+  | inr other ↦
       by_class b rest fs Special (special_class b special other)
       ∙ ap (after_byte b rest) (cond-true (admits fs) _ _ free)
       ∙ ended_after (ending (Id (b ∷ [])) fs) b rest
-  ]
+]
 
 -- ---- words
 

@@ -79,24 +79,30 @@ elements_before-none (i ∷ is) = ap (Element i) (elements_before-none is)
 
 -- the list goes on after an element, so it went on with that element
 with_element : (after : Coming) (items : List Datum) (n : ℕ) (s : Spelling) (tokens : List Token) → ListGoes after (items ++ datum_of s ∷ []) n tokens → ListGoes after items n (tokens_of s ++ tokens)
-with_element after items n s tokens goes =
-    (Next s goes.0, goes.1,
-    ap (λ l. tokens_of s ++ l) goes.2 ∙ sym (append_assoc (tokens_of s) (rest_tokens goes.0) (closes n ++ goes.1)),
-    rw (listed-append items (datum_of s) (rest_datum goes.0)) at goes.3)
+with_element after items n s tokens goes = (
+  Next s goes.0,
+  goes.1,
+  ap (λ l. tokens_of s ++ l) goes.2 ∙ sym (append_assoc (tokens_of s) (rest_tokens goes.0) (closes n ++ goes.1)),
+  rw (listed-append items (datum_of s) (rest_datum goes.0)) at goes.3,
+)
 
 -- the list goes on after its first element, so it is a list
 with_first : (after : Coming) (items : List Datum) (n : ℕ) (s : Spelling) (tokens : List Token) → ListGoes after (items ++ datum_of s ∷ []) n tokens → ElementGoes after items n (Sign Open ∷ (tokens_of s ++ tokens))
-with_first after items n s tokens goes =
-    (Listed s goes.0, goes.1,
-    ap (λ l. Sign Open ∷ l) (ap (λ l. tokens_of s ++ l) goes.2 ∙ sym (append_assoc (tokens_of s) (rest_tokens goes.0) (closes n ++ goes.1))),
-    rw (listed-append items (datum_of s) (rest_datum goes.0)) at goes.3)
+with_first after items n s tokens goes = (
+  Listed s goes.0,
+  goes.1,
+  ap (λ l. Sign Open ∷ l) (ap (λ l. tokens_of s ++ l) goes.2 ∙ sym (append_assoc (tokens_of s) (rest_tokens goes.0) (closes n ++ goes.1))),
+  rw (listed-append items (datum_of s) (rest_datum goes.0)) at goes.3,
+)
 
 -- the vector goes on after an element, so it went on with that element
 with_place : (after : Coming) (items : List Datum) (s : Spelling) (tokens : List Token) → VectorGoes after (items ++ datum_of s ∷ []) tokens → VectorGoes after items (tokens_of s ++ tokens)
-with_place after items s tokens goes =
-    (Place s goes.0, goes.1,
-    ap (λ l. tokens_of s ++ l) goes.2 ∙ sym (append_assoc (tokens_of s) (places_tokens goes.0) goes.1),
-    rw (elements_before-append items (datum_of s) (places_datum goes.0)) at goes.3)
+with_place after items s tokens goes = (
+  Place s goes.0,
+  goes.1,
+  ap (λ l. tokens_of s ++ l) goes.2 ∙ sym (append_assoc (tokens_of s) (places_tokens goes.0) goes.1),
+  rw (elements_before-append items (datum_of s) (places_datum goes.0)) at goes.3,
+)
 
 -- a spelling goes before what may come after its value
 pub element_awaited : (d : Datum) (fs : List (Frame Items)) (s : Spelling) (tokens : List Token) → admits fs ≡ true → After d fs (datum_of s) tokens → Awaited d fs (tokens_of s ++ tokens)

@@ -196,17 +196,17 @@ pub name_step : (d : Datum) (rest : List ℕ) (b : ℕ) (bs cs : List ℕ) (fs :
 name_step d rest b bs cs fs s f chars is name short =
     cond_both (is_name_byte b) (grown_to 255 cs (InName (cs ++ raised b ∷ [])) fs s) _ (λ x. Follows d rest b bs x → WordGoes d rest (word_text (Named chars)) fs (b ∷ bs))
     (λ passes f.
-        let g = grown_follows d rest b bs 255 cs (InName (cs ++ raised b ∷ [])) fs s f in
-        word_byte d rest (word_text (Named chars)) fs b bs
-        (name_longer d rest fs bs cs chars (Plain b) is (name_grows chars (Plain b) name passes) (length_of_name cs chars is g.0) g.1))
+    let g = grown_follows d rest b bs 255 cs (InName (cs ++ raised b ∷ [])) fs s f in
+    word_byte d rest (word_text (Named chars)) fs b bs
+    (name_longer d rest fs bs cs chars (Plain b) is (name_grows chars (Plain b) name passes) (length_of_name cs chars is g.0) g.1))
     (λ fails.
-        cond_both (b == 33) (grown_to 255 cs (InEscape cs) fs s) (atom_before plain (Identifier cs) b fs s) (λ x. Follows d rest b bs x → WordGoes d rest (word_text (Named chars)) fs (b ∷ bs))
-        (λ bang f.
-            let g = grown_follows d rest b bs 255 cs (InEscape cs) fs s f in
-            let w = g.1 chars is (λ c. name_grows chars (Escaped c) name refl) (length_of_name cs chars is g.0) in
-            word_byte d rest (word_text (Named chars)) fs b bs (rw (eqb-true b 33 bang) w))
-        (λ other f.
-            word_before d rest (word_text (Named chars)) fs s b bs (Named chars) refl (record { name = name; short = short }) (or_from (is_name_byte b) (b == 33) fails other) (rw is at f)))
+    cond_both (b == 33) (grown_to 255 cs (InEscape cs) fs s) (atom_before plain (Identifier cs) b fs s) (λ x. Follows d rest b bs x → WordGoes d rest (word_text (Named chars)) fs (b ∷ bs))
+    (λ bang f.
+    let g = grown_follows d rest b bs 255 cs (InEscape cs) fs s f in
+    let w = g.1 chars is (λ c. name_grows chars (Escaped c) name refl) (length_of_name cs chars is g.0) in
+    word_byte d rest (word_text (Named chars)) fs b bs (rw (eqb-true b 33 bang) w))
+    (λ other f.
+    word_before d rest (word_text (Named chars)) fs s b bs (Named chars) refl (record { name = name; short = short }) (or_from (is_name_byte b) (b == 33) fails other) (rw is at f)))
     f
 
 -- a byte after `!`
@@ -252,10 +252,10 @@ pub number_step : (d : Datum) (rest : List ℕ) (b : ℕ) (bs : List ℕ) (minus
 number_step d rest b bs minus n fs s f sign digits minus_is is number =
     cond_both (is_digit b) (in_number minus (10 * n + (b - 48)) fs s) (atom_before plain (Integer (signed minus n)) b fs s) (λ x. Follows d rest b bs x → WordGoes d rest (word_text (Number sign digits)) fs (b ∷ bs))
     (λ digit f.
-        let g = in_number_follows d rest b bs minus (10 * n + (b - 48)) fs s f in
-        number_longer d rest b bs minus n fs sign digits minus_is is number digit g.0 g.1)
+    let g = in_number_follows d rest b bs minus (10 * n + (b - 48)) fs s f in
+    number_longer d rest b bs minus n fs sign digits minus_is is number digit g.0 g.1)
     (λ none f.
-        word_before d rest (word_text (Number sign digits)) fs s b bs (Number sign digits) refl number none (rw (minus_is, is) at f))
+    word_before d rest (word_text (Number sign digits)) fs s b bs (Number sign digits) refl number none (rw (minus_is, is) at f))
     f
 
 -- a digit after a sign
@@ -291,9 +291,9 @@ text_step d rest b bs cs fs s f short =
     cond_both (b == 34) (Goes (AfterQuote cs) fs s) (grown_to 65535 cs (InText (cs ++ b ∷ [])) fs s) (λ x. Follows d rest b bs x → WordGoes d rest (34 ∷ doubled cs) fs (b ∷ bs))
     (λ quote f. word_byte d rest (34 ∷ doubled cs) fs b bs (rw (eqb-true b 34 quote) (f short)))
     (λ other f.
-        let g = grown_follows d rest b bs 65535 cs (InText (cs ++ b ∷ [])) fs s f in
-        word_byte d rest (34 ∷ doubled cs) fs b bs
-        (subst (λ l. WordGoes d rest (34 ∷ l) fs bs) (doubled-append cs (b ∷ []) ∙ ap (λ l. doubled cs ++ l) (cond-false (b == 34) (34 ∷ 34 ∷ []) (b ∷ []) other)) (g.1 (omega (arith, g.0, length-append cs (b ∷ []))))))
+    let g = grown_follows d rest b bs 65535 cs (InText (cs ++ b ∷ [])) fs s f in
+    word_byte d rest (34 ∷ doubled cs) fs b bs
+    (subst (λ l. WordGoes d rest (34 ∷ l) fs bs) (doubled-append cs (b ∷ []) ∙ ap (λ l. doubled cs ++ l) (cond-false (b == 34) (34 ∷ 34 ∷ []) (b ∷ []) other)) (g.1 (omega (arith, g.0, length-append cs (b ∷ []))))))
     f
 
 -- a byte after a `"` in a string
@@ -301,9 +301,9 @@ pub after_quote_step : (d : Datum) (rest : List ℕ) (b : ℕ) (bs cs : List ℕ
 after_quote_step d rest b bs cs fs s f short =
     cond_both (b == 34) (grown_to 65535 cs (InText (cs ++ 34 ∷ [])) fs s) (atom_before plain (String cs) b fs s) (λ x. Follows d rest b bs x → WordGoes d rest (word_text (word.Text cs)) fs (b ∷ bs))
     (λ quote f.
-        let g = grown_follows d rest b bs 65535 cs (InText (cs ++ 34 ∷ [])) fs s f in
-        let w = g.1 (omega (arith, g.0, length-append cs (34 ∷ []))) in
-        word_byte d rest (word_text (word.Text cs)) fs b bs
-        (rw (eqb-true b 34 quote) (subst (λ l. WordGoes d rest (34 ∷ l) fs bs) (doubled-append cs (34 ∷ []) ∙ sym (append_assoc (doubled cs) (34 ∷ []) (34 ∷ []))) w)))
+    let g = grown_follows d rest b bs 65535 cs (InText (cs ++ 34 ∷ [])) fs s f in
+    let w = g.1 (omega (arith, g.0, length-append cs (34 ∷ []))) in
+    word_byte d rest (word_text (word.Text cs)) fs b bs
+    (rw (eqb-true b 34 quote) (subst (λ l. WordGoes d rest (34 ∷ l) fs bs) (doubled-append cs (34 ∷ []) ∙ sym (append_assoc (doubled cs) (34 ∷ []) (34 ∷ []))) w)))
     (λ other f. word_before d rest (word_text (word.Text cs)) fs s b bs (word.Text cs) refl short other f)
     f
