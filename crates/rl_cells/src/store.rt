@@ -91,6 +91,13 @@ impl Cells {
         }
     }
 
+    /// The cells taken in all, so also the place of the next object.
+    pub fn places(&self) -> u32
+        ensures { result ≡ length self.now.cells }
+    {
+        self.taken
+    }
+
     /// Whether an object of this cost, in cells, fits.
     pub fn fits(&self, cost: u32) -> bool
         requires { cost ≤ 2147483648 }

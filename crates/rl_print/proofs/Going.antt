@@ -12,14 +12,14 @@ use Rattle.rl_world.specs.Waiting.{Follows}
 use Rattle.rl_world.specs.declared.stop.Stop.{Stop}
 use Rattle.rl_world.specs.declared.world.World.{World}
 use Rattle.rl_print.specs.Counted.{IsStop, IsTicked, last_stop, ticks}
-use Rattle.rl_print.specs.Walk.{Advances, Begins, Cuts, Ends, Fails, Goes, Halts, IsNext, IsPrinted, IsPrinting, IsReady, IsSteady, Place, Prints, Rest, Places, Shows, ShowsFront, all_printed, closed, continued, meaning, levels_left, place_in, place_printed, progress_in, setting_in, shown, stopped, waiting_places, whole, whole_printed}
+use Rattle.rl_print.specs.Walk.{Advances, Begins, Cuts, Ends, Fails, Goes, Halts, IsNext, IsPrinted, IsPrinting, IsReady, Place, Prints, Rest, Places, Shows, ShowsFront, all_printed, closed, continued, meaning, levels_left, place_in, place_printed, progress_in, setting_in, shown, stopped, waiting_places, whole, whole_printed}
 use Rattle.rl_print.specs.declared.walk.Piece.{Piece}
 use Rattle.rl_print.specs.declared.walk.State.{State}
 use Rattle.rl_print.specs.declared.walk.State.TheVariants as state
 use Rattle.rl_print.proofs.After.{IsAfter, after_refl, and_then_after, marked_after, places_after, rest_after, value_after}
-use Rattle.rl_print.proofs.Kept.{steady_trans}
 use Rattle.rl_print.proofs.Shown.{Writes, cut_more, follows_more}
 use Rattle.rl_print.proofs.Turns.{whole_after}
+use Rattle.rl_world.specs.Walks.{IsSteady, steady_trans}
 
 -- ---- what waits only adds to the text
 

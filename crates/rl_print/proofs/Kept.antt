@@ -1,59 +1,14 @@
 -- What printing keeps on the walk.
-use Rattle.std.proofs.Common.{◌≡◌, ◌≢◌, ℕ, suc, ◌+◌, ◌-◌, ◌≤◌, ◌∷◌, length, take, drop, map, Some, refl, sym, ap, ◌∙◌, arith}
+use Rattle.std.proofs.Common.{◌≡◌, ◌≢◌, ℕ, suc, ◌+◌, ◌-◌, ◌≤◌, ◌∷◌, length, map, Some, refl, sym, ap, ◌∙◌, arith}
 use Rattle.std.specs.List.{AllByRecursion}
 use Rattle.rl_cells.specs.Cell.{Store}
 use Rattle.rl_tree.specs.Atoms as atoms
 use Rattle.rl_tree.specs.Printing.{Progress}
-use Rattle.rl_world.specs.Levels.{Levels}
 use Rattle.rl_world.specs.declared.world.World.{World}
-use Rattle.rl_print.specs.Walk.{IsKept, IsReady, IsSteady, Place, all_printed, continued, kept_above, kept_place, levels_left, place_in, setting_in, waiting_places}
+use Rattle.rl_print.specs.Walk.{IsKept, IsReady, Place, all_printed, continued, kept_place, levels_left, place_in, setting_in, waiting_places}
 use Rattle.rl_print.specs.declared.walk.Cursor.{Cursor}
 use Rattle.rl_print.specs.declared.walk.State.TheVariants as state
-
--- one more is kept
-pub above_pushed : (base : ℕ) (old new : Levels) (t : ℕ × ℕ × ℕ) → new.walk ≡ t ∷ old.walk → base ≤ length old.walk → kept_above base new ≡ t ∷ kept_above base old
-above_pushed base old new t e l =
-    let n : suc (length old.walk) - base ≡ suc (length old.walk - base) = omega arith in
-    ap (λ walk. take (length walk - base) walk) e ∙ ap (λ k. take k (t ∷ old.walk)) n
-
-pub below_pushed : (base : ℕ) (old new : Levels) (t : ℕ × ℕ × ℕ) → new.walk ≡ t ∷ old.walk → base ≤ length old.walk → drop (length new.walk - base) new.walk ≡ drop (length old.walk - base) old.walk
-below_pushed base old new t e l =
-    let n : suc (length old.walk) - base ≡ suc (length old.walk - base) = omega arith in
-    ap (λ walk. drop (length walk - base) walk) e ∙ ap (λ k. drop k (t ∷ old.walk)) n
-
-pub push_steady : (base : ℕ) (old new : Levels) (t : ℕ × ℕ × ℕ) → new ≡ record old { level = old.level + 1; walk = t ∷ old.walk } → base ≤ length old.walk → IsSteady base old new
-push_steady base old new t e l =
-    let walk : new.walk ≡ t ∷ old.walk = ap (λ (v : Levels). v.walk) e in
-    let long : length new.walk ≡ suc (length old.walk) = ap length walk in
-    let level : new.level ≡ old.level + 1 = ap (λ (v : Levels). v.level) e in
-    record {
-      below = below_pushed base old new t walk l;
-      level = omega (arith, long, level);
-      bound = ap (λ (v : Levels). v.bound) e;
-      aside = ap (λ (v : Levels). v.aside) e;
-    }
-
-pub pop_steady : (base : ℕ) (old new : Levels) (t : ℕ × ℕ × ℕ) → old.walk ≡ t ∷ new.walk → new ≡ record old { level = old.level - 1; walk = new.walk } → 1 ≤ old.level → base ≤ length new.walk → IsSteady base old new
-pop_steady base old new t popped e some l =
-    let long : length old.walk ≡ suc (length new.walk) = ap length popped in
-    let level : new.level ≡ old.level - 1 = ap (λ (v : Levels). v.level) e in
-    record {
-      below = sym (below_pushed base new old t popped l);
-      level = omega (arith, long, level);
-      bound = ap (λ (v : Levels). v.bound) e;
-      aside = ap (λ (v : Levels). v.aside) e;
-    }
-
-pub steady_refl : (base : ℕ) (l : Levels) → IsSteady base l l
-steady_refl base l = record { below = refl; level = refl; bound = refl; aside = refl }
-
-pub steady_trans : (base : ℕ) (a b c : Levels) → IsSteady base a b → IsSteady base b c → IsSteady base a c
-steady_trans base a b c p q = record {
-  below = q.below ∙ p.below;
-  level = omega (arith, p.level, q.level);
-  bound = q.bound ∙ p.bound;
-  aside = q.aside ∙ p.aside;
-}
+use Rattle.rl_world.specs.Walks.{above_pushed, kept_above}
 
 pub places_pushed : (base : ℕ) (old new : World) (t : ℕ × ℕ × ℕ) (place : Place) → new.cells ≡ old.cells → new.levels.walk ≡ t ∷ old.levels.walk → base ≤ length old.levels.walk → kept_place old.cells.cells t ≡ place → waiting_places new base ≡ place ∷ waiting_places old base
 places_pushed base old new t place cells walk l is =

@@ -15,14 +15,16 @@ use Rattle.rl_tree.specs.Atoms as atoms
 use Rattle.rl_tree.specs.Printing.{Whole, NoTurn, TooDeep, Progress, Setting, column_with, marked, with_atom_of, dotted_atom, printed, value_printed}
 use Rattle.rl_world.specs.declared.world.World.{World}
 use Rattle.rl_print.specs.AtomText.{is_atom}
-use Rattle.rl_print.specs.Counted.{last_stop, turns_left}
-use Rattle.rl_print.specs.Walk.{Begins, IsCursor, IsReady, IsSteady, IsWorldOf, Place, Rest, Places, all_printed, continued, element_printed, place_printed, levels_left, meaning, place_in, progress_in, setting_in, state_weight, stopped, waiting_places, weight, whole, whole_printed}
+use Rattle.rl_print.specs.Counted.{last_stop}
+use Rattle.rl_print.specs.Walk.{Begins, IsCursor, IsReady, IsWorldOf, Place, Rest, Places, all_printed, continued, element_printed, place_printed, levels_left, meaning, place_in, progress_in, setting_in, state_weight, stopped, waiting_places, weight, whole, whole_printed}
 use Rattle.rl_print.specs.declared.walk.Cursor.{Cursor}
 use Rattle.rl_print.specs.declared.walk.Cursor.TheVariants as cursor
 use Rattle.rl_print.specs.declared.walk.Piece.TheVariants as piece
 use Rattle.rl_print.specs.declared.walk.State.{State}
 use Rattle.rl_print.specs.declared.walk.State.TheVariants as state
 use Rattle.rl_print.proofs.Steps.{atom_next, pair_wants_turn, pair_wants_level, pair_begins, vector_wants_level, vector_begins, place_done, root_atom, root_pair, root_pair_wants_turn, root_vector, rest_nil, rest_wants_turn, rest_pair, rest_vector, places_end, places_want_turn, places_go_on}
+use Rattle.rl_world.specs.Walks.{IsSteady}
+use Rattle.rl_world.specs.Counts.{turns_left}
 
 -- what printing sees of two worlds is the same
 pub record SameView (old new : World) : Type 0 where

@@ -15,10 +15,10 @@ use Rattle.rl_tree.specs.Printing.{Progress, Whole, column_with, marked, with_at
 use Rattle.rl_world.specs.Waiting.{Follows, IsCutOff}
 use Rattle.rl_world.specs.declared.world.World.{World}
 use Rattle.rl_print.specs.AtomText.{line_break}
-use Rattle.rl_print.specs.Counted.{turns_left}
 use Rattle.rl_print.specs.Walk.{Shows, ShowsFront, progress_in, setting_in, shown}
 use Rattle.rl_print.specs.declared.walk.Piece.TheVariants as piece
 use Rattle.rl_print.proofs.After.{after_trans, atom_after, marked_after}
+use Rattle.rl_world.specs.Counts.{turns_left}
 
 -- only what waits and the column have changed
 abbrev pub Writes : World → World → Type 0

@@ -1,5 +1,5 @@
 -- Where printing stands: what comes next, and what waits behind it, each in the pair or vector round the one before.
-use Rattle.std.specs.Prelude.{◌≡◌, ◌≢◌, ℕ, suc, ◌+◌, ◌-◌, ◌*◌, ◌<◌, ◌%◌, ◌≤◌, ◌==◌, Bool, true, false, if◌then◌else◌, List, [], ◌∷◌, ◌++◌, length, map, take, drop, Option, Some, None}
+use Rattle.std.specs.Prelude.{◌≡◌, ◌≢◌, ℕ, suc, ◌+◌, ◌-◌, ◌*◌, ◌<◌, ◌%◌, ◌≤◌, ◌==◌, Bool, true, false, if◌then◌else◌, List, [], ◌∷◌, ◌++◌, length, map, drop, Option, Some, None}
 use Rattle.std.specs.List.{AllByRecursion}
 use Rattle.rl_tags.specs.Tagged.{Tagged, tagged_of, index_of}
 use Rattle.rl_tags.specs.Ids.{nil_id}
@@ -9,11 +9,11 @@ use Rattle.rl_syms.specs.Contents.{value_of, store_of}
 use Rattle.rl_tree.specs.Value.{Value}
 use Rattle.rl_tree.specs.Atoms as atoms
 use Rattle.rl_tree.specs.Printing.{Setting, Progress, Ending, Whole, Printer, marked, with_atom_of, and_then, places_printed, value_printed, dotted_atom, rest_printed, job_printed, printed}
-use Rattle.rl_world.specs.Levels.{Levels}
+use Rattle.rl_world.specs.Walks.{IsSteady, kept_above}
 use Rattle.rl_world.specs.Waiting.{Follows, IsCutOff}
 use Rattle.rl_world.specs.declared.world.World.{World}
 use Rattle.rl_world.specs.declared.stop.Stop.{Stop}
-use Rattle.rl_print.specs.Counted.{IsStop, IsTicked, turns_left}
+use Rattle.rl_print.specs.Counted.{IsStop, IsTicked}
 use Rattle.rl_print.specs.declared.walk.Cursor.{Cursor}
 use Rattle.rl_print.specs.declared.walk.Cursor.TheVariants as cursor
 use Rattle.rl_print.specs.AtomText.{is_atom}
@@ -21,6 +21,7 @@ use Rattle.rl_print.specs.declared.walk.Piece.{Piece}
 use Rattle.rl_print.specs.declared.walk.Piece.TheVariants as piece
 use Rattle.rl_print.specs.declared.walk.State.{State}
 use Rattle.rl_print.specs.declared.walk.State.TheVariants as state
+use Rattle.rl_world.specs.Counts.{turns_left}
 
 -- printing, whatever the turns that are left
 unfoldable pub whole : Setting → Printer
@@ -58,10 +59,6 @@ place_in cells (cursor.Places v i dotted) = Places (i == 0) (drop i (map (value_
 -- what three words of a walk keep
 abbrev pub kept_place : List Cell → ℕ × ℕ × ℕ → Place
 kept_place cells t = if t.0 == 0 then Rest (value_of cells (tagged_of t.1)) else Places (t.2 == 0) (drop t.2 (map (value_of cells) (vector_of cells (tagged_of t.1)))) (t.0 == 2)
-
--- the words of a walk that printing keeps, above those that were there
-abbrev pub kept_above : ℕ → Levels → List (ℕ × ℕ × ℕ)
-kept_above base levels = take (length levels.walk - base) levels.walk
 
 abbrev pub waiting_places : World → ℕ → List Place
 waiting_places w base = map (kept_place w.cells.cells) (kept_above base w.levels)
@@ -141,13 +138,6 @@ abbrev pub IsPiece : List Cell → Piece → Type 0
 IsPiece cells (piece.Mark bytes) = Unit {0}
 IsPiece cells (piece.Atom v) = is_atom cells v ≡ true
 IsPiece cells (piece.Dotted v) = is_atom cells v ≡ true
-
--- levels are entered and left together with what a walk keeps, above the base alone
-pub record IsSteady (base : ℕ) (old new : Levels) : Type 0 where
-  pub below : drop (length new.walk - base) new.walk ≡ drop (length old.walk - base) old.walk
-  pub level : new.level + length old.walk ≡ old.level + length new.walk
-  pub bound : new.bound ≡ old.bound
-  pub aside : new.aside ≡ old.aside
 
 -- ---- a step
 

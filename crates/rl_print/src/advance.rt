@@ -6,11 +6,13 @@ ghost use Rattle.rl_tree.specs.Atoms as atoms;
 ghost use Rattle.rl_tree.specs.Printing.{Ending, NoTurn, Progress, TooDeep};
 ghost use Rattle.rl_world.specs.Counts.{ticked};
 ghost use Rattle.rl_print.specs.AtomText.{is_atom, style_of};
-ghost use Rattle.rl_print.specs.Counted.{IsStop, IsTicked, turns_left};
-ghost use Rattle.rl_print.specs.Walk.{IsCursor, IsKept, IsNext, IsPiece, IsReady, IsState, IsSteady, all_printed, continued, kept_place, levels_left, meaning, place_in, progress_in, setting_in, shown, state_weight, stopped, waiting_places, Advances, Begins, Ends, Fails, IsWorldOf};
+ghost use Rattle.rl_print.specs.Counted.{IsStop, IsTicked};
+ghost use Rattle.rl_print.specs.Walk.{IsCursor, IsKept, IsNext, IsPiece, IsReady, IsState, all_printed, continued, kept_place, levels_left, meaning, place_in, progress_in, setting_in, shown, state_weight, stopped, waiting_places, Advances, Begins, Ends, Fails, IsWorldOf};
 ghost use Rattle.rl_world.specs.declared.stop.Stop.TheVariants as stop;
 ghost use Rattle.rl_print.specs.declared.walk.Cursor.TheVariants as cursor;
 ghost use Rattle.rl_print.specs.declared.walk.State.TheVariants as state;
+ghost use Rattle.rl_world.specs.Walks.{IsSteady};
+ghost use Rattle.rl_world.specs.Counts.{turns_left};
 
 use crate::atom::Style;
 use crate::walk::{Cursor, Piece, State};

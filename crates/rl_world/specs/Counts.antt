@@ -39,6 +39,15 @@ ticked_at None None c = record c { turns = c.turns + 1 }
 abbrev pub ticked : Counts → Counts
 ticked c = ticked_at c.opening c.outermost c
 
+abbrev pub turns_left_at : Option ℕ → Option Expansion → ℕ → ℕ → ℕ
+turns_left_at (Some n) e turns bound = 1000000 - n
+turns_left_at None (Some e) turns bound = 100000 - e.turns
+turns_left_at None None turns bound = bound - turns
+
+-- the turns that may still be taken: of opening, of the outermost expansion, or of the run
+abbrev pub turns_left : Counts → ℕ
+turns_left c = turns_left_at c.opening c.outermost c.turns c.bound
+
 -- the run has as many cells as its bound says, but where a compilation expands
 abbrev pub cells_stop : Option Aside → ℕ → ℕ → ℕ → Option Stop
 cells_stop None used cost bound = cond (nat_le (used + cost) bound) None (Some stop.Cells)

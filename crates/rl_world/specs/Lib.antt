@@ -4,3 +4,4 @@ pub mod Levels
 pub mod Output
 pub mod Input
 pub mod Errors
+pub mod Walks

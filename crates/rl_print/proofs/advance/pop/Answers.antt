@@ -1,7 +1,8 @@
 use Rattle.std.proofs.Common.{ap, arith}
 use Rattle.rl_world.specs.declared.world.World.{World}
-use Rattle.rl_print.proofs.Kept.{kept_first, left_more, none_means, pop_steady, popped_means, ready_popped}
+use Rattle.rl_print.proofs.Kept.{kept_first, left_more, none_means, popped_means, ready_popped}
 use Rattle.rl_print.proofs.advance.pop.Goals as goal
+use Rattle.rl_world.specs.Walks.{pop_steady}
 
 pub returns-then-walk_len-base-clause-means : goal.returns-then-walk_len-base-clause-means
 returns-then-walk_len-base-clause-means c = λ style p. none_means style c.args.base c.args.w.now (omega (arith, c.walk_len.ensures, c.if-walk_len-base.true)) p

@@ -1,7 +1,8 @@
 use Rattle.std.proofs.Common.{ap}
 use Rattle.rl_world.specs.declared.world.World.{World}
-use Rattle.rl_print.proofs.Kept.{places_pushed, push_steady, ready_pushed}
+use Rattle.rl_print.proofs.Kept.{places_pushed, ready_pushed}
 use Rattle.rl_print.proofs.advance.push.Goals as goal
+use Rattle.rl_world.specs.Walks.{push_steady}
 
 pub returns-in-Ok-clause-places : goal.returns-in-Ok-clause-places
 returns-in-Ok-clause-places c = places_pushed c.args._base c.args.w.now c.walk_push.new.self _ _ (ap (λ (w : World). w.cells) c.in-Ok.ensures.entered) (ap (λ (w : World). w.levels.walk) c.in-Ok.ensures.entered) c.requires.ready.above (c.words_of-kind.ensures.place c.args.w.now.cells.cells)

@@ -1,0 +1,14 @@
+use Rattle.rl_read.proofs.KeptOpening.{opened_root}
+use Rattle.rl_read.proofs.frames.begin.Goals as goal
+
+pub returns-in-Root-clause-ok : goal.returns-in-Root-clause-ok
+returns-in-Root-clause-ok c = opened_root c.args.base c.args.w.now c.args.opening c.args.outer.now c.begun.result c.requires c.in-Root.is c.begun.ensures.frames
+
+pub returns-in-Root-clause-ready : goal.returns-in-Root-clause-ready
+returns-in-Root-clause-ready c = record {
+  table = c.requires.table;
+  above = c.requires.above;
+  kept = c.requires.kept;
+  group_is = c.begun.ensures.group c.args.w.now.cells.cells;
+  root = λ e. absurd (c.begun.ensures.inside e);
+}

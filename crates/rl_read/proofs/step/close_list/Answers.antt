@@ -1,0 +1,13 @@
+use Rattle.rl_read.proofs.Closed.{no_list_closes}
+use Rattle.rl_read.proofs.Making.{reading_refl}
+use Rattle.rl_read.proofs.step.close_list.Goals as goal
+
+pub returns-in_default : goal.returns-in_default
+returns-in_default c = record {
+  ok = λ t. no_list_closes t c.args.base c.args.w.now c.args.group.now c.requires.ready c.in_default.not-List;
+  stop = tt;
+  counted = tt;
+  step = (c.args.group.now, c.requires.ready);
+  table = c.requires.ready.table;
+  reading = reading_refl c.args.base c.args.w.now;
+}

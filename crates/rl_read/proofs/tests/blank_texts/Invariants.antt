@@ -1,0 +1,8 @@
+use Rattle.std.proofs.Common.{◌≡◌, ◌≤◌, length, IsTrue, IfOk, ℕ, ◌+◌, ◌-◌, ◌*◌, ◌<◌}
+use Rattle.std.specs.Option.{ForSome}
+use Rattle.rl_cells.specs.Cell.{bytes_of, is_live, is_pair, is_str, is_vector}
+use Rattle.rl_syms.specs.Table.{IsTable}
+use Rattle.rl_read.proofs.tests.blank_texts.Given as goal
+
+abbrev pub invariant-loop-text : goal.invariant-loop-text
+invariant-loop-text g l = IsTable l.w.cells.cells l.w.syms.head

@@ -1,0 +1,51 @@
+-- What a text gives, and the turns that its bytes take.
+use Rattle.std.specs.Prelude.{◌≡◌, ℕ, Bool, true, false, List, ◌∷◌, Option, Some, None}
+use Rattle.rl_io.specs.Told.{WhereTold}
+use Rattle.rl_world.specs.Counts.{tick_stop, ticked}
+use Rattle.rl_world.specs.declared.world.World.{World}
+use Rattle.rl_world.specs.declared.stop.Stop.{Stop}
+use Rattle.rl_world.specs.declared.stop.Stop.TheVariants as stop
+
+-- the bytes of a slice, and how many of them were given
+pub record Slice : Type 0 where
+  pub bytes : List ℕ
+  pub at : ℕ
+
+-- the input, or the output, failed
+abbrev pub is_fault : Stop → Bool
+is_fault stop.Read = true
+is_fault stop.Write = true
+is_fault s = false
+
+-- a turn, a level or room was wanting
+abbrev pub is_counted : Stop → Bool
+is_counted stop.Turns = true
+is_counted stop.Cells = true
+is_counted stop.Depth = true
+is_counted (stop.Expansion name) = true
+is_counted s = false
+
+-- a turn was left and was taken
+pub record IsTurn (old new : World) : Type 0 where
+  pub some : tick_stop old.counts ≡ None
+  pub counted : new.counts ≡ ticked old.counts
+
+-- a byte takes a turn where bytes take turns, the end takes none
+abbrev pub IsGiven : Bool → World → World → Option ℕ → Type 0
+IsGiven true old new (Some b) = IsTurn old new
+IsGiven turns old new b = new.counts ≡ old.counts
+
+-- a byte was given, and no turn was left for it
+pub record IsWithoutTurn (before now : Option (List ℕ)) (old new : World) (s : Stop) : Type 0 where
+  pub stop_is : tick_stop old.counts ≡ Some s
+  pub counts : new.counts ≡ old.counts
+  pub given : WhereTold before now (λ before now. (b : ℕ) × (before ≡ b ∷ now))
+
+abbrev pub WantsTurn : Bool → Option (List ℕ) → Option (List ℕ) → World → World → Stop → Type 0
+WantsTurn true before now old new s = IsWithoutTurn before now old new s
+WantsTurn false before now old new s = ⊥
+
+-- the byte that was given may be put back
+abbrev pub HasGiven : (ℕ → Type 0) → Option ℕ → Type 0
+HasGiven may None = Unit {0}
+HasGiven may (Some b) = may b

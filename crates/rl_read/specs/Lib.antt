@@ -1,0 +1,6 @@
+pub mod Stock
+pub mod Given
+pub mod Frames
+pub mod Steps
+pub mod Reads
+pub mod Laws

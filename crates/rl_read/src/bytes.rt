@@ -1,0 +1,169 @@
+//! Texts, byte by byte.
+ghost use Rattle.std.specs.Prelude.{◌≡◌, ◌≢◌, ◌<◌, ◌≤◌, ◌-◌, ◌+◌, ◌∷◌, ◌++◌, ◌⊎◌, ℕ, Bool, true, false, List, [], Option, Some, None, Err, length, drop, slice_get, option_map, IfOk, IfErr, OnErr, IsSome, IsErr};
+ghost use Rattle.rl_io.specs.Faults.{Rose};
+ghost use Rattle.rl_io.specs.Told.{WhereTold};
+ghost use Rattle.rl_world.specs.Input.{Gives, Input, with_back};
+ghost use Rattle.rl_world.specs.Counts.{tick_stop, ticked};
+ghost use Rattle.rl_world.specs.declared.stop.Stop.{Stop};
+ghost use Rattle.rl_world.specs.declared.stop.Stop.TheVariants as stop;
+ghost use Rattle.rl_read.specs.Given.{HasGiven, IsGiven, WantsTurn, is_fault};
+
+use rl_io::{Files, Io, Sink, Source};
+use rl_world::{Stop, World};
+use std::marker::Model;
+
+/// A text that gives its bytes one by one and takes the last one back.
+///
+/// It may tell which bytes are left. Its bytes take turns, or none does and reading changes nothing of the world. What it
+/// tells rests on the text and on the world's place in the input alone.
+pub trait Bytes {
+    /// Whether each byte that is given takes a turn.
+    ghost takes_turns: { Self → Bool };
+
+    /// The bytes that are left, where they are told.
+    ghost left: { Self → Input → Option (List ℕ) };
+
+    /// A number that each byte lowers, where bytes take no turns.
+    ghost number: { Self → Input → ℕ };
+
+    /// What is printed, where it is told: what the sink holds, and then these bytes, which wait.
+    ghost printed: { Self → List ℕ → Option (List ℕ) };
+
+    /// The count of failed reads.
+    ghost reads: { Self → ℕ };
+
+    /// The count of failed writes.
+    ghost writes: { Self → ℕ };
+
+    /// This byte may be put back.
+    ghost may_put: { Self → Input → ℕ → Type 0 };
+
+    /// The next byte; None exactly where none is left. It takes a turn, where bytes take turns.
+    fn next(&mut self, w: &mut World) -> Result<Option<u8>, Stop>
+        ensures gives { IfOk result (λ b. WhereTold (left self.old w.old.input) (left self.new w.new.input) (λ before now. Gives before now b)) }
+        ensures turn { IfOk result (λ b. IsGiven (takes_turns self.old) w.old w.new b) }
+        ensures stop { IfErr result (λ s. WantsTurn (takes_turns self.old) (left self.old w.old.input) (left self.new w.new.input) w.old w.new s ⊎ (is_fault s ≡ true)) }
+        ensures lower { IfOk result (λ b. IsSome b → takes_turns self.old ≡ false → number self.new w.new.input < number self.old w.old.input) }
+        ensures put { IfOk result (λ b. HasGiven (may_put self.new w.new.input) b) }
+        ensures printed { result ≢ Err stop.Write → WhereTold (printed self.old w.old.output.waiting) (printed self.new w.new.output.waiting) (λ before now. now ≡ before) }
+        ensures read_failed { result ≡ Err stop.Read → Rose (reads self.old) (reads self.new) }
+        ensures write_failed { result ≡ Err stop.Write → Rose (writes self.old) (writes self.new) }
+        ensures steady_reads { result ≢ Err stop.Read → reads self.new ≡ reads self.old }
+        ensures steady_writes { result ≢ Err stop.Write → writes self.new ≡ writes self.old }
+        ensures same { takes_turns self.new ≡ takes_turns self.old }
+        ensures world { w.new ≡ record w.old { counts = w.new.counts; output = record w.old.output { waiting = w.new.output.waiting }; input = w.new.input } }
+        ensures leaves { takes_turns self.old ≡ false → w.new ≡ w.old };
+
+    /// Puts back the byte that was given last.
+    fn back(&mut self, w: &mut World, b: u8)
+        requires { may_put self.old w.old.input b }
+        ensures back { WhereTold (left self.old w.old.input) (left self.new w.new.input) (λ before now. now ≡ b ∷ before) }
+        ensures printed { WhereTold (printed self.old w.old.output.waiting) (printed self.new w.new.output.waiting) (λ before now. now ≡ before) }
+        ensures steady_reads { reads self.new ≡ reads self.old }
+        ensures steady_writes { writes self.new ≡ writes self.old }
+        ensures same { takes_turns self.new ≡ takes_turns self.old }
+        ensures world { w.new ≡ record w.old { input = w.new.input } }
+        ensures leaves { takes_turns self.old ≡ false → w.new ≡ w.old };
+}
+
+/// The bytes of a slice. They take no turns. A contract sees all of them, and how many were given.
+#[derive(Drop)]
+pub struct SliceBytes<'a> {
+    bytes: &'a [u8],
+    at: usize,
+}
+
+impl<'a> Model for SliceBytes<'a> {
+    ghost use Rattle.std.specs.Prelude.{◌≤◌, length};
+    ghost use Rattle.rl_read.specs.Given.{Slice};
+
+    ghost Value = { Slice };
+
+    ghost view = { λ a. record { bytes = a.bytes.now; at = a.at } };
+
+    ghost invariant = { λ a. a.at ≤ length a.bytes.now };
+}
+
+impl<'a> SliceBytes<'a> {
+    /// All bytes of the slice.
+    pub fn new(bytes: &'a [u8]) -> SliceBytes<'a>
+        ensures { result ≡ record { bytes = bytes.now; at = 0 } }
+    {
+        SliceBytes { bytes, at: 0 }
+    }
+}
+
+impl Bytes for SliceBytes<'_> {
+    ghost takes_turns = { λ _. false };
+
+    ghost left = { λ s _. Some (drop s.at s.bytes) };
+
+    ghost number = { λ s _. length s.bytes - s.at };
+
+    ghost printed = { λ _ waiting. Some waiting };
+
+    ghost reads = { λ _. 0 };
+
+    ghost writes = { λ _. 0 };
+
+    ghost may_put = { λ s _ b. (1 ≤ s.at) × (slice_get s.bytes (s.at - 1) ≡ Some b) };
+
+    fn next(&mut self, _w: &mut World) -> Result<Option<u8>, Stop> {
+        if self.at == self.bytes.len() {
+            return Ok(None);
+        }
+        let b = self.bytes[self.at];
+        self.at += 1;
+        Ok(Some(b))
+    }
+
+    fn back(&mut self, _w: &mut World, _b: u8) {
+        self.at -= 1;
+    }
+}
+
+/// The bytes of the input. Each that is given takes a turn.
+#[derive(Drop)]
+pub struct InputBytes<'a, 'b, I: Source, O: Sink, N: Sink, F: Files> {
+    io: &'a mut Io<'b, I, O, N, F>,
+}
+
+impl<'a, 'b, I: Source, O: Sink, N: Sink, F: Files> InputBytes<'a, 'b, I, O, N, F> {
+    /// The bytes that are left of the input.
+    pub fn new(io: &'a mut Io<'b, I, O, N, F>) -> InputBytes<'a, 'b, I, O, N, F> {
+        InputBytes { io }
+    }
+}
+
+impl<I: Source, O: Sink, N: Sink, F: Files> Bytes for InputBytes<'_, '_, I, O, N, F> {
+    ghost takes_turns = { λ _. true };
+
+    ghost left = { λ t input. option_map (with_back input.back) (I.left t.io.now.input.now) };
+
+    ghost number = { λ _ _. 0 };
+
+    ghost printed = { λ t waiting. option_map (λ bytes. bytes ++ waiting) (O.contents t.io.now.out.now) };
+
+    ghost reads = { λ t. I.faults t.io.now.input.now };
+
+    ghost writes = { λ t. O.faults t.io.now.out.now };
+
+    ghost may_put = { λ _ input b. (input.back ≡ None) × (1 ≤ input.given) };
+
+    fn next(&mut self, w: &mut World) -> Result<Option<u8>, Stop> {
+        let b = match w.input_byte(self.io) {
+            Ok(b) => b,
+            Err(s) => return Err(s),
+        };
+        if b.is_some() {
+            if let Err(s) = w.tick() {
+                return Err(s);
+            }
+        }
+        Ok(b)
+    }
+
+    fn back(&mut self, w: &mut World, b: u8) {
+        w.input_back(b);
+    }
+}

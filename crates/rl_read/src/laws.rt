@@ -1,0 +1,15 @@
+//! Laws of reading in a world. A law is the contract of a function that does nothing.
+ghost use Rattle.rl_read.specs.Laws.{ReadsText};
+
+use rl_text::laws::{blank_text_has_none, unreadable_at_first_byte, what_is_found_is_spelled};
+
+/// What is read in a world is what Lisp text says: a form is read only where the bytes begin with a spelling, and what is
+/// left follows it; none is found only where nothing but blanks and comments is there; and bytes are refused only at the
+/// first of them with which no spelling goes on, or at their end inside a spelling.
+pub fn reading_is_of_text()
+    ensures { ReadsText }
+{
+    what_is_found_is_spelled();
+    blank_text_has_none();
+    unreadable_at_first_byte();
+}

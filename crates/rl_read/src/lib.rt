@@ -1,0 +1,16 @@
+//! Lisp text is read into a world: `read_form` over texts in memory and over the input.
+#![tactic(auto)]
+
+mod bytes;
+mod frames;
+pub mod laws;
+mod make;
+mod read;
+mod step;
+mod word;
+
+pub use bytes::{Bytes, InputBytes, SliceBytes};
+pub use read::{ReadFault, read_form};
+
+#[cfg(test)]
+mod tests;

@@ -1,0 +1,644 @@
+//! One byte of a text.
+ghost use Rattle.std.specs.Prelude.{◌≡◌, ◌≢◌, ◌≤◌, ◌<◌, ◌+◌, ◌-◌, ◌*◌, ℕ, Bool, true, false, List, [], ◌∷◌, ◌++◌, Some, length, IsTrue, IfOk, IfErr};
+ghost use Rattle.rl_tags.specs.Tagged.{Number};
+ghost use Rattle.rl_cells.specs.Cell.{is_live};
+ghost use Rattle.rl_syms.specs.Table.{IsTable};
+ghost use Rattle.rl_tree.specs.Bytes.{is_digit};
+ghost use Rattle.rl_text.specs.Reader as reader;
+ghost use Rattle.rl_text.specs.Byte as byte;
+ghost use Rattle.rl_text.specs.Word as word;
+ghost use Rattle.rl_text.specs.Maker.{Has};
+ghost use Rattle.rl_world.specs.declared.world.World.{World};
+ghost use Rattle.rl_read.specs.Given.{is_counted};
+ghost use Rattle.rl_read.specs.Stock.{in_stock, stock_of};
+ghost use Rattle.rl_read.specs.Frames.{IsChain, IsMaking, IsReading, IsReady, chain_of, frames_around, frames_in, is_quote_group, vector_in_group};
+ghost use Rattle.rl_read.specs.Steps.{IsAtom, IsEnded, IsHalting, IsLacking, IsMode, IsNumber, IsStep, atom_of, ended_of, inner_ended, is_digits_mode, is_text_mode, mark_of, may_end, mode_of, opens_at, step_of, word_atom};
+ghost use Rattle.rl_read.specs.declared.frames.Group.TheVariants as rl_group;
+ghost use Rattle.rl_read.specs.declared.frames.Phase.TheVariants as rl_phase;
+ghost use Rattle.rl_read.specs.declared.word.Mode.TheVariants as mode;
+
+use crate::frames::{Chain, Group, Opening, Phase, admits, around, begin, first_of};
+use crate::make::{Atom, end_with, extended, make_atom, quoted, vector};
+use crate::word::{
+    Class, LONGEST_NAME, LONGEST_TEXT, Mark, Mode, Word, class_of, is_name_byte, raised,
+};
+use rl_tags::{NIL, Val};
+use rl_world::{Stop, World};
+
+/// 2^59, the greatest number after `-`.
+const LEAST: u64 = 576_460_752_303_423_488;
+
+/// What a byte does: reading goes on; the text has ended, with this byte or before it; or this byte has no place.
+#[derive(Clone, Copy)]
+pub(crate) enum Step {
+    Goes(Mode, Group),
+    Done(Val, bool),
+    Refuses,
+}
+
+/// After an element: the whole text has ended with it, or it goes on.
+#[derive(Clone, Copy)]
+pub(crate) enum Ended {
+    Whole(Val),
+    Inside(Group),
+}
+
+/// An element has ended.
+pub(crate) fn value_ended(w: &mut World, v: Val, group: Group, base: u64) -> Result<Ended, Stop>
+    requires ready { IsReady base w.old group }
+    requires live { IsTrue (is_live w.old.cells.cells v) }
+    ensures ok { IfOk result (λ e. (t : Bool) → reader.value_ended (in_stock t) v (frames_in base w.old group) (stock_of w.old) ≡ ended_of base w.new e) }
+    ensures stop { IfErr result (λ s. IsLacking (λ t. reader.value_ended (in_stock t) v (frames_in base w.old group) (stock_of w.old)) s) }
+    ensures counted { IfErr result (λ s. is_counted s ≡ true) }
+    ensures ended { IfOk result (λ e. IsEnded base w.new e) }
+    ensures table { IsTable w.new.cells.cells w.new.syms.head }
+    ensures reading { IsReading base w.old w.new }
+{
+    let mut v = v;
+    let mut group = group;
+    while is_quote(&group) {
+        v = match quoted(w, v) {
+            Ok(q) => q,
+            Err(s) => return Err(s),
+        };
+        group = around(w, &group, base);
+    }
+    in_place(w, v, group, base)
+}
+
+/// Whether an element of this is quoted.
+fn is_quote(group: &Group) -> bool
+    ensures { result ≡ is_quote_group group.now }
+{
+    match group {
+        Group::Quote | Group::QuoteBehind(_, _) => true,
+        _ => false,
+    }
+}
+
+/// An element has ended in a list or a vector, behind a dot, or with the text.
+fn in_place(w: &mut World, v: Val, group: Group, base: u64) -> Result<Ended, Stop>
+    requires ready { IsReady base w.old group }
+    requires place { is_quote_group group ≡ false }
+    requires live { IsTrue (is_live w.old.cells.cells v) }
+    ensures ok { IfOk result (λ e. (t : Bool) → reader.value_ended (in_stock t) v (frames_in base w.old group) (stock_of w.old) ≡ ended_of base w.new e) }
+    ensures stop { IfErr result (λ s. IsLacking (λ t. reader.value_ended (in_stock t) v (frames_in base w.old group) (stock_of w.old)) s) }
+    ensures counted { IfErr result (λ s. is_counted s ≡ true) }
+    ensures ended { IfOk result (λ e. IsEnded base w.new e) }
+    ensures table { IsTable w.new.cells.cells w.new.syms.head }
+    ensures making { IsMaking w.old w.new }
+{
+    match group {
+        Group::Vector(c) => match extended(w, &c, v) {
+            Ok(c) => Ok(Ended::Inside(Group::Vector(c))),
+            Err(s) => Err(s),
+        },
+        Group::VectorBehind(c, l, owed) => match extended(w, &c, v) {
+            Ok(c) => Ok(Ended::Inside(Group::VectorBehind(c, l, owed))),
+            Err(s) => Err(s),
+        },
+        Group::List(l, owed, phase) => in_list(w, v, l, owed, phase, base),
+        _ => Ok(Ended::Whole(v)),
+    }
+}
+
+/// An element of a list has ended, or what stands behind its dot.
+fn in_list(
+    w: &mut World,
+    v: Val,
+    l: Chain,
+    owed: u32,
+    phase: Phase,
+    base: u64,
+) -> Result<Ended, Stop>
+    requires ready { IsReady base w.old (rl_group.List l owed phase) }
+    requires live { IsTrue (is_live w.old.cells.cells v) }
+    ensures ok { IfOk result (λ e. (t : Bool) → reader.value_ended (in_stock t) v (frames_in base w.old (rl_group.List l owed phase)) (stock_of w.old) ≡ ended_of base w.new e) }
+    ensures stop { IfErr result (λ s. IsLacking (λ t. reader.value_ended (in_stock t) v (frames_in base w.old (rl_group.List l owed phase)) (stock_of w.old)) s) }
+    ensures counted { IfErr result (λ s. is_counted s ≡ true) }
+    ensures ended { IfOk result (λ e. IsEnded base w.new e) }
+    ensures table { IsTable w.new.cells.cells w.new.syms.head }
+    ensures making { IsMaking w.old w.new }
+{
+    match phase {
+        Phase::Dotted => {
+            end_with(w, &l, v);
+            Ok(Ended::Inside(Group::List(l, owed, Phase::Shut)))
+        }
+        _ => match extended(w, &l, v) {
+            Ok(l) => Ok(Ended::Inside(Group::List(l, owed, Phase::Going))),
+            Err(s) => Err(s),
+        },
+    }
+}
+
+/// A list, a vector or a quote has ended with this byte.
+fn bracket_ended(w: &mut World, v: Val, group: &Group, base: u64) -> Result<Step, Stop>
+    requires ready { IsReady base w.old group.now }
+    requires inside { group.now ≢ rl_group.Root }
+    requires live { IsTrue (is_live w.old.cells.cells v) }
+    ensures ok { IfOk result (λ r. (t : Bool) → reader.goes_after (reader.value_ended (in_stock t) v (frames_around base w.old group.now) (reader.left (in_stock t) (frames_around base w.old group.now) (stock_of w.old))) ≡ step_of base w.new [] r) }
+    ensures stop { IfErr result (λ s. IsHalting (λ t. reader.goes_after (reader.value_ended (in_stock t) v (frames_around base w.old group.now) (reader.left (in_stock t) (frames_around base w.old group.now) (stock_of w.old)))) s) }
+    ensures counted { IfErr result (λ s. is_counted s ≡ true) }
+    ensures step { IfOk result (λ r. IsStep base w.new [] r) }
+    ensures table { IsTable w.new.cells.cells w.new.syms.head }
+    ensures reading { IsReading base w.old w.new }
+{
+    let outer = around(w, group, base);
+    match value_ended(w, v, outer, base) {
+        Ok(ended) => Ok(goes_after(ended)),
+        Err(s) => Err(s),
+    }
+}
+
+/// An element has ended with this byte.
+fn goes_after(ended: Ended) -> Step
+    ensures step { (base : ℕ) (w : World) (bytes : List ℕ) → reader.goes_after (ended_of base w ended) ≡ step_of base w bytes result }
+    ensures ready { (base : ℕ) (w : World) (bytes : List ℕ) → IsEnded base w ended → IsStep base w bytes result }
+{
+    match ended {
+        Ended::Whole(v) => Step::Done(v, true),
+        Ended::Inside(group) => Step::Goes(Mode::Gap, group),
+    }
+}
+
+/// `)`.
+fn close_list(w: &mut World, group: &Group, base: u64) -> Result<Step, Stop>
+    requires ready { IsReady base w.old group.now }
+    ensures ok { IfOk result (λ r. (t : Bool) → reader.close_list (in_stock t) (frames_in base w.old group.now) (stock_of w.old) ≡ step_of base w.new [] r) }
+    ensures stop { IfErr result (λ s. IsHalting (λ t. reader.close_list (in_stock t) (frames_in base w.old group.now) (stock_of w.old)) s) }
+    ensures counted { IfErr result (λ s. is_counted s ≡ true) }
+    ensures step { IfOk result (λ r. IsStep base w.new [] r) }
+    ensures table { IsTable w.new.cells.cells w.new.syms.head }
+    ensures reading { IsReading base w.old w.new }
+{
+    match group {
+        Group::List(l, owed, phase) => close_at(w, l, *owed, phase, group, base),
+        _ => Ok(Step::Refuses),
+    }
+}
+
+fn close_at(
+    w: &mut World,
+    l: &Chain,
+    owed: u32,
+    phase: &Phase,
+    group: &Group,
+    base: u64,
+) -> Result<Step, Stop>
+    requires ready { IsReady base w.old group.now }
+    requires list { group.now ≡ rl_group.List l.now owed phase.now }
+    ensures ok { IfOk result (λ r. (t : Bool) → reader.close_list (in_stock t) (frames_in base w.old group.now) (stock_of w.old) ≡ step_of base w.new [] r) }
+    ensures stop { IfErr result (λ s. IsHalting (λ t. reader.close_list (in_stock t) (frames_in base w.old group.now) (stock_of w.old)) s) }
+    ensures counted { IfErr result (λ s. is_counted s ≡ true) }
+    ensures step { IfOk result (λ r. IsStep base w.new [] r) }
+    ensures table { IsTable w.new.cells.cells w.new.syms.head }
+    ensures reading { IsReading base w.old w.new }
+{
+    match phase {
+        Phase::Dotted => Ok(Step::Refuses),
+        _ => close_level(w, l, owed, phase, group, base),
+    }
+}
+
+/// `)` where nothing is wanting behind a dot: the list ends, or the one that stands behind a dot in it.
+fn close_level(
+    w: &mut World,
+    l: &Chain,
+    owed: u32,
+    phase: &Phase,
+    group: &Group,
+    base: u64,
+) -> Result<Step, Stop>
+    requires ready { IsReady base w.old group.now }
+    requires list { group.now ≡ rl_group.List l.now owed phase.now }
+    requires undotted { phase.now ≢ rl_phase.Dotted }
+    ensures ok { IfOk result (λ r. (t : Bool) → reader.close_list (in_stock t) (frames_in base w.old group.now) (stock_of w.old) ≡ step_of base w.new [] r) }
+    ensures stop { IfErr result (λ s. IsHalting (λ t. reader.close_list (in_stock t) (frames_in base w.old group.now) (stock_of w.old)) s) }
+    ensures counted { IfErr result (λ s. is_counted s ≡ true) }
+    ensures step { IfOk result (λ r. IsStep base w.new [] r) }
+    ensures table { IsTable w.new.cells.cells w.new.syms.head }
+    ensures reading { IsReading base w.old w.new }
+{
+    if owed == 0 {
+        bracket_ended(w, first_of(l), group, base)
+    } else {
+        end_inner(w, l, phase);
+        Ok(Step::Goes(Mode::Gap, Group::List(*l, owed - 1, Phase::Shut)))
+    }
+}
+
+/// A list that stands behind a dot ends: with NIL, but where it has had its own dot.
+fn end_inner(w: &mut World, l: &Chain, phase: &Phase)
+    requires table { IsTable w.old.cells.cells w.old.syms.head }
+    requires chain { IsChain w.old.cells.cells l.now }
+    ensures ended { inner_ended phase.now (chain_of l.now) (stock_of w.old) ≡ Has (chain_of l.now) (stock_of w.new) }
+    ensures same { length w.new.cells.cells ≡ length w.old.cells.cells }
+    ensures table { IsTable w.new.cells.cells w.new.syms.head }
+    ensures making { IsMaking w.old w.new }
+{
+    match phase {
+        Phase::Shut => {}
+        _ => end_with(w, l, NIL),
+    }
+}
+
+/// `]`.
+fn close_vector(w: &mut World, group: &Group, base: u64) -> Result<Step, Stop>
+    requires ready { IsReady base w.old group.now }
+    ensures ok { IfOk result (λ r. (t : Bool) → reader.close_vector (in_stock t) (frames_in base w.old group.now) (stock_of w.old) ≡ step_of base w.new [] r) }
+    ensures stop { IfErr result (λ s. IsHalting (λ t. reader.close_vector (in_stock t) (frames_in base w.old group.now) (stock_of w.old)) s) }
+    ensures counted { IfErr result (λ s. is_counted s ≡ true) }
+    ensures step { IfOk result (λ r. IsStep base w.new [] r) }
+    ensures table { IsTable w.new.cells.cells w.new.syms.head }
+    ensures reading { IsReading base w.old w.new }
+{
+    match group {
+        Group::Vector(c) => vector_closed(w, c, group, base),
+        Group::VectorBehind(c, _, _) => vector_closed(w, c, group, base),
+        _ => Ok(Step::Refuses),
+    }
+}
+
+fn vector_closed(w: &mut World, c: &Chain, group: &Group, base: u64) -> Result<Step, Stop>
+    requires ready { IsReady base w.old group.now }
+    requires vector { vector_in_group group.now ≡ Some c.now }
+    ensures ok { IfOk result (λ r. (t : Bool) → reader.close_vector (in_stock t) (frames_in base w.old group.now) (stock_of w.old) ≡ step_of base w.new [] r) }
+    ensures stop { IfErr result (λ s. IsHalting (λ t. reader.close_vector (in_stock t) (frames_in base w.old group.now) (stock_of w.old)) s) }
+    ensures counted { IfErr result (λ s. is_counted s ≡ true) }
+    ensures step { IfOk result (λ r. IsStep base w.new [] r) }
+    ensures table { IsTable w.new.cells.cells w.new.syms.head }
+    ensures reading { IsReading base w.old w.new }
+{
+    let v = match vector(w, c) {
+        Ok(v) => v,
+        Err(s) => return Err(s),
+    };
+    bracket_ended(w, v, group, base)
+}
+
+/// `.`.
+fn dot(group: &Group) -> Step
+    ensures step { (base : ℕ) (w : World) (t : Bool) → IsReady base w group.now → reader.dot (in_stock t) (frames_in base w group.now) (stock_of w) ≡ step_of base w [] result }
+    ensures ready { (base : ℕ) (w : World) → IsReady base w group.now → IsStep base w [] result }
+{
+    match group {
+        Group::List(l, owed, phase) => match phase {
+            Phase::Going => Step::Goes(Mode::Gap, Group::List(*l, *owed, Phase::Dotted)),
+            _ => Step::Refuses,
+        },
+        _ => Step::Refuses,
+    }
+}
+
+fn at_mark(w: &mut World, mark: Mark, group: &Group, base: u64) -> Result<Step, Stop>
+    requires ready { IsReady base w.old group.now }
+    ensures ok { IfOk result (λ r. (t : Bool) → reader.at_mark (in_stock t) (mark_of mark) (frames_in base w.old group.now) (stock_of w.old) ≡ step_of base w.new [] r) }
+    ensures stop { IfErr result (λ s. IsHalting (λ t. reader.at_mark (in_stock t) (mark_of mark) (frames_in base w.old group.now) (stock_of w.old)) s) }
+    ensures counted { IfErr result (λ s. is_counted s ≡ true) }
+    ensures step { IfOk result (λ r. IsStep base w.new [] r) }
+    ensures table { IsTable w.new.cells.cells w.new.syms.head }
+    ensures reading { IsReading base w.old w.new }
+{
+    match mark {
+        Mark::Close => close_list(w, group, base),
+        Mark::CloseVector => close_vector(w, group, base),
+        Mark::Dot => Ok(dot(group)),
+        Mark::Open => opens(w, Opening::List, group, base),
+        Mark::OpenVector => opens(w, Opening::Vector, group, base),
+        Mark::Quote => opens(w, Opening::Quote, group, base),
+    }
+}
+
+/// `(`, `[` or `'`.
+fn opens(w: &mut World, opening: Opening, group: &Group, base: u64) -> Result<Step, Stop>
+    requires ready { IsReady base w.old group.now }
+    ensures ok { IfOk result (λ r. (t : Bool) → opens_at (in_stock t) opening (frames_in base w.old group.now) (stock_of w.old) ≡ step_of base w.new [] r) }
+    ensures stop { IfErr result (λ s. IsHalting (λ t. opens_at (in_stock t) opening (frames_in base w.old group.now) (stock_of w.old)) s) }
+    ensures counted { IfErr result (λ s. is_counted s ≡ true) }
+    ensures step { IfOk result (λ r. IsStep base w.new [] r) }
+    ensures table { IsTable w.new.cells.cells w.new.syms.head }
+    ensures reading { IsReading base w.old w.new }
+{
+    if !admits(group) {
+        return Ok(Step::Refuses);
+    }
+    match begin(w, opening, group, base) {
+        Ok(group) => Ok(Step::Goes(Mode::Gap, group)),
+        Err(s) => Err(s),
+    }
+}
+
+/// A word begins.
+fn in_word(mode: Mode, group: Group) -> Step
+    ensures step { (base : ℕ) (w : World) (bytes : List ℕ) → IsReady base w group → reader.in_word (mode_of mode bytes) (frames_in base w group) (stock_of w) ≡ step_of base w bytes result }
+    ensures ready { (base : ℕ) (w : World) (bytes : List ℕ) → IsReady base w group → IsMode mode bytes → IsStep base w bytes result }
+{
+    if admits(&group) {
+        Step::Goes(mode, group)
+    } else {
+        Step::Refuses
+    }
+}
+
+/// A byte in a gap. The word that comes begins anew.
+fn at_gap(w: &mut World, b: u8, group: Group, word: &mut Word, base: u64) -> Result<Step, Stop>
+    requires ready { IsReady base w.old group }
+    ensures ok { IfOk result (λ r. (t : Bool) → reader.at_gap (in_stock t) b (frames_in base w.old group) (stock_of w.old) ≡ step_of base w.new word.new.items r) }
+    ensures stop { IfErr result (λ s. IsHalting (λ t. reader.at_gap (in_stock t) b (frames_in base w.old group) (stock_of w.old)) s) }
+    ensures counted { IfErr result (λ s. is_counted s ≡ true) }
+    ensures step { IfOk result (λ r. IsStep base w.new word.new.items r) }
+    ensures table { IsTable w.new.cells.cells w.new.syms.head }
+    ensures reading { IsReading base w.old w.new }
+{
+    word.clear();
+    match class_of(b) {
+        Class::Blank => Ok(Step::Goes(Mode::Gap, group)),
+        Class::Percent => Ok(Step::Goes(Mode::Comment, group)),
+        Class::Marks(mark) => at_mark(w, mark, &group, base),
+        Class::Text => Ok(in_word(Mode::Text, group)),
+        Class::Escape => Ok(in_word(Mode::Escape, group)),
+        Class::Letter => {
+            word.push(raised(b));
+            Ok(in_word(Mode::Name, group))
+        }
+        Class::Digit => Ok(in_word(Mode::Number(false, u64::from(b - 48)), group)),
+        Class::Sign => Ok(in_word(Mode::Sign(b), group)),
+        Class::Special => at_special(w, b, group, base),
+        Class::Nothing => Ok(Step::Refuses),
+    }
+}
+
+/// One special is an identifier.
+fn at_special(w: &mut World, b: u8, group: Group, base: u64) -> Result<Step, Stop>
+    requires ready { IsReady base w.old group }
+    ensures ok { IfOk result (λ r. (t : Bool) → reader.at_class (in_stock t) byte.Special b (frames_in base w.old group) (stock_of w.old) ≡ step_of base w.new [] r) }
+    ensures stop { IfErr result (λ s. IsHalting (λ t. reader.at_class (in_stock t) byte.Special b (frames_in base w.old group) (stock_of w.old)) s) }
+    ensures counted { IfErr result (λ s. is_counted s ≡ true) }
+    ensures step { IfOk result (λ r. IsStep base w.new [] r) }
+    ensures table { IsTable w.new.cells.cells w.new.syms.head }
+    ensures reading { IsReading base w.old w.new }
+{
+    if !admits(&group) {
+        return Ok(Step::Refuses);
+    }
+    match atom_ended(w, Atom::Identifier(&[b]), group, base) {
+        Ok(ended) => Ok(goes_after(ended)),
+        Err(s) => Err(s),
+    }
+}
+
+/// An atom has ended.
+fn atom_ended(w: &mut World, a: Atom<'_>, group: Group, base: u64) -> Result<Ended, Stop>
+    requires ready { IsReady base w.old group }
+    requires atom { IsAtom a }
+    ensures ok { IfOk result (λ e. (t : Bool) → reader.atom_ended (in_stock t) (atom_of a.entry) (frames_in base w.old group) (stock_of w.old) ≡ ended_of base w.new e) }
+    ensures stop { IfErr result (λ s. IsLacking (λ t. reader.atom_ended (in_stock t) (atom_of a.entry) (frames_in base w.old group) (stock_of w.old)) s) }
+    ensures counted { IfErr result (λ s. is_counted s ≡ true) }
+    ensures ended { IfOk result (λ e. IsEnded base w.new e) }
+    ensures table { IsTable w.new.cells.cells w.new.syms.head }
+    ensures reading { IsReading base w.old w.new }
+{
+    match make_atom(w, a) {
+        Ok(v) => value_ended(w, v, group, base),
+        Err(s) => Err(s),
+    }
+}
+
+/// The word ends here.
+pub(crate) fn word_ended(
+    w: &mut World,
+    mode: Mode,
+    group: Group,
+    word: &Word,
+    base: u64,
+) -> Result<Ended, Stop>
+    requires ready { IsReady base w.old group }
+    requires word { IsMode mode word.now.items }
+    requires may_end { may_end mode ≡ true }
+    ensures ok { IfOk result (λ e. (t : Bool) → reader.atom_ended (in_stock t) (word_atom mode word.now.items) (frames_in base w.old group) (stock_of w.old) ≡ ended_of base w.new e) }
+    ensures stop { IfErr result (λ s. IsLacking (λ t. reader.atom_ended (in_stock t) (word_atom mode word.now.items) (frames_in base w.old group) (stock_of w.old)) s) }
+    ensures counted { IfErr result (λ s. is_counted s ≡ true) }
+    ensures ended { IfOk result (λ e. IsEnded base w.new e) }
+    ensures table { IsTable w.new.cells.cells w.new.syms.head }
+    ensures reading { IsReading base w.old w.new }
+{
+    match mode {
+        Mode::Sign(c) => atom_ended(w, Atom::Identifier(&[c]), group, base),
+        Mode::Number(minus, n) => number_ended(w, minus, n, group, base),
+        Mode::Name => atom_ended(w, Atom::Identifier(word.as_slice()), group, base),
+        _ => atom_ended(w, Atom::Text(word.as_slice()), group, base),
+    }
+}
+
+/// A number ends here.
+fn number_ended(w: &mut World, minus: bool, n: u64, group: Group, base: u64) -> Result<Ended, Stop>
+    requires ready { IsReady base w.old group }
+    requires number { IsNumber minus n }
+    ensures ok { IfOk result (λ e. (t : Bool) → reader.atom_ended (in_stock t) (word.Integer (word.signed minus n)) (frames_in base w.old group) (stock_of w.old) ≡ ended_of base w.new e) }
+    ensures stop { IfErr result (λ s. IsLacking (λ t. reader.atom_ended (in_stock t) (word.Integer (word.signed minus n)) (frames_in base w.old group) (stock_of w.old)) s) }
+    ensures counted { IfErr result (λ s. is_counted s ≡ true) }
+    ensures ended { IfOk result (λ e. IsEnded base w.new e) }
+    ensures table { IsTable w.new.cells.cells w.new.syms.head }
+    ensures reading { IsReading base w.old w.new }
+{
+    value_ended(w, number(minus, n), group, base)
+}
+
+/// The value of a number, after `-` or without it.
+fn number(minus: bool, n: u64) -> Val
+    requires { IsNumber minus n }
+    ensures { result ≡ Number (word.signed minus n) }
+{
+    if minus {
+        Val::small(0 - n as i64)
+    } else {
+        Val::small(n as i64)
+    }
+}
+
+/// A byte before which a word has ended.
+fn before(
+    w: &mut World,
+    b: u8,
+    mode: Mode,
+    group: Group,
+    word: &mut Word,
+    base: u64,
+) -> Result<Step, Stop>
+    requires ready { IsReady base w.old group }
+    requires word { IsMode mode word.old.items }
+    requires may_end { may_end mode ≡ true }
+    ensures ok { IfOk result (λ r. (t : Bool) → reader.atom_before (in_stock t) (word_atom mode word.old.items) b (frames_in base w.old group) (stock_of w.old) ≡ step_of base w.new word.new.items r) }
+    ensures stop { IfErr result (λ s. IsHalting (λ t. reader.atom_before (in_stock t) (word_atom mode word.old.items) b (frames_in base w.old group) (stock_of w.old)) s) }
+    ensures counted { IfErr result (λ s. is_counted s ≡ true) }
+    ensures step { IfOk result (λ r. IsStep base w.new word.new.items r) }
+    ensures table { IsTable w.new.cells.cells w.new.syms.head }
+    ensures reading { IsReading base w.old w.new }
+{
+    let ended = match word_ended(w, mode, group, word, base) {
+        Ok(ended) => ended,
+        Err(s) => return Err(s),
+    };
+    match ended {
+        Ended::Whole(v) => Ok(Step::Done(v, false)),
+        Ended::Inside(group) => at_gap(w, b, group, word, base),
+    }
+}
+
+/// A byte of a name or a string that has at most so many.
+fn grown(word: &mut Word, most: usize, b: u8, mode: Mode, group: Group) -> Step
+    requires { most ≤ 65535 }
+    ensures step { (base : ℕ) (w : World) → reader.grown_to most word.old.items (mode_of mode (word.old.items ++ b ∷ [])) (frames_in base w group) (stock_of w) ≡ step_of base w word.new.items result }
+    ensures ready { (base : ℕ) (w : World) → IsReady base w group → (length word.old.items < most → IsMode mode (word.old.items ++ b ∷ [])) → IsStep base w word.new.items result }
+{
+    if word.len() >= most {
+        return Step::Refuses;
+    }
+    word.push(b);
+    Step::Goes(mode, group)
+}
+
+/// A byte in a name or behind it.
+fn in_name(w: &mut World, b: u8, group: Group, word: &mut Word, base: u64) -> Result<Step, Stop>
+    requires ready { IsReady base w.old group }
+    requires word { IsMode mode.Name word.old.items }
+    ensures ok { IfOk result (λ r. (t : Bool) → reader.step (in_stock t) (reader.InName word.old.items) b (frames_in base w.old group) (stock_of w.old) ≡ step_of base w.new word.new.items r) }
+    ensures stop { IfErr result (λ s. IsHalting (λ t. reader.step (in_stock t) (reader.InName word.old.items) b (frames_in base w.old group) (stock_of w.old)) s) }
+    ensures counted { IfErr result (λ s. is_counted s ≡ true) }
+    ensures step { IfOk result (λ r. IsStep base w.new word.new.items r) }
+    ensures table { IsTable w.new.cells.cells w.new.syms.head }
+    ensures reading { IsReading base w.old w.new }
+{
+    if is_name_byte(b) {
+        return Ok(grown(word, LONGEST_NAME, raised(b), Mode::Name, group));
+    }
+    if b != b'!' {
+        return before(w, b, Mode::Name, group, word, base);
+    }
+    if word.len() >= LONGEST_NAME {
+        return Ok(Step::Refuses);
+    }
+    Ok(Step::Goes(Mode::Escape, group))
+}
+
+/// A digit in a number, which stays in its range.
+fn in_number(minus: bool, n: u64, b: u8, group: Group) -> Step
+    requires number { IsNumber minus n }
+    requires digit { is_digit b ≡ true }
+    ensures step { (base : ℕ) (w : World) (bytes : List ℕ) → reader.in_number minus (10 * n + (b - 48)) (frames_in base w group) (stock_of w) ≡ step_of base w bytes result }
+    ensures ready { (base : ℕ) (w : World) (bytes : List ℕ) → IsReady base w group → IsStep base w bytes result }
+{
+    let n = 10 * n + u64::from(b - 48);
+    if n > LEAST || (!minus && n == LEAST) {
+        return Step::Refuses;
+    }
+    Step::Goes(Mode::Number(minus, n), group)
+}
+
+/// A byte in a string, or behind a `"` in it.
+fn in_text(
+    w: &mut World,
+    b: u8,
+    mode: Mode,
+    group: Group,
+    word: &mut Word,
+    base: u64,
+) -> Result<Step, Stop>
+    requires ready { IsReady base w.old group }
+    requires word { IsMode mode word.old.items }
+    requires text { is_text_mode mode ≡ true }
+    ensures ok { IfOk result (λ r. (t : Bool) → reader.step (in_stock t) (mode_of mode word.old.items) b (frames_in base w.old group) (stock_of w.old) ≡ step_of base w.new word.new.items r) }
+    ensures stop { IfErr result (λ s. IsHalting (λ t. reader.step (in_stock t) (mode_of mode word.old.items) b (frames_in base w.old group) (stock_of w.old)) s) }
+    ensures counted { IfErr result (λ s. is_counted s ≡ true) }
+    ensures step { IfOk result (λ r. IsStep base w.new word.new.items r) }
+    ensures table { IsTable w.new.cells.cells w.new.syms.head }
+    ensures reading { IsReading base w.old w.new }
+{
+    match mode {
+        Mode::Text => {
+            if b == b'"' {
+                return Ok(Step::Goes(Mode::Quote, group));
+            }
+            Ok(grown(word, LONGEST_TEXT, b, Mode::Text, group))
+        }
+        _ => {
+            if b == b'"' {
+                return Ok(grown(word, LONGEST_TEXT, b, Mode::Text, group));
+            }
+            before(w, b, Mode::Quote, group, word, base)
+        }
+    }
+}
+
+/// A byte behind a sign, or in a number.
+fn in_digits(
+    w: &mut World,
+    b: u8,
+    mode: Mode,
+    group: Group,
+    word: &mut Word,
+    base: u64,
+) -> Result<Step, Stop>
+    requires ready { IsReady base w.old group }
+    requires word { IsMode mode word.old.items }
+    requires digits { is_digits_mode mode ≡ true }
+    ensures ok { IfOk result (λ r. (t : Bool) → reader.step (in_stock t) (mode_of mode word.old.items) b (frames_in base w.old group) (stock_of w.old) ≡ step_of base w.new word.new.items r) }
+    ensures stop { IfErr result (λ s. IsHalting (λ t. reader.step (in_stock t) (mode_of mode word.old.items) b (frames_in base w.old group) (stock_of w.old)) s) }
+    ensures counted { IfErr result (λ s. is_counted s ≡ true) }
+    ensures step { IfOk result (λ r. IsStep base w.new word.new.items r) }
+    ensures table { IsTable w.new.cells.cells w.new.syms.head }
+    ensures reading { IsReading base w.old w.new }
+{
+    if !b.is_ascii_digit() {
+        return before(w, b, mode, group, word, base);
+    }
+    match mode {
+        Mode::Number(minus, n) => Ok(in_number(minus, n, b, group)),
+        Mode::Sign(c) => Ok(Step::Goes(Mode::Number(c == b'-', u64::from(b - 48)), group)),
+        _ => Ok(Step::Refuses),
+    }
+}
+
+/// What a byte does.
+pub(crate) fn read_byte(
+    w: &mut World,
+    b: u8,
+    mode: Mode,
+    group: Group,
+    word: &mut Word,
+    base: u64,
+) -> Result<Step, Stop>
+    requires ready { IsReady base w.old group }
+    requires word { IsMode mode word.old.items }
+    ensures ok { IfOk result (λ r. (t : Bool) → reader.step (in_stock t) (mode_of mode word.old.items) b (frames_in base w.old group) (stock_of w.old) ≡ step_of base w.new word.new.items r) }
+    ensures stop { IfErr result (λ s. IsHalting (λ t. reader.step (in_stock t) (mode_of mode word.old.items) b (frames_in base w.old group) (stock_of w.old)) s) }
+    ensures counted { IfErr result (λ s. is_counted s ≡ true) }
+    ensures step { IfOk result (λ r. IsStep base w.new word.new.items r) }
+    ensures table { IsTable w.new.cells.cells w.new.syms.head }
+    ensures reading { IsReading base w.old w.new }
+{
+    match mode {
+        Mode::Gap => at_gap(w, b, group, word, base),
+        Mode::Comment => Ok(in_comment(b, group)),
+        Mode::Name => in_name(w, b, group, word, base),
+        Mode::Escape => {
+            word.push(b);
+            Ok(Step::Goes(Mode::Name, group))
+        }
+        Mode::Sign(_) | Mode::Number(_, _) => in_digits(w, b, mode, group, word, base),
+        Mode::Text | Mode::Quote => in_text(w, b, mode, group, word, base),
+    }
+}
+
+/// A comment ends with its line.
+fn in_comment(b: u8, group: Group) -> Step
+    ensures step { (base : ℕ) (w : World) (t : Bool) (bytes : List ℕ) → reader.step (in_stock t) reader.Comment b (frames_in base w group) (stock_of w) ≡ step_of base w bytes result }
+    ensures ready { (base : ℕ) (w : World) (bytes : List ℕ) → IsReady base w group → IsStep base w bytes result }
+{
+    if b == b'\n' {
+        Step::Goes(Mode::Gap, group)
+    } else {
+        Step::Goes(Mode::Comment, group)
+    }
+}
