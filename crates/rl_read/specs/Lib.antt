@@ -3,4 +3,5 @@ pub mod Given
 pub mod Frames
 pub mod Steps
 pub mod Reads
+pub mod Data
 pub mod Laws

@@ -6,6 +6,8 @@ pub mod Spelling
 pub mod Refusal
 pub mod Maker
 pub mod Reader
+pub mod Stored
+pub mod Printed
 pub mod Reading
 pub mod Laws
 pub mod Alike

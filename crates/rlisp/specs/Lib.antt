@@ -1,3 +1,5 @@
+pub mod Evaluation
+pub mod Meaning
 pub mod Texts
 pub mod Tokens
 pub mod World
