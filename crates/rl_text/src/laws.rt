@@ -1,5 +1,5 @@
 //! Laws of Lisp text. A law is the contract of a function that does nothing.
-ghost use Rattle.rl_text.specs.Laws.{FindsNone, FindsSpelled, RefusesFirst, SpellsOnce};
+ghost use Rattle.rl_text.specs.Laws.{FindsNone, FindsSpelled, PrintsData, RefusesFirst, SpellsOnce};
 
 /// A datum is found exactly where the bytes begin with a spelling of it, and what is left is what follows that spelling.
 pub fn what_is_found_is_spelled()
@@ -19,4 +19,10 @@ pub fn blank_text_has_none()
 /// Bytes are unreadable exactly at the first of them with which no spelling goes on, or at their end inside a spelling.
 pub fn unreadable_at_first_byte()
     ensures { RefusesFirst }
+{}
+
+/// Where a value in a store is a datum, what is printed of it is the text of that datum where printing ends whole, and a
+/// front of that text where a turn or a level is wanting.
+pub fn printing_is_of_data()
+    ensures { PrintsData }
 {}

@@ -1,4 +1,4 @@
-use Rattle.std.proofs.Common.{◌≡◌, ℕ, List, sym, ap, ◌∙◌}
+use Rattle.std.proofs.Common.{ℕ, List, sym, ap, ◌∙◌}
 use Rattle.rl_text.specs.Datum.{Datum}
 use Rattle.rl_text.specs.Reader.{Outcome, Read, NoneLeft, Refused, Stopped}
 use Rattle.rl_text.proofs.Complete.{spelled_is_read_by}
