@@ -1,6 +1,7 @@
 //! Laws of reading in a world. A law is the contract of a function that does nothing.
-ghost use Rattle.rl_read.specs.Laws.{ReadsText};
+ghost use Rattle.rl_read.specs.Laws.{MeansDatum, ReadsText};
 
+use rl_syms::laws::meaning_of_reading;
 use rl_text::laws::{blank_text_has_none, unreadable_at_first_byte, what_is_found_is_spelled};
 
 /// What is read in a world is what Lisp text says: a form is read only where the bytes begin with a spelling, and what is
@@ -12,4 +13,11 @@ pub fn reading_is_of_text()
     what_is_found_is_spelled();
     blank_text_has_none();
     unreadable_at_first_byte();
+}
+
+/// A value in cells that is a datum means that datum, in the store that the cells mean.
+pub fn data_are_stored()
+    ensures { MeansDatum }
+{
+    meaning_of_reading();
 }

@@ -1,0 +1,6 @@
+use Rattle.std.specs.Prelude.{length}
+use Rattle.rl_read.proofs.MeantData.{data_mean}
+use Rattle.rl_read.proofs.laws.data_are_stored.Goals as goal
+
+pub returns : goal.returns
+returns c cells head v table nil is = data_mean c.meaning_of_reading.ensures cells head (length cells) v table nil is
