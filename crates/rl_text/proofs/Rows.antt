@@ -1,7 +1,11 @@
--- Texts and what they spell, tried on examples: each side computes to the other.
-use Rattle.std.proofs.Common.{◌≡◌, pos, negsuc, [], refl}
+-- Texts, what they spell and what is printed of it, tried on examples: each side computes to the other.
+use Rattle.std.proofs.Common.{◌≡◌, ℕ, pos, negsuc, List, [], refl}
+use Rattle.std.specs.Fmt.{digits}
 use Rattle.std.specs.Prelude.{codes}
-use Rattle.rl_text.specs.Datum.{Int, Id, Str, Pair, Vector, NoElements, Element, nil, quoted}
+use Rattle.rl_tree.specs.Atoms.{Prin1, Prin2}
+use Rattle.rl_tree.specs.Printed.{Page}
+use Rattle.rl_text.specs.Datum.{Datum, Int, Id, Str, Pair, Vector, NoElements, Element, nil, quoted}
+use Rattle.rl_text.specs.Printed.{with_datum}
 use Rattle.rl_text.specs.Reading.{Found, NoText, Unreadable, reading}
 
 pub ends_behind_the_dot : reading (codes "(a . ") ≡ Unreadable 5
@@ -64,3 +68,40 @@ comments_between = refl
 
 pub a_comment_that_ends_the_text : reading (codes "(%)") ≡ Unreadable 3
 a_comment_that_ends_the_text = refl
+
+-- ---- what is printed
+
+abbrev page : List ℕ → ℕ → Page
+page text column = record { text = text; column = column }
+
+-- `(A b . "a"c")`, in which b is an identifier of a small letter and the string has a quote
+abbrev dotted : Datum
+dotted = Pair (Id (codes "A")) (Pair (Id (codes "b")) (Str (codes "a\"c")))
+
+pub prints_dotted : with_datum Prin1 80 dotted (page [] 0) ≡ page (codes "(A !b . \"a\"\"c\")") 15
+prints_dotted = refl
+
+-- by PRIN2 names and strings stand bare
+pub prints_dotted_bare : with_datum Prin2 80 dotted (page [] 0) ≡ page (codes "(A b . a\"c)") 11
+prints_dotted_bare = refl
+
+-- a list that ends in NIL, in a vector, and NIL as an element
+pub prints_nested : with_datum Prin1 80 (Vector (Element (Vector NoElements) (Element (Pair nil nil) (Element (Vector (Element (Int (negsuc 4)) NoElements)) NoElements)))) (page (codes "> ") 2) ≡ page (codes "> [[] (NIL) [-5]]") 17
+unfolding digits
+prints_nested = refl
+
+-- a vector behind a dot
+pub prints_vector_behind_a_dot : with_datum Prin1 80 (Pair (Int (pos 1)) (Vector (Element (Id (codes "A")) (Element (Id (codes "B")) NoElements)))) (page [] 0) ≡ page (codes "(1 . [A B])") 11
+unfolding digits
+prints_vector_behind_a_dot = refl
+
+-- the second atom would pass column 80 and begins a line; marks do not
+pub prints_past_the_line : with_datum Prin1 80 (Pair (Id (codes "AB")) (Pair (Id (codes "CD")) nil)) (page [] 76) ≡ page (codes "(AB \nCD)") 3
+prints_past_the_line = refl
+
+-- what fills the line stands on it, and by PRIN1 the `!` count
+pub prints_up_to_the_line : with_datum Prin2 80 (Pair (Id (codes "a")) nil) (page [] 78) ≡ page (codes "(a)") 81
+prints_up_to_the_line = refl
+
+pub prints_escaped_past_the_line : with_datum Prin1 80 (Pair (Id (codes "a")) nil) (page [] 78) ≡ page (codes "(\n!a)") 3
+prints_escaped_past_the_line = refl
