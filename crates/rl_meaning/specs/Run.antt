@@ -1,0 +1,98 @@
+-- The meaning of a run of `sl`: the forms of the source are read and evaluated in turn (this project's skipping behind an unreadable text).
+use Rattle.std.specs.Prelude.{ℕ, zero, suc, ◌-◌, ◌==◌, min, ◌^◌, decimal, codes, false, if◌then◌else◌, List, [], ◌∷◌, length, Option, Some, None}
+use Rattle.rl_tree.specs.Value.{Value}
+use Rattle.rl_tree.specs.Tree.{Name}
+use Rattle.rl_tree.specs.Printing.{with_atom}
+use Rattle.rl_meaning.specs.State.{State, Function, HeldFunction}
+use Rattle.rl_meaning.specs.Outcome.{Outcome, Done, Failed, Went, Returned, Stopped, Stop, Missing, then_do, Levels}
+use Rattle.rl_meaning.specs.Symbols.{nil}
+use Rattle.rl_meaning.specs.Errors.{error_text, unreadable}
+use Rattle.rl_meaning.specs.Holding.{hold_form}
+use Rattle.rl_meaning.specs.Definitions.{function_at}
+use Rattle.rl_meaning.specs.Printing.{page_of, with_page, print_mark, print_end_of_line, fresh_line, print_error}
+use Rattle.rl_meaning.specs.Input.{Reading, Form, End, Unreadable, read_bytes}
+use Rattle.rl_meaning.specs.Evaluation.{longest_chain, evaluate}
+use Rattle.rl_meaning.specs.Opening.{opened_state}
+
+-- the bounds of a run; no number of cells, and no levels, is no bound
+pub record Limits : Type 0 where
+  pub turns : ℕ
+  pub cells : Option ℕ
+  pub levels : Levels
+
+-- the source was read to its end, or the run stopped
+pub data Ending : Type 0 where
+  Finished : Ending
+  Stops : Stop → Ending
+
+-- how a run ended, and the state then
+pub record Ran : Type 0 where
+  pub ending : Ending
+  pub state : State
+
+-- ---- a statement
+
+abbrev pub held_evaluated : Levels → Function → State → Outcome Value
+held_evaluated levels (HeldFunction held) s = evaluate (record { levels = levels; chain = longest_chain; kept = held.kept }) held.body s
+held_evaluated levels other s = Done nil s
+
+abbrev pub statement : Levels → Value → State → Outcome Value
+statement levels v s = then_do (hold_form levels v s) (λ f s. held_evaluated levels (function_at s f) s)
+
+-- an error that no ERRORSET takes ends its statement, and its text is printed
+abbrev pub after_statement : Levels → Outcome Value → Outcome (Unit {0})
+after_statement levels (Done v s) = Done tt s
+after_statement levels (Failed n m s) = print_error levels m s
+after_statement levels (Went l s) = Done tt s
+after_statement levels (Returned v s) = Done tt s
+after_statement levels (Stopped why s) = Stopped why s
+
+-- ---- an unreadable text
+
+abbrev pub print_atom : List ℕ → State → State
+print_atom bytes s = with_page (with_atom s.outside.line_length (page_of s) bytes) s
+
+-- the text of error 23; no object is made for it, and no turn is taken
+abbrev pub print_unreadable : ℕ → State → State
+print_unreadable k s =
+    print_end_of_line (print_atom (error_text unreadable) (print_mark (32 ∷ []) (print_atom (decimal (min k (2 ^ 59 - 1))) (print_mark (codes "***** ") (fresh_line s)))))
+
+-- what stands behind the first end of line
+abbrev pub behind_line : List ℕ → List ℕ
+behind_line [] = []
+behind_line (b ∷ bs) = if b == 10 then bs else behind_line bs
+
+-- ---- all statements
+
+abbrev pub goes_on : {A : Type 0} → Outcome A → (A → State → Ran) → Ran
+goes_on (Done a s) next = next a s
+goes_on (Failed n m s) next = record { ending = Finished; state = s }
+goes_on (Went l s) next = record { ending = Finished; state = s }
+goes_on (Returned v s) next = record { ending = Finished; state = s }
+goes_on (Stopped why s) next = record { ending = Stops why; state = s }
+
+abbrev pub read_and_run : Levels → ℕ → (List ℕ → State → Ran) → Reading → State → Ran
+read_and_run levels size further (Form v rest) s = goes_on (after_statement levels (statement levels v s)) (λ done s. further rest s)
+read_and_run levels size further End s = record { ending = Finished; state = s }
+read_and_run levels size further (Unreadable k from) s = further (behind_line from) (print_unreadable (size - length from) s)
+
+-- the statements of these bytes, of which there are at most n, of a source of this size
+abbrev pub run_within : ℕ → Levels → ℕ → List ℕ → State → Ran
+run_within zero levels size bytes s = record { ending = Finished; state = s }
+run_within (suc n) levels size bytes s =
+    goes_on (read_bytes false levels bytes s) (λ reading s. read_and_run levels size (λ rest s. run_within n levels size rest s) reading s)
+
+abbrev pub run_bytes : Levels → List ℕ → State → Ran
+run_bytes levels bytes s = run_within (suc (length bytes)) levels (length bytes) bytes s
+
+-- the state in which a run with these bounds and this input begins
+abbrev pub started : Limits → List ℕ → State → State
+started limits input s = record s {
+  counts = record { turns = limits.turns; cells = limits.cells; expansion = None };
+  outside = record s.outside { input = input };
+}
+
+-- a run over the bytes of its source, or over none
+abbrev pub meaning : Limits → Name → Option (List ℕ) → List ℕ → Ran
+meaning limits name (Some source) input = run_bytes limits.levels source (started limits input opened_state)
+meaning limits name None input = record { ending = Stops (Missing name); state = started limits input opened_state }

@@ -1,0 +1,111 @@
+-- The state of a run: what a Lisp program can see or change (Standard Lisp Report 1979; counts and notes are this project's). Objects, identifiers and functions are numbered by their making.
+use Rattle.std.specs.Prelude.{ℕ, Bool, List, Option}
+use Rattle.rl_tree.specs.Value.{Value, Store}
+use Rattle.rl_tree.specs.Tree.{Name}
+use Rattle.rl_tree.specs.declared.held.Kind.{Kind}
+use Rattle.rl_tree.specs.declared.held.VarKind.{VarKind}
+use Rattle.rl_meaning.specs.Names.{Native, Special}
+
+-- ---- functions
+
+-- a held form: the pairs of a list down to its atoms. A quoted part is a leaf that stays the same object, and so is a vector, a string or a function pointer; a FUNCTION of a LAMBDA has the number of its function
+pub data Tree : Type 0 where
+  Atom : Value → Tree
+  Quoted : Value → Tree
+  Pair : Tree → Tree → Tree
+  Literal : ℕ → Tree → Tree
+
+-- the declared kind of a variable as it was when a form was held
+pub record Kept : Type 0 where
+  pub variable : ℕ
+  pub kind : VarKind
+
+-- a function as it was held
+pub record Held : Type 0 where
+  pub kind : Kind
+  pub parameters : List ℕ
+  pub body : Tree
+  pub kept : List Kept
+
+-- what a function pointer names
+pub data Function : Type 0 where
+  SpecialForm : Special → Function
+  NativeFunction : Native → Function
+  HeldFunction : Held → Function
+
+-- ---- identifiers
+
+pub record Definition : Type 0 where
+  pub kind : Kind
+  pub function : ℕ
+
+-- an identifier: its name, whether texts find it by its name, whether its definition is the system's, the value below all bindings, and the rest of what it has
+pub record Symbol : Type 0 where
+  pub name : Name
+  pub interned : Bool
+  pub system : Bool
+  pub top : Option Value
+  pub properties : Value
+  pub definition : Option Definition
+  pub kind : VarKind
+
+-- ---- bindings
+
+pub data Scope : Type 0 where
+  Local : Scope
+  Fluid : Scope
+
+-- a binding of a variable; or the beginning of a function, by its number, or of an EVAL, an APPLY or an ERRORSET
+pub data Entry : Type 0 where
+  Binding : ℕ → Scope → Value → Entry
+  Mark : Option ℕ → Entry
+
+-- ---- counts
+
+-- the outermost open expansion: its macro, how many expansions are open, and the turns and cells that it has left
+pub record Expansion : Type 0 where
+  pub macro : ℕ
+  pub open_count : ℕ
+  pub turns : ℕ
+  pub cells : ℕ
+
+-- the turns and the cells that the run has left; no number of cells is no bound
+pub record Counts : Type 0 where
+  pub turns : ℕ
+  pub cells : Option ℕ
+  pub expansion : Option Expansion
+
+-- ---- the outside
+
+-- what is left of the input, and how many of its bytes were taken; what was printed, how far its line has come, and how long a line may be; and the notes
+pub record Outside : Type 0 where
+  pub input : List ℕ
+  pub taken : ℕ
+  pub output : List ℕ
+  pub column : ℕ
+  pub line_length : ℕ
+  pub notes : List ℕ
+
+-- what compiled code may see otherwise: a use of a variable that strays, or a definition that turns under a running function; each by its name
+pub data Event : Type 0 where
+  Stray : ℕ → Event
+  Turned : ℕ → Event
+
+-- an event, and how much was printed and noted by then
+pub record Recorded : Type 0 where
+  pub event : Event
+  pub printed : ℕ
+  pub noted : ℕ
+
+-- ---- the state
+
+-- bindings stand the newest first; of events the first is kept, and the run goes on
+pub record State : Type 0 where
+  pub store : Store
+  pub symbols : List Symbol
+  pub functions : List Function
+  pub bindings : List Entry
+  pub counts : Counts
+  pub outside : Outside
+  pub gensyms : ℕ
+  pub event : Option Recorded
