@@ -22,3 +22,4 @@ pub mod Forms
 pub mod Evaluation
 pub mod Opening
 pub mod Run
+pub mod Laws
