@@ -19,3 +19,4 @@ pub mod FormedKeeps
 pub mod FormedTurns
 pub mod FormedGoing
 pub mod Told
+pub mod DataKept

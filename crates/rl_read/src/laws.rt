@@ -1,6 +1,8 @@
 //! Laws of reading in a world. A law is the contract of a function that does nothing.
-ghost use Rattle.rl_read.specs.Laws.{ReadsText};
+ghost use Rattle.rl_read.specs.Laws.{PairsAreData, ReadsText};
 
+use rl_cells::laws::objects_are_added;
+use rl_syms::laws::{others_leave_blocks, table_is_kept};
 use rl_text::laws::{blank_text_has_none, unreadable_at_first_byte, what_is_found_is_spelled};
 
 /// What is read in a world is what Lisp text says: a form is read only where the bytes begin with a spelling, and what is
@@ -12,4 +14,14 @@ pub fn reading_is_of_text()
     what_is_found_is_spelled();
     blank_text_has_none();
     unreadable_at_first_byte();
+}
+
+/// A new pair of data is the pair of them and leaves all other data, and the parts of a pair that is a datum are the parts
+/// of that datum.
+pub fn pairs_are_data()
+    ensures { PairsAreData }
+{
+    objects_are_added();
+    table_is_kept();
+    others_leave_blocks();
 }
