@@ -20,3 +20,10 @@ pub mod FormedTurns
 pub mod FormedGoing
 pub mod Told
 pub mod DataKept
+pub mod EnteredNames
+pub mod Standing
+pub mod StandingChains
+pub mod StandingMade
+pub mod StandingFrames
+pub mod StandingRead
+pub mod StandingTold

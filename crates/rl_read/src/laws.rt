@@ -1,8 +1,8 @@
 //! Laws of reading in a world. A law is the contract of a function that does nothing.
-ghost use Rattle.rl_read.specs.Laws.{PairsAreData, ReadsText};
+ghost use Rattle.rl_read.specs.Laws.{PairsAreData, ReadsData, ReadsText};
 
-use rl_cells::laws::objects_are_added;
-use rl_syms::laws::{others_leave_blocks, table_is_kept};
+use rl_cells::laws::{objects_are_added, objects_are_changed};
+use rl_syms::laws::{names_are_identifiers, names_stay, others_leave_blocks, table_is_kept};
 use rl_text::laws::{blank_text_has_none, unreadable_at_first_byte, what_is_found_is_spelled};
 
 /// What is read in a world is what Lisp text says: a form is read only where the bytes begin with a spelling, and what is
@@ -24,4 +24,18 @@ pub fn pairs_are_data()
     objects_are_added();
     table_is_kept();
     others_leave_blocks();
+}
+
+/// A value that was read is the datum that the text spells: names stay a table, and what was a datum before is the same
+/// datum.
+pub fn what_is_read_is_the_datum()
+    ensures { ReadsData }
+{
+    what_is_found_is_spelled();
+    objects_are_added();
+    objects_are_changed();
+    table_is_kept();
+    others_leave_blocks();
+    names_stay();
+    names_are_identifiers();
 }
