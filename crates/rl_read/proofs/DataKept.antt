@@ -39,7 +39,7 @@ all_kept P Q f g each (x ∷ xs) h =
     ((first.0, rest.0), cc)
 
 -- what was a datum is the same one, and may be deeper
-pub datum_kept : (n m : ℕ) (old : List Cell) (before : Option Tagged) (new : List Cell) (after : Option Tagged) → Stays old before new after → n ≤ m → (v : Tagged) → IsDatumWithin n old before v → IsDatumWithin m new after v × (datum_within m new v ≡ datum_within n old v)
+datum_kept : (n m : ℕ) (old : List Cell) (before : Option Tagged) (new : List Cell) (after : Option Tagged) → Stays old before new after → n ≤ m → (v : Tagged) → IsDatumWithin n old before v → IsDatumWithin m new after v × (datum_within m new v ≡ datum_within n old v)
 datum_kept n m old before new after s l (Number z) h = (tt, refl)
 datum_kept n m old before new after s l (IdAt k) h =
     let named : IsNamed new after (name_at old k) (IdAt k) = s.names (name_at old k) (IdAt k) (record { interned = (refl, h.1); name_is = refl }) in

@@ -24,6 +24,7 @@ pub mod EnteredNames
 pub mod Standing
 pub mod StandingChains
 pub mod StandingMade
+pub mod StandingLists
 pub mod StandingFrames
 pub mod StandingRead
 pub mod StandingTold

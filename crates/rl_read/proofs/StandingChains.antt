@@ -82,25 +82,6 @@ pub open_kept : (lo hi : ℕ) (old new : Heap) (c : Chain) (l : Items) → Keeps
 open_kept lo hi old new None l k h = h
 open_kept lo hi old new (Some c) l k h = (chain_in_kept lo hi old new c.0 c.1 l.elements k h.0, h.1)
 
-chain_in_wider : (lo hi to : ℕ) (w : Heap) (first last : Tagged) (es : List Datum) → hi ≤ to → IsChainIn lo hi w first last es → IsChainIn lo to w first last es
-chain_in_wider lo hi to w first last es b h = record {
-  place = h.place;
-  is = h.is;
-  above = h.above;
-  below = omega (arith, h.below);
-  front = h.front;
-  element = h.element;
-  all = h.all;
-  leads = h.leads;
-  car = h.car;
-  cell = h.cell;
-  stands = h.stands;
-}
-
-pub open_wider : (lo hi to : ℕ) (w : Heap) (c : Chain) (l : Items) → hi ≤ to → IsOpen lo hi w c l → IsOpen lo to w c l
-open_wider lo hi to w None l b h = h
-open_wider lo hi to w (Some c) l b h = (chain_in_wider lo hi to w c.0 c.1 l.elements b h.0, h.1)
-
 -- whole as it is, it is the list of its elements
 pub open_list : (lo hi : ℕ) (w : Heap) (c : Chain) (l : Items) → IsHeap w → IsOpen lo hi w c l → Stands lo hi w (first_of c) (listed_items l)
 open_list lo hi w None l n h = rw (h.0, h.1) n.nil

@@ -7,8 +7,9 @@ use Rattle.rl_text.specs.Reading.{Items, listed_items}
 use Rattle.rl_read.specs.Stock.{Stock, Chain, first_of, in_stock, level_left}
 use Rattle.rl_read.proofs.DataKept.{Stays}
 use Rattle.rl_read.proofs.Standing.{Heap, IsHeap, Stands, Keeps, keeps_fewer, stands_kept, stands_wider, stays_on, size, sizes}
-use Rattle.rl_read.proofs.StandingChains.{IsOpen, HasPairs, open_kept, open_list, open_wider}
-use Rattle.rl_read.proofs.StandingMade.{IsLonger, IsValue, heap_of}
+use Rattle.rl_read.proofs.StandingChains.{IsOpen, HasPairs, open_kept, open_list}
+use Rattle.rl_read.proofs.StandingMade.{IsValue, heap_of}
+use Rattle.rl_read.proofs.StandingLists.{IsLonger}
 
 -- ---- frames
 
@@ -46,21 +47,8 @@ around_kept base hi old new (Listing c m p ∷ fs) (Listing l n q ∷ gs) k h =
     (h.0, h.1, h.2, h.3, h.4, listing_kept p m h.0 hi old new c l (keeps_fewer 0 hi h.0 hi old new (omega arith) (omega arith) k) h.5, around_kept base h.0 old new fs gs (keeps_fewer 0 hi 0 h.0 old new (omega arith) h.1 k) h.6)
 around_kept base hi old new _ _ k h = absurd h
 
-listing_wider : (p : Phase) (n lo hi to : ℕ) (w : Heap) (c : Chain) (l : Items) → hi ≤ to → IsListing p n lo hi w c l → IsListing p n lo to w c l
-listing_wider Begun n lo hi to w c l b h = (open_wider lo hi to w c l b h.0, h.1)
-listing_wider Going n lo hi to w c l b h = (open_wider lo hi to w c l b h.0, h.1)
-listing_wider Dotted n lo hi to w c l b h = (open_wider lo hi to w c l b h.0, h.1)
-listing_wider Shut n lo hi to w c l b h = stands_wider lo hi lo to w (omega arith) b (first_of c) (listed_items l) h
-
-pub around_wider : (base hi to : ℕ) (w : Heap) (fs : List (Frame Chain)) (gs : List (Frame Items)) → hi ≤ to → Around base hi w fs gs → Around base to w fs gs
-around_wider base hi to w [] [] b h = omega arith
-around_wider base hi to w (Quoting ∷ fs) (Quoting ∷ gs) b h = (h.0, around_wider base hi to w fs gs b h.1)
-around_wider base hi to w (Vectoring c ∷ fs) (Vectoring l ∷ gs) b h = (h.0, omega (arith, h.1), h.2, open_wider h.0 hi to w c l b h.3, h.4)
-around_wider base hi to w (Listing c m p ∷ fs) (Listing l n q ∷ gs) b h = (h.0, omega (arith, h.1), h.2, h.3, h.4, listing_wider p m h.0 hi to w c l b h.5, h.6)
-around_wider base hi to w _ _ b h = absurd h
-
 -- nothing stands before the base
-pub around_above : (base hi : ℕ) (w : Heap) (fs : List (Frame Chain)) (gs : List (Frame Items)) → Around base hi w fs gs → base ≤ hi
+around_above : (base hi : ℕ) (w : Heap) (fs : List (Frame Chain)) (gs : List (Frame Items)) → Around base hi w fs gs → base ≤ hi
 around_above base hi w [] [] h = h
 around_above base hi w (Quoting ∷ fs) (Quoting ∷ gs) h = around_above base hi w fs gs h.1
 around_above base hi w (Vectoring c ∷ fs) (Vectoring l ∷ gs) h = omega (arith, h.1, around_above base h.0 w fs gs h.4)
@@ -96,7 +84,7 @@ pub size_longer : (es : List Datum) (d : Datum) → size (listed (es ++ d ∷ []
 size_longer [] d = omega arith
 size_longer (e ∷ es) d = omega (arith, size_longer es d)
 
-pub size_elements : (es : List Datum) → sizes (elements es) ≤ size (listed es nil)
+size_elements : (es : List Datum) → sizes (elements es) ≤ size (listed es nil)
 size_elements [] = omega arith
 size_elements (e ∷ es) = omega (arith, size_elements es)
 
@@ -141,7 +129,7 @@ pending_left t first k v d fs gs p = subst (λ (w : Heap). IsPending first w v d
 -- ---- what is made where reading stands
 
 -- a value of no more pairs and vectors than there are new cells
-pub pending_made : (first old new : Heap) (fs : List (Frame Chain)) (gs : List (Frame Items)) (lo more : ℕ) (v : Tagged) (d : Datum) → length first.cells ≤ length old.cells → Stays first.cells first.head old.cells old.head → lo ≤ length old.cells → Around (length first.cells) lo old fs gs → admits fs ≡ true
+pending_made : (first old new : Heap) (fs : List (Frame Chain)) (gs : List (Frame Items)) (lo more : ℕ) (v : Tagged) (d : Datum) → length first.cells ≤ length old.cells → Stays first.cells first.head old.cells old.head → lo ≤ length old.cells → Around (length first.cells) lo old fs gs → admits fs ≡ true
     → size d + frame_sizes gs ≤ length old.cells + more → IsValue lo old more d v new → IsPending first new v d fs gs
 pending_made first old new fs gs lo more v d longer stays l around admitted few e =
     let above = around_above (length first.cells) lo old fs gs around in

@@ -15,7 +15,8 @@ use Rattle.rl_world.specs.Counts.{tick_stop}
 use Rattle.rl_world.specs.declared.stop.Stop.{Stop}
 use Rattle.rl_read.specs.Stock.{Stock, Chain, atom_made, ended, entered, entered_at, extended, first_of, in_stock, quote_made, turned, turned_at, vector_made}
 use Rattle.rl_read.proofs.Standing.{Heap}
-use Rattle.rl_read.proofs.StandingMade.{AreLaws, IsAtomic, IsLonger, IsValue, Makes, atom_makes, atom_size, ended_makes, extended_makes, heap_of, quote_makes, vector_makes}
+use Rattle.rl_read.proofs.StandingMade.{AreLaws, IsAtomic, IsValue, Makes, atom_makes, atom_size, heap_of, quote_makes}
+use Rattle.rl_read.proofs.StandingLists.{IsLonger, ended_makes, extended_makes, vector_makes}
 use Rattle.rl_read.proofs.StandingChains.{HasPairs, IsOpen}
 use Rattle.rl_read.proofs.StandingFrames.{Around, Holds, IsListing, IsOutside, IsPending, IsResult, admits_same, atom_pending, going_holds, list_pending, open_size, pending_left, quote_pending, shut_holds, size_ended, size_longer, vector_holds, vector_pending, whole_result}
 
@@ -70,7 +71,7 @@ value_sim laws first t v d (Listing c m p ∷ fs) (Listing l n q ∷ gs) k x h =
     (listing_sim laws first t v d c l m p fs gs k x) h
 value_sim laws first t v d _ _ k x p = absurd p.around
 
-pub atom_sim : AreLaws → (first : Heap) (t : Bool) (a : Atom) (fs : List (Frame Chain)) (gs : List (Frame Items)) (k : Stock) (x : Unit {0}) → IsAtomic a → admits fs ≡ true → Holds first (heap_of k) fs gs → SimEnded first (atom_ended (in_stock t) a fs k) (atom_ended plain a gs x)
+atom_sim : AreLaws → (first : Heap) (t : Bool) (a : Atom) (fs : List (Frame Chain)) (gs : List (Frame Items)) (k : Stock) (x : Unit {0}) → IsAtomic a → admits fs ≡ true → Holds first (heap_of k) fs gs → SimEnded first (atom_ended (in_stock t) a fs k) (atom_ended plain a gs x)
 atom_sim laws first t a fs gs k x is admitted h =
     ended_with_sim first (IsValue (length k.cells.cells) (heap_of k) 0 (datum_of_atom a)) (atom_made a k) _ _ (atom_makes laws (length k.cells.cells) k a h.heap is)
     (λ v j e. value_sim laws first t v (datum_of_atom a) fs gs j x (atom_pending first (heap_of k) (heap_of j) fs gs v (datum_of_atom a) h admitted (atom_size a) e))
