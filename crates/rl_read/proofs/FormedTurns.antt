@@ -92,8 +92,12 @@ ended_left : (n : ℕ) (c : Chain) (v : Tagged) (k : Stock) → Left n k → Lef
 ended_left n None v k h = h
 ended_left n (Some c) v k h = h
 
+vector_left_if : (n : ℕ) (b : Bool) (xs : List Tagged) (k : Stock) → Left n k → LeftMade n (if b then object_made (λ i. VectorAt i) (VectorCell xs) k else Wants stop.Cells k)
+vector_left_if n true xs k h = object_left n (λ i. VectorAt i) (VectorCell xs) k h
+vector_left_if n false xs k h = tt
+
 vector_left : (n : ℕ) (c : Chain) (k : Stock) → Left n k → LeftMade n (vector_made c k)
-vector_left n c k h = object_left n (λ i. VectorAt i) (VectorCell (elements_of k.cells.cells c)) k h
+vector_left n c k h = vector_left_if n (nat_le (length (elements_of k.cells.cells c)) (2 ^ 31)) (elements_of k.cells.cells c) k h
 
 quote_left : (n : ℕ) (v : Tagged) (k : Stock) → Left n k → LeftMade n (quote_made v k)
 quote_left n v k h = then_left n (identifier_made quote_name k) _ (identifier_left n quote_name k h) (λ q k h. then_left n (pair_made v nil_value k) _ (pair_left n v nil_value k h) (λ p k h. pair_left n q p k h))

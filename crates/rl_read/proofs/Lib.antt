@@ -20,3 +20,12 @@ pub mod FormedTurns
 pub mod FormedGoing
 pub mod Told
 pub mod MeantData
+pub mod DataKept
+pub mod EnteredNames
+pub mod Standing
+pub mod StandingChains
+pub mod StandingMade
+pub mod StandingLists
+pub mod StandingFrames
+pub mod StandingRead
+pub mod StandingTold

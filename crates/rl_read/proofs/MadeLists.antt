@@ -1,6 +1,8 @@
 -- The vector of the elements of a list: they are the same in the cells with the vector, which holds them as if it had been made with them.
-use Rattle.std.proofs.Common.{◌≡◌, ℕ, zero, suc, ◌+◌, ◌-◌, ◌/◌, ◌≤◌, inl, inr, List, ◌∷◌, ◌++◌, length, replicate, Option, true, refl, ap, ◌∙◌, arith}
+use Rattle.std.proofs.Common.{◌≡◌, ℕ, zero, suc, ◌+◌, ◌-◌, ◌/◌, ◌^◌, ◌<◌, ◌≤◌, inl, inr, List, ◌∷◌, ◌++◌, length, replicate, Option, Bool, true, false, if◌then◌else◌, refl, sym, ap, ◌∙◌, arith}
+use Rattle.std.specs.Prelude.{nat_le}
 use Rattle.std.proofs.lemmas.Bool.{cases_eq, cases_lt}
+use Rattle.std.proofs.lemmas.Bool.Decides.{nat_tests}
 use Rattle.std.proofs.lemmas.List.{get_or_past, length-replicate, set_at}
 use Rattle.rl_tags.specs.Ids.{nil_id}
 use Rattle.rl_tags.specs.Tagged.{Tagged, Number, IdAt, StrAt, PairAt, VectorAt, BigAt, FunAt}
@@ -10,7 +12,12 @@ use Rattle.rl_syms.specs.Table.{IsTable}
 use Rattle.rl_world.specs.Counts.{roomed}
 use Rattle.rl_world.specs.declared.world.World.{World}
 use Rattle.rl_read.specs.Frames.{IsChain, chain_of}
-use Rattle.rl_read.specs.Stock.{elements_from, first_of}
+use Rattle.rl_text.specs.Maker.{Wants}
+use Rattle.rl_world.specs.declared.stop.Stop.{Stop}
+use Rattle.rl_world.specs.declared.stop.Stop.TheVariants as stop
+use Rattle.rl_read.specs.Steps.{Lacks}
+use Rattle.rl_read.specs.Stock.{Stock, elements_from, first_of, object_made, vector_made, vector_with}
+use Rattle.rl_read.specs.Stock as stock
 use Rattle.rl_read.specs.declared.frames.Chain.{Chain}
 use Rattle.rl_read.specs.declared.frames.Chain.TheVariants as chain
 
@@ -90,3 +97,31 @@ vector_world added w r new s list v most n count room at made filled =
     filled ∙ rw (at, made, room)
     (ap (λ (c : Store). record w { cells = c; counts = roomed w.counts (1 + (n + 1) / 2) }) (vector_filled added w.cells list most n count)
     ∙ ap (λ (k : ℕ). record w { cells = grown w.cells (VectorCell (elements_from most w.cells.cells list)); counts = roomed w.counts (1 + (k + 1) / 2) }) count)
+
+-- ---- the vector of a list that was counted
+
+counted_made : (c : stock.Chain) (k : Stock) (list : Tagged) (b : Bool) → list ≡ first_of c → nat_le (length (elements_from (2 ^ 31 + 1) k.cells.cells list)) (2 ^ 31) ≡ b
+    → vector_made c k ≡ (if b then object_made (λ n. VectorAt n) (VectorCell (elements_from (2 ^ 31 + 1) k.cells.cells list)) k else Wants stop.Cells k)
+counted_made c k list b is e =
+    ap (λ (v : Tagged). vector_with (elements_from (2 ^ 31 + 1) k.cells.cells v) k) (sym is)
+    ∙ ap (λ (t : Bool). if t then object_made (λ n. VectorAt n) (VectorCell (elements_from (2 ^ 31 + 1) k.cells.cells list)) k else Wants stop.Cells k) e
+
+below : (m n : ℕ) → m ≤ n → nat_le m n ≡ true
+below m n l = grind (arith, nat_tests)
+
+above : (m n : ℕ) → n < m → nat_le m n ≡ false
+above m n l = grind (arith, nat_tests)
+
+-- of as many elements as a vector has places, or fewer, it is made as an object
+pub vector_few : (c : stock.Chain) (k : Stock) (list : Tagged) (n : ℕ) → list ≡ first_of c → n ≡ length (elements_from (2 ^ 31 + 1) k.cells.cells list) → n ≤ 2 ^ 31
+    → vector_made c k ≡ object_made (λ n. VectorAt n) (VectorCell (elements_from (2 ^ 31 + 1) k.cells.cells list)) k
+vector_few c k list n is count few = counted_made c k list true is (below (length (elements_from (2 ^ 31 + 1) k.cells.cells list)) (2 ^ 31) (omega arith))
+
+-- of more there is none
+pub vector_many : (c : stock.Chain) (k : Stock) (list : Tagged) (n : ℕ) → list ≡ first_of c → n ≡ length (elements_from (2 ^ 31 + 1) k.cells.cells list) → 2 ^ 31 < n → Lacks (vector_made c k) stop.Cells
+vector_many c k list n is count many = (k, counted_made c k list false is (above (length (elements_from (2 ^ 31 + 1) k.cells.cells list)) (2 ^ 31) (omega arith)))
+
+-- something is wanting for it
+pub vector_lacks : (c : stock.Chain) (k : Stock) (list : Tagged) (n : ℕ) (s : Stop) → list ≡ first_of c → n ≡ length (elements_from (2 ^ 31 + 1) k.cells.cells list) → n ≤ 2 ^ 31
+    → Lacks (object_made (λ n. VectorAt n) (VectorCell (elements_from (2 ^ 31 + 1) k.cells.cells list)) k) s → Lacks (vector_made c k) s
+vector_lacks c k list n s is count few h = (h.0, vector_few c k list n is count few ∙ h.1)

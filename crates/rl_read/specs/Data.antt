@@ -1,7 +1,7 @@
 -- What values in cells are as data: atoms by what they hold, pairs and vectors by their parts, so many deep.
-use Rattle.std.specs.Prelude.{◌≡◌, ℕ, zero, suc, true, List, length, map, Option}
+use Rattle.std.specs.Prelude.{◌≡◌, ℕ, suc, true, List, length, map, Option}
 use Rattle.std.specs.List.{AllByRecursion}
-use Rattle.rl_tags.specs.Tagged.{Tagged, Number, IdAt, StrAt, PairAt, VectorAt, BigAt, FunAt}
+use Rattle.rl_tags.specs.Tagged.{Tagged, Number, IdAt, StrAt, PairAt, VectorAt}
 use Rattle.rl_cells.specs.Cell.{Cell, cell_at, is_id_cell, is_str_cell, is_pair_cell, is_vector_cell, car_in, cdr_in, bytes_in, vector_in}
 use Rattle.rl_syms.specs.Table.{Among, name_at, ids_from}
 use Rattle.rl_text.specs.Datum.{Datum, Int, Id, Str, Pair, Vector, nil, elements}

@@ -1,5 +1,5 @@
 -- What reading takes and makes in a world, told on its cells: turns, levels, room, and objects.
-use Rattle.std.specs.Prelude.{ℕ, zero, suc, ◌-◌, ◌^◌, Bool, true, false, if◌then◌else◌, List, [], ◌∷◌, length, Option, Some, None}
+use Rattle.std.specs.Prelude.{ℕ, zero, suc, ◌+◌, ◌-◌, ◌^◌, nat_le, Bool, true, false, if◌then◌else◌, List, [], ◌∷◌, length, Option, Some, None}
 use Rattle.std.specs.Str.{bytes_eq}
 use Rattle.rl_tags.specs.Tagged.{Tagged, Number, IdAt, StrAt, PairAt, VectorAt}
 use Rattle.rl_cells.specs.Cell.{Store, Cell, PairCell, StrCell, VectorCell, cell_at, car_in, cdr_in, car_of, cost_of, used_of, has_room, grown, changed_at}
@@ -116,12 +116,16 @@ abbrev pub elements_from : ℕ → List Cell → Tagged → List Tagged
 elements_from (suc n) cells (PairAt p) = car_in (cell_at cells p) ∷ elements_from n cells (cdr_in (cell_at cells p))
 elements_from _ cells v = []
 
--- a vector has at most 2^31 places
+-- a vector has at most 2^31 places, so one element more is looked at
 abbrev pub elements_of : List Cell → Chain → List Tagged
-elements_of cells c = elements_from (2 ^ 31) cells (first_of c)
+elements_of cells c = elements_from (2 ^ 31 + 1) cells (first_of c)
+
+-- of more elements none is made
+abbrev pub vector_with : List Tagged → Stock → Made Stock Tagged Stop
+vector_with xs k = if nat_le (length xs) (2 ^ 31) then object_made (λ n. VectorAt n) (VectorCell xs) k else Wants stop.Cells k
 
 abbrev pub vector_made : Chain → Stock → Made Stock Tagged Stop
-vector_made c k = object_made (λ n. VectorAt n) (VectorCell (elements_of k.cells.cells c)) k
+vector_made c k = vector_with (elements_of k.cells.cells c) k
 
 -- `(QUOTE e)`: the pair of e is made first
 abbrev pub quote_made : Tagged → Stock → Made Stock Tagged Stop

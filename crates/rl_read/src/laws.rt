@@ -1,7 +1,10 @@
 //! Laws of reading in a world. A law is the contract of a function that does nothing.
-ghost use Rattle.rl_read.specs.Laws.{MeansDatum, ReadsText};
+ghost use Rattle.rl_read.specs.Laws.{MeansDatum, PairsAreData, ReadsData, ReadsText};
 
-use rl_syms::laws::meaning_of_reading;
+use rl_cells::laws::{objects_are_added, objects_are_changed};
+use rl_syms::laws::{
+    meaning_of_reading, names_are_identifiers, names_stay, others_leave_blocks, table_is_kept,
+};
 use rl_text::laws::{blank_text_has_none, unreadable_at_first_byte, what_is_found_is_spelled};
 
 /// What is read in a world is what Lisp text says: a form is read only where the bytes begin with a spelling, and what is
@@ -20,4 +23,28 @@ pub fn data_are_stored()
     ensures { MeansDatum }
 {
     meaning_of_reading();
+}
+
+/// A new pair of data is the pair of them and leaves all other data, and the parts of a pair that is a datum are the parts
+/// of that datum.
+pub fn pairs_are_data()
+    ensures { PairsAreData }
+{
+    objects_are_added();
+    table_is_kept();
+    others_leave_blocks();
+}
+
+/// A value that was read is the datum that the text spells: names stay a table, and what was a datum before is the same
+/// datum.
+pub fn what_is_read_is_the_datum()
+    ensures { ReadsData }
+{
+    what_is_found_is_spelled();
+    objects_are_added();
+    objects_are_changed();
+    table_is_kept();
+    others_leave_blocks();
+    names_stay();
+    names_are_identifiers();
 }

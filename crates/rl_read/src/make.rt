@@ -199,14 +199,14 @@ pub(crate) fn end_with(w: &mut World, chain: &Chain, v: Val)
     }
 }
 
-/// How many elements a list has, at most as many as a vector has places.
+/// How many elements a list has, at most one more than a vector has places.
 fn count(w: &World, list: Val) -> u32
     requires { IsTrue (is_live w.now.cells.cells list) }
-    ensures { result ≡ length (elements_from (2 ^ 31) w.now.cells.cells list) }
+    ensures { result ≡ length (elements_from (2 ^ 31 + 1) w.now.cells.cells list) }
 {
     let mut at = list;
     let mut n = 0;
-    while n < MOST_PLACES && at.tag() == Tag::Pair {
+    while n <= MOST_PLACES && at.tag() == Tag::Pair {
         at = w.cells.cdr(at);
         n += 1;
     }
@@ -250,6 +250,9 @@ pub(crate) fn vector(w: &mut World, chain: &Chain) -> Result<Val, Stop>
     objects_are_added();
     let list = first_of(chain);
     let n = count(w, list);
+    if n > MOST_PLACES {
+        return Err(Stop::Cells);
+    }
     if let Err(s) = w.room(1 + (n + 1) / 2) {
         return Err(s);
     }

@@ -15,13 +15,13 @@ loop-n-preserved c =
       within = omega arith;
       counted =
           rw c.cdr-at.ensures.value
-          (count_more c.args.w.now.cells.cells c.loop-n.at 2147483648 c.loop-n.n (length (elements_from 2147483648 c.args.w.now.cells.cells c.args.list)) c.loop-n-test.true is c.loop-n.invariant.counted);
+          (count_more c.args.w.now.cells.cells c.loop-n.at 2147483649 c.loop-n.n (length (elements_from 2147483649 c.args.w.now.cells.cells c.args.list)) (omega arith) is c.loop-n.invariant.counted);
     }
 
 pub returns-else-eq : goal.returns-else-eq
 returns-else-eq c =
-    count_end c.args.w.now.cells.cells c.loop-n.at (2147483648 - c.loop-n.n) c.loop-n.n (length (elements_from 2147483648 c.args.w.now.cells.cells c.args.list))
+    count_end c.args.w.now.cells.cells c.loop-n.at (2147483649 - c.loop-n.n) c.loop-n.n (length (elements_from 2147483649 c.args.w.now.cells.cells c.args.list))
     (λ (e : tag_of c.loop-n.at ≡ tag.Pair). same_false the_type c.tag.result tag.Pair (sym c.if-eq.ensures) (c.tag.ensures ∙ e)) c.loop-n.invariant.counted
 
 pub returns-after-loop-n : goal.returns-after-loop-n
-returns-after-loop-n c = count_most c.args.w.now.cells.cells c.loop-n.at 2147483648 c.loop-n.n (length (elements_from 2147483648 c.args.w.now.cells.cells c.args.list)) c.loop-n-test.false c.loop-n.invariant.within c.loop-n.invariant.counted
+returns-after-loop-n c = count_most c.args.w.now.cells.cells c.loop-n.at 2147483649 c.loop-n.n (length (elements_from 2147483649 c.args.w.now.cells.cells c.args.list)) (omega arith) (omega arith) c.loop-n.invariant.counted

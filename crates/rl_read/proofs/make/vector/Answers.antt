@@ -1,29 +1,35 @@
-use Rattle.std.proofs.Common.{◌≡◌, ◌+◌, ◌/◌, List, arith, false, refl, replicate, sym, true}
+use Rattle.std.proofs.Common.{◌≡◌, ◌∙◌, ◌+◌, ◌/◌, List, arith, false, refl, replicate, sym, true}
 use Rattle.std.proofs.lemmas.List.{length-replicate}
 use Rattle.rl_tags.specs.Ids.{nil_id}
 use Rattle.rl_tags.specs.Tagged.{Tagged, VectorAt}
-use Rattle.rl_cells.specs.Cell.{VectorCell, cost_of, grown, has_room, placed}
+use Rattle.rl_cells.specs.Cell.{VectorCell, cost_of, grown, has_room, placed, used_of}
 use Rattle.rl_world.specs.Counts.{roomed}
 use Rattle.rl_world.specs.declared.world.World.{World}
 use Rattle.rl_read.specs.Stock.{elements_from, first_of, stock_of}
 use Rattle.rl_read.specs.Frames.{chain_of}
-use Rattle.rl_read.proofs.MadeLists.{elements_counted, elements_few, first_live, vector_world}
+use Rattle.rl_read.proofs.Counted.{room_counted}
+use Rattle.rl_read.proofs.MadeLists.{elements_counted, elements_few, first_live, vector_few, vector_lacks, vector_many, vector_world}
 use Rattle.rl_read.proofs.MadeStocks.{object_full, object_had, object_stopped}
 use Rattle.rl_read.proofs.MadeWorlds.{making_grown, table_grown}
 use Rattle.rl_read.proofs.Making.{making_trans}
 use Rattle.rl_read.proofs.make.vector.Goals as goal
 
 pub overflow_add-n : goal.overflow_add-n
-overflow_add-n c = omega (arith, c.count-n.ensures, elements_few 2147483648 c.args.w.now.cells.cells c.first_of-list.result)
+overflow_add-n c = omega (arith, c.count-n.ensures, elements_few 2147483649 c.args.w.now.cells.cells c.first_of-list.result)
+
+pub returns-then-n-gt-MOST_PLACES-clause-stop : goal.returns-then-n-gt-MOST_PLACES-clause-stop
+returns-then-n-gt-MOST_PLACES-clause-stop c = vector_many (chain_of c.args.chain.now) (stock_of c.args.w.now) c.first_of-list.result c.count-n.result c.first_of-list.ensures c.count-n.ensures (omega arith)
 
 pub returns-in-Err-clause-stop : goal.returns-in-Err-clause-stop
 returns-in-Err-clause-stop c =
-    rw (← c.first_of-list.ensures)
-    (object_stopped (λ n. VectorAt n) (VectorCell (elements_from 2147483648 c.args.w.now.cells.cells c.first_of-list.result)) (stock_of c.args.w.now) c.in-Err.s
-    (rw (← c.count-n.ensures) c.in-Err.ensures.stop))
+    vector_lacks (chain_of c.args.chain.now) (stock_of c.args.w.now) c.first_of-list.result c.count-n.result c.in-Err.s c.first_of-list.ensures c.count-n.ensures (omega arith)
+    (object_stopped (λ n. VectorAt n) (VectorCell (elements_from 2147483649 c.args.w.now.cells.cells c.first_of-list.result)) (stock_of c.args.w.now) c.in-Err.s (rw (← c.count-n.ensures) c.in-Err.ensures.stop))
+
+pub returns-in-Err-clause-counted : goal.returns-in-Err-clause-counted
+returns-in-Err-clause-counted c = room_counted c.args.w.now.counts (used_of c.args.w.now.cells) (1 + (c.count-n.result + 1) / 2) c.in-Err.s c.in-Err.ensures.stop
 
 pub vector-requires-clause-short : goal.vector-requires-clause-short
-vector-requires-clause-short c = omega (arith, c.count-n.ensures, elements_few 2147483648 c.args.w.now.cells.cells c.first_of-list.result)
+vector-requires-clause-short c = omega (arith, c.count-n.ensures, elements_few 2147483649 c.args.w.now.cells.cells c.first_of-list.result)
 
 pub fill-requires-clause-table : goal.fill-requires-clause-table
 fill-requires-clause-table c =
@@ -41,20 +47,20 @@ fill-requires-clause-list c =
 
 pub fill-requires-clause-elements : goal.fill-requires-clause-elements
 fill-requires-clause-elements c =
-    rw (c.in-Ok.ensures.ok, c.in_default.ensures.counted, elements_counted c.objects_are_added.ensures 2147483648 c.count-n.result (replicate c.count-n.result nil_id) c.args.w.now.cells.cells c.first_of-list.result c.count-n.ensures)
+    rw (c.in-Ok.ensures.ok, c.in_default.ensures.counted, elements_counted c.objects_are_added.ensures 2147483649 c.count-n.result (replicate c.count-n.result nil_id) c.args.w.now.cells.cells c.first_of-list.result c.count-n.ensures)
     (sym c.count-n.ensures)
 
 pub returns-in-Ok-clause-ok : goal.returns-in-Ok-clause-ok
 returns-in-Ok-clause-ok c =
     let list = c.first_of-list.result in
     let n = c.count-n.result in
-    let xs : List Tagged = elements_from 2147483648 c.args.w.now.cells.cells list in
+    let xs : List Tagged = elements_from 2147483649 c.args.w.now.cells.cells list in
     let room : has_room c.args.w.now.cells (cost_of (VectorCell xs)) ≡ true = rw (c.in_default.ensures.counted, length-replicate, c.count-n.ensures) at (sym c.in-Ok.ensures.full) in
     let made =
-    vector_world c.objects_are_added.ensures c.args.w.now c.room.new.self c.fill.new.w c.vector.new.self list c.in-Ok.v 2147483648 n c.count-n.ensures c.in_default.ensures.counted c.in-Ok.ensures.names c.in-Ok.ensures.ok
+    vector_world c.objects_are_added.ensures c.args.w.now c.room.new.self c.fill.new.w c.vector.new.self list c.in-Ok.v 2147483649 n c.count-n.ensures c.in_default.ensures.counted c.in-Ok.ensures.names c.in-Ok.ensures.ok
     c.fill.ensures.filled in
-    rw (made, c.in-Ok.ensures.names, c.in_default.ensures.counted, ← c.first_of-list.ensures)
-    (object_had (λ n. VectorAt n) (VectorCell xs) (stock_of c.args.w.now) (rw (← c.count-n.ensures) c.in_default.ensures.ok) room)
+    vector_few (chain_of c.args.chain.now) (stock_of c.args.w.now) list n c.first_of-list.ensures c.count-n.ensures (omega arith)
+    ∙ rw (made, c.in-Ok.ensures.names, c.in_default.ensures.counted) (object_had (λ n. VectorAt n) (VectorCell xs) (stock_of c.args.w.now) (rw (← c.count-n.ensures) c.in_default.ensures.ok) room)
 
 pub returns-in-Ok-clause-making : goal.returns-in-Ok-clause-making
 returns-in-Ok-clause-making c =
@@ -65,7 +71,7 @@ returns-in-Ok-clause-making c =
 
 pub returns-in-Err-vector-clause-stop : goal.returns-in-Err-vector-clause-stop
 returns-in-Err-vector-clause-stop c =
-    let xs : List Tagged = elements_from 2147483648 c.args.w.now.cells.cells c.first_of-list.result in
+    let xs : List Tagged = elements_from 2147483649 c.args.w.now.cells.cells c.first_of-list.result in
     let full : has_room c.args.w.now.cells (cost_of (VectorCell xs)) ≡ false = rw (c.in_default.ensures.counted, length-replicate, c.count-n.ensures) at (sym c.in-Err-vector.ensures.full) in
-    rw (← c.first_of-list.ensures)
+    vector_lacks (chain_of c.args.chain.now) (stock_of c.args.w.now) c.first_of-list.result c.count-n.result _ c.first_of-list.ensures c.count-n.ensures (omega arith)
     (object_full (λ n. VectorAt n) (VectorCell xs) (stock_of c.args.w.now) (rw (← c.count-n.ensures) c.in_default.ensures.ok) full)
