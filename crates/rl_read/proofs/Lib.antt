@@ -21,7 +21,6 @@ pub mod FormedGoing
 pub mod Told
 pub mod MeantData
 pub mod DataKept
-pub mod EnteredNames
 pub mod Standing
 pub mod StandingChains
 pub mod StandingMade

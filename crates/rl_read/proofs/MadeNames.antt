@@ -22,7 +22,7 @@ syms_are : (old new : Syms) → new.made ≡ old.made → new ≡ record old { h
 syms_are old new e = ap (λ (n : ℕ). record new { made = n }) e
 
 -- the cells are more
-longer_with_id : (s : Store) (name : List ℕ) (plist : Tagged) (next : Option Tagged) → length s.cells ≤ length (with_id s name plist next).cells
+pub longer_with_id : (s : Store) (name : List ℕ) (plist : Tagged) (next : Option Tagged) → length s.cells ≤ length (with_id s name plist next).cells
 longer_with_id s name plist next = simp length-append (omega arith)
 
 -- names, cells and counts alone have changed, and what was there stays

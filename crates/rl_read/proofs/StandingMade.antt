@@ -1,13 +1,13 @@
 -- What is made stands for its datum, and leaves what stood before.
-use Rattle.std.proofs.Common.{◌≡◌, ◌≢◌, ℕ, ◌+◌, ◌<◌, ◌≤◌, Bool, true, false, if◌then◌else◌, inl, inr, List, [], ◌∷◌, ◌++◌, length, Option, None, Some, refl, sym, ap, ◌∙◌, arith}
+use Rattle.std.proofs.Common.{◌≡◌, ◌≢◌, ℕ, ◌+◌, ◌<◌, ◌≤◌, Bool, true, false, if◌then◌else◌, inl, inr, List, [], ◌∷◌, ◌++◌, length, Option, None, Some, refl, sym, ap, subst, ◌∙◌, arith}
 use Rattle.std.specs.Str.{bytes_eq}
 use Rattle.std.proofs.lemmas.Slice.Eq.{bytes_eq-Decides}
-use Rattle.rl_tags.specs.Tagged.{Tagged, IdAt, StrAt, PairAt}
+use Rattle.rl_tags.specs.Tagged.{Tagged, StrAt, PairAt}
 use Rattle.rl_cells.specs.Cell.{Cell, PairCell, StrCell, cost_of, has_room, placed, used_of}
 use Rattle.rl_cells.specs.Laws.{IsAdded, IsChanged}
 use Rattle.rl_syms.specs.Frame.{block_in}
-use Rattle.rl_syms.specs.Laws.{AreIdentifiers, IsKept, KeepNames, LeaveBlocks}
-use Rattle.rl_syms.specs.Made.{id_cost}
+use Rattle.rl_syms.specs.Laws.{AreIdentifiers, IsKept, LeaveBlocks, NamesEnter}
+use Rattle.rl_syms.specs.Made.{id_cost, new_id, with_id}
 use Rattle.rl_syms.specs.Table.{Among, IsFree, IsNamed, ids_from, name_at, nil_value}
 use Rattle.rl_tree.specs.Tree.{Name, quote_name}
 use Rattle.rl_text.specs.Datum.{Datum, Pair, Id, nil, quoted}
@@ -16,7 +16,7 @@ use Rattle.rl_text.specs.Word.{Atom, Integer, Identifier, String, datum_of_atom}
 use Rattle.rl_world.specs.Counts.{room_stop, roomed}
 use Rattle.rl_world.specs.declared.stop.Stop.{Stop}
 use Rattle.rl_read.specs.Stock.{Stock, and_then, atom_made, identifier_at, identifier_made, named_among, object_made, pair_made, quote_made, with_room, with_room_at}
-use Rattle.rl_read.proofs.EnteredNames.{longer_with_name, name_entered, name_stands, name_table, names_kept, place_of_name, with_name}
+use Rattle.rl_read.proofs.MadeNames.{longer_with_id}
 use Rattle.rl_read.proofs.Standing.{Heap, IsHeap, Stands, Keeps, keeps_refl, keeps_trans, stands_kept, stands_wider, size}
 
 -- what the crates below say of cells and names
@@ -25,7 +25,7 @@ pub record AreLaws : Type 0 where
   pub changed : IsChanged
   pub kept : IsKept
   pub leave : LeaveBlocks
-  pub names : KeepNames
+  pub enter : NamesEnter
   pub ids : AreIdentifiers
 
 abbrev pub heap_of : Stock → Heap
@@ -140,31 +140,33 @@ named_free : (cells : List Cell) (name : Name) (is : List ℕ) → named_among c
 named_free cells name [] e k a n = a
 named_free cells name (j ∷ is) e k a n = past_test cells name j is k (bytes_eq name (name_at cells j)) refl e a n (λ f b. named_free cells name is f k b n)
 
--- the cells with a new identifier
-abbrev named : Heap → Name → Heap
-named w name = record { cells = with_name w.cells w.head name; head = Some (IdAt (place_of_name w.cells name)) }
+-- with a new identifier
+abbrev named : Stock → Name → Stock
+named k name = record k { cells = with_id k.cells name nil_value k.head; head = Some (new_id k.cells name) }
 
-new_entered : AreLaws → (w : Heap) (name : Name) → IsHeap w → 1 ≤ length name → length name ≤ 255 → IsFree w.cells w.head name → IsEntered w name (IdAt (place_of_name w.cells name)) (named w name)
-new_entered laws w name h some short free =
-    let kept : (bytes : List ℕ) (id : Tagged) → IsNamed w.cells w.head bytes id → IsNamed (named w name).cells (named w name).head bytes id = λ bytes id n. names_kept laws.added laws.names laws.ids w.cells w.head name bytes id h.table n in
-    let same = name_stands laws.added laws.names w.cells w.head name h.table in
+new_entered : AreLaws → (k : Stock) (name : Name) → IsHeap (heap_of k) → 1 ≤ length name → length name ≤ 255 → IsFree k.cells.cells k.head name → IsEntered (heap_of k) name (new_id k.cells name) (heap_of (named k name))
+new_entered laws k name h some short free =
+    let gained = laws.enter k.cells k.head name some short h.table free in
     record {
       grows = record {
-        heap = record { table = name_table laws.added laws.names laws.ids w.cells w.head name some short free h.table; nil = kept _ _ h.nil };
+        heap = record { table = gained.table; nil = gained.names _ _ h.nil };
         keeps = λ lo hi. record {
-          longer = longer_with_name w.cells w.head name;
-          same = λ p a b l. same p l;
-          others = λ p l o. same p l;
-          names = kept;
+          longer = longer_with_id k.cells name nil_value k.head;
+          same = λ p a b l. gained.adds.stands p l;
+          others = λ p l o. gained.adds.stands p l;
+          names = gained.names;
         };
       };
-      named = name_entered laws.added laws.names w.cells w.head name h.table;
+      named = gained.named;
     }
 
 new_makes : AreLaws → (k : Stock) (name : Name) → IsHeap (heap_of k) → 1 ≤ length name → length name ≤ 255 → IsFree k.cells.cells k.head name → Makes (IsEntered (heap_of k) name) (identifier_at None name k)
 new_makes laws k name h some short free =
-    then_makes (λ (u : Unit {0}) w. IsEntered (heap_of k) name (IdAt (place_of_name w.cells name)) (named w name)) (IsEntered (heap_of k) name) (with_room (id_cost name) k) _
-    (room_makes (λ w. IsEntered (heap_of k) name (IdAt (place_of_name w.cells name)) (named w name)) (id_cost name) k (new_entered laws (heap_of k) name h some short free)) (λ u j i. i)
+    then_makes (λ (u : Unit {0}) w. w ≡ heap_of k) (IsEntered (heap_of k) name) (with_room (id_cost name) k) _ (room_makes (λ w. w ≡ heap_of k) (id_cost name) k refl)
+    (λ u j e.
+    let heap : IsHeap (heap_of j) = subst IsHeap (sym e) h in
+    let free : IsFree j.cells.cells j.head name = subst (λ (w : Heap). IsFree w.cells w.head name) (sym e) free in
+    subst (λ w. IsEntered w name (new_id j.cells name) (heap_of (named j name))) e (new_entered laws j name heap some short free))
 
 identifier_makes_at : AreLaws → (k : Stock) (name : Name) → IsHeap (heap_of k) → 1 ≤ length name → length name ≤ 255 → (o : Option ℕ) → named_among k.cells.cells name (ids_from k.cells.cells k.head) ≡ o → Makes (IsEntered (heap_of k) name) (identifier_at o name k)
 identifier_makes_at laws k name h some short (Some i) e =

@@ -3,7 +3,7 @@ ghost use Rattle.rl_read.specs.Laws.{MeansDatum, PairsAreData, ReadsData, ReadsT
 
 use rl_cells::laws::{objects_are_added, objects_are_changed};
 use rl_syms::laws::{
-    meaning_of_reading, names_are_identifiers, names_stay, others_leave_blocks, table_is_kept,
+    meaning_of_reading, names_are_identifiers, names_enter, others_leave_blocks, table_is_kept,
 };
 use rl_text::laws::{blank_text_has_none, unreadable_at_first_byte, what_is_found_is_spelled};
 
@@ -45,6 +45,6 @@ pub fn what_is_read_is_the_datum()
     objects_are_changed();
     table_is_kept();
     others_leave_blocks();
-    names_stay();
+    names_enter();
     names_are_identifiers();
 }

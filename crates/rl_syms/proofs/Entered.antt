@@ -7,6 +7,7 @@ use Rattle.rl_cells.specs.Laws.{IsAdded}
 use Rattle.rl_syms.specs.Table.{IsChained, IsTable, IsNamed, IsFree, IsLink, ids_from, held_in, rank_of, nil_value}
 use Rattle.rl_syms.specs.Made.{new_id, with_id, IsOpening}
 use Rattle.rl_syms.specs.Frame.{Adds}
+use Rattle.rl_syms.specs.Laws.{NamesEnter}
 use Rattle.rl_syms.proofs.Chained.{within}
 use Rattle.rl_syms.proofs.Carried.{chained_loose, chained_new, ids_new, among_along, among_id, name_carried, named_stays}
 use Rattle.rl_syms.proofs.New.{adds_carries, with_id_adds, with_id_new}
@@ -70,6 +71,18 @@ pub loose_keeps : IsAdded → (old new : Store) (head : Option Tagged) (name : L
     → (bytes : List ℕ) (other : Tagged) → IsNamed old.cells head bytes other → IsNamed new.cells head bytes other
 loose_keeps law old new head name plist next t made bytes other h =
     rw made (named_stays old.cells (with_id old name plist next).cells head bytes other (adds_carries old.cells (with_id old name plist next).cells (with_id_adds law old name plist next)) t h)
+
+-- the table gains the name
+pub entered_gains : IsAdded → NamesEnter
+entered_gains law s head name some short t free =
+    let new = with_id s name nil_value head in
+    let id = new_id s name in
+    record {
+      table = entered_table law s new head name id some short t free refl refl;
+      named = entered_named law s new head name nil_value id some short refl t.chained refl refl;
+      names = entered_keeps law s new head name nil_value id some short refl t.chained refl refl;
+      adds = with_id_adds law s name nil_value head;
+    }
 
 pub entered_opening : (old new : Store) (name : List ℕ) (plist : Tagged) (next : Option Tagged) → new ≡ with_id old name plist next → (bound : ℕ) → IsOpening old bound → IsOpening new bound
 entered_opening old new name plist next made bound o = rw made record {

@@ -1,12 +1,13 @@
 -- What the crates above may say of the table, and of what cells mean.
-use Rattle.std.specs.Prelude.{◌≡◌, ℕ, ℤ, ◌<◌, true, List, ◌++◌, length, map, slice_get, slice_set, Option, Some, None}
+use Rattle.std.specs.Prelude.{◌≡◌, ℕ, ℤ, ◌<◌, ◌≤◌, true, List, ◌++◌, length, map, slice_get, slice_set, Option, Some, None}
 use Rattle.std.specs.List.{list_all}
 use Rattle.rl_tags.specs.Tagged.{Tagged, StrAt, PairAt, VectorAt, BigAt, index_of}
-use Rattle.rl_cells.specs.Cell.{Cell, PairCell, StrCell, VectorCell, BigCell, IsClosed, is_live, is_id_cell, is_pair, is_vector, car_of, cdr_of, vector_of, cell_at, block_with, changed_at, placed}
+use Rattle.rl_cells.specs.Cell.{Cell, Store, PairCell, StrCell, VectorCell, BigCell, IsClosed, is_live, is_id_cell, is_pair, is_vector, car_of, cdr_of, vector_of, cell_at, block_with, changed_at, placed}
 use Rattle.rl_tree.specs.Value.{Int, Str, Ref, Object, Pair, Vector, new_value, cons_store, cons_value, vector_store, changed_store}
 use Rattle.rl_syms.specs.Contents.{object_count, number_at, value_of, store_of}
-use Rattle.rl_syms.specs.Table.{IsTable, IsNamed, is_id, name_at, symbol_at}
-use Rattle.rl_syms.specs.Frame.{KeepsBlocks, block_in}
+use Rattle.rl_syms.specs.Table.{IsTable, IsNamed, IsFree, is_id, name_at, nil_value, symbol_at}
+use Rattle.rl_syms.specs.Made.{new_id, with_id}
+use Rattle.rl_syms.specs.Frame.{Adds, KeepsBlocks, block_in}
 
 -- what makes or changes other objects keeps the table, its names and no others, and what its identifiers have
 pub record IsKept : Type 0 where
@@ -33,6 +34,18 @@ AreIdentifiers = (cells : List Cell) (head : Option Tagged) (bytes : List ℕ) (
 -- a name is that of one interned identifier
 abbrev pub IsDistinct : Type 0
 IsDistinct = (cells : List Cell) (head : Option Tagged) (bytes : List ℕ) (one other : Tagged) → IsTable cells head → IsNamed cells head bytes one → IsNamed cells head bytes other → one ≡ other
+
+-- names are a table with another head, in which this identifier has this name; names that were interned stay so, and objects that stood are as they were
+pub record GainsName (old new : List Cell) (before after : Option Tagged) (name : List ℕ) (id : Tagged) : Type 0 where
+  pub table : IsTable new after
+  pub named : IsNamed new after name id
+  pub names : (bytes : List ℕ) (other : Tagged) → IsNamed old before bytes other → IsNamed new after bytes other
+  pub adds : Adds old new
+
+-- a new identifier before the others, with a name that none of them has, gives the table that name
+abbrev pub NamesEnter : Type 0
+NamesEnter = (s : Store) (head : Option Tagged) (name : List ℕ) → 1 ≤ length name → length name ≤ 255 → IsTable s.cells head → IsFree s.cells head name
+    → GainsName s.cells (with_id s name nil_value head).cells head (Some (new_id s name)) name (new_id s name)
 
 -- when an object is made, what lives means what it meant; a new pair or vector is the next object of the store, by a value that names it; a new string or wide integer means what it holds; and where neither a pair nor a vector is made, the store stays
 pub record IsMade : Type 0 where

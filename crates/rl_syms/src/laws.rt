@@ -1,5 +1,5 @@
 //! Laws of the table, and of what cells mean. A law is the contract of a function that does nothing.
-ghost use Rattle.rl_syms.specs.Laws.{AreIdentifiers, IsChanged, IsDistinct, IsKept, IsMade, IsRead, KeepNames, LeaveBlocks};
+ghost use Rattle.rl_syms.specs.Laws.{AreIdentifiers, IsChanged, IsDistinct, IsKept, IsMade, IsRead, KeepNames, LeaveBlocks, NamesEnter};
 
 use rl_cells::laws::{objects_are_added, objects_are_changed};
 
@@ -22,6 +22,14 @@ pub fn others_leave_blocks()
 pub fn names_stay()
     ensures { KeepNames }
 {}
+
+/// A new identifier before the others, with a name of 1 to 255 bytes that none of them has, gives the table that name:
+/// names that were interned stay so, and so does all that stood.
+pub fn names_enter()
+    ensures { NamesEnter }
+{
+    objects_are_added();
+}
 
 /// What has a name is an identifier.
 pub fn names_are_identifiers()

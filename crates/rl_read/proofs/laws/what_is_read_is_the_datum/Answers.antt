@@ -11,7 +11,7 @@ laws_of c = record {
   changed = c.objects_are_changed.ensures;
   kept = c.table_is_kept.ensures;
   leave = c.others_leave_blocks.ensures;
-  names = c.names_stay.ensures;
+  enter = c.names_enter.ensures;
   ids = c.names_are_identifiers.ensures;
 }
 
