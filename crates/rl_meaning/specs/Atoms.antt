@@ -3,7 +3,7 @@ use Rattle.std.specs.Prelude.{ℕ, zero, suc, ℤ, pos, negsuc, ◌+◌, ◌-◌
 use Rattle.rl_tree.specs.Value.{Value, Int, Id, Str, Ref, Fun}
 use Rattle.rl_tree.specs.Value as object
 use Rattle.rl_tree.specs.Bytes.{is_digit, is_upper, is_lower}
-use Rattle.rl_tree.specs.Tree.{Name}
+use Rattle.rl_tree.specs.Name.{Name}
 use Rattle.rl_tree.specs.Atoms.{Prin1, is_bare, atom_text}
 use Rattle.rl_tree.specs.declared.held.VarKind.{VarKind}
 use Rattle.rl_tree.specs.declared.held.VarKind.TheVariants.{Fluid, Global}

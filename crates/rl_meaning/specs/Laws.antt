@@ -1,7 +1,7 @@
 -- Laws of runs: fuel changes nothing, turns never rise, and bounds that are not met change nothing.
 use Rattle.std.specs.Prelude.{◌≡◌, ◌≤◌, ◌<◌, ℕ, List, Option, Some, None}
 use Rattle.rl_tree.specs.Value.{Value}
-use Rattle.rl_tree.specs.Tree.{Name}
+use Rattle.rl_tree.specs.Name.{Name}
 use Rattle.rl_meaning.specs.State.{State}
 use Rattle.rl_meaning.specs.Outcome.{Outcome, Levels}
 use Rattle.rl_meaning.specs.Evaluation.{Job, rank, job_at, job_done, job}

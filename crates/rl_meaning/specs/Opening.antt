@@ -2,7 +2,7 @@
 use Rattle.std.specs.Prelude.{ℕ, suc, ◌==◌, true, false, is_some, if◌then◌else◌, List, [], ◌∷◌, ◌++◌, codes, filter_map, Option, Some, None}
 use Rattle.rl_tags.specs.Opening.{byte_names, opening_names}
 use Rattle.rl_tree.specs.Value.{Value, Id}
-use Rattle.rl_tree.specs.Tree.{Name}
+use Rattle.rl_tree.specs.Name.{Name}
 use Rattle.rl_tree.specs.declared.held.Kind.{Kind}
 use Rattle.rl_tree.specs.declared.held.Kind.TheVariants.{Expr, Fexpr}
 use Rattle.rl_tree.specs.declared.held.VarKind.{VarKind}

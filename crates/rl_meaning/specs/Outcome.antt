@@ -1,7 +1,7 @@
 -- How an evaluation ends, and what it takes: turns, levels and cells (this project's).
 use Rattle.std.specs.Prelude.{ℕ, zero, suc, ℤ, ◌+◌, ◌-◌, ◌/◌, Bool, true, false, nat_le, List, [], ◌∷◌, ◌++◌, length, Option, Some, None}
 use Rattle.rl_tree.specs.Value.{Value, Id, Str, new_value, cons_store, vector_store}
-use Rattle.rl_tree.specs.Tree.{Name}
+use Rattle.rl_tree.specs.Name.{Name}
 use Rattle.rl_meaning.specs.State.{State, Expansion, Symbol}
 
 -- why a run stops

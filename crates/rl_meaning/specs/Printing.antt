@@ -4,7 +4,7 @@ use Rattle.std.specs.Fmt.{signed_decimal}
 use Rattle.rl_tree.specs.Value.{Value, Int, Id, Str, Ref, Fun, Object}
 use Rattle.rl_tree.specs.Value as object
 use Rattle.rl_tree.specs.Atoms.{Style, Prin1, Prin2}
-use Rattle.rl_tree.specs.Printed.{Page}
+use Rattle.rl_tree.specs.Printing.{Page}
 use Rattle.rl_tree.specs.Printing.{Setting, Progress, Ending, Whole, NoTurn, TooDeep, with_text, marked, and_then, with_turn, value_printed, vector_printed, job_printed, printed, with_atom_of}
 use Rattle.rl_meaning.specs.State.{State, Expansion}
 use Rattle.rl_meaning.specs.Outcome.{Outcome, Done, Stopped, Stop, Turns, Depth, Expands, then_do, choose, Levels, turns_left}

@@ -1,7 +1,7 @@
 -- The meaning of a run of `sl`: the forms of the source are read and evaluated in turn (this project's skipping behind an unreadable text).
 use Rattle.std.specs.Prelude.{ℕ, zero, suc, ◌-◌, ◌==◌, min, ◌^◌, decimal, codes, false, if◌then◌else◌, List, [], ◌∷◌, length, Option, Some, None}
 use Rattle.rl_tree.specs.Value.{Value}
-use Rattle.rl_tree.specs.Tree.{Name}
+use Rattle.rl_tree.specs.Name.{Name}
 use Rattle.rl_tree.specs.Printing.{with_atom}
 use Rattle.rl_meaning.specs.State.{State, Function, HeldFunction}
 use Rattle.rl_meaning.specs.Outcome.{Outcome, Done, Failed, Went, Returned, Stopped, Stop, Missing, then_do, Levels}

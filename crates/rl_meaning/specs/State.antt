@@ -1,7 +1,7 @@
 -- The state of a run: what a Lisp program can see or change (Standard Lisp Report 1979; counts and notes are this project's). Objects, identifiers and functions are numbered by their making.
 use Rattle.std.specs.Prelude.{ℕ, Bool, List, Option}
 use Rattle.rl_tree.specs.Value.{Value, Store}
-use Rattle.rl_tree.specs.Tree.{Name}
+use Rattle.rl_tree.specs.Name.{Name}
 use Rattle.rl_tree.specs.declared.held.Kind.{Kind}
 use Rattle.rl_tree.specs.declared.held.VarKind.{VarKind}
 use Rattle.rl_meaning.specs.Names.{Native, Special}

@@ -3,7 +3,7 @@ use Rattle.std.specs.Prelude.{ℕ, suc, ℤ, pos, negsuc, Bool, true, false, ◌
 use Rattle.std.specs.Str.{bytes_eq}
 use Rattle.rl_tree.specs.Value.{Value, Int, Id, Str, Ref, Fun, Object}
 use Rattle.rl_tree.specs.Value as object
-use Rattle.rl_tree.specs.Tree.{Name}
+use Rattle.rl_tree.specs.Name.{Name}
 use Rattle.rl_tree.specs.declared.held.VarKind.TheVariants.{Plain}
 use Rattle.rl_meaning.specs.State.{State, Symbol}
 use Rattle.rl_meaning.specs.Outcome.{Outcome, Done, made_symbol}

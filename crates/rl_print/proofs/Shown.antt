@@ -10,7 +10,7 @@ use Rattle.rl_syms.specs.Contents.{value_of}
 use Rattle.rl_syms.specs.Table.{name_at}
 use Rattle.rl_tree.specs.Atoms as atoms
 use Rattle.rl_tree.specs.Atoms.{atom_text}
-use Rattle.rl_tree.specs.Printed.{Page}
+use Rattle.rl_tree.specs.Printing.{Page}
 use Rattle.rl_tree.specs.Printing.{Progress, Whole, column_with, marked, with_atom, with_atom_of, with_text}
 use Rattle.rl_world.specs.Waiting.{Follows, IsCutOff}
 use Rattle.rl_world.specs.declared.world.World.{World}

@@ -5,7 +5,7 @@ use Rattle.std.proofs.lemmas.Bool.{cond_both, ltb-true}
 use Rattle.rl_tags.specs.Tagged.{Tagged, PairAt, StrAt, VectorAt}
 use Rattle.rl_cells.specs.Cell.{Cell, PairCell, StrCell, VectorCell, cost_of, has_room, used_of}
 use Rattle.rl_tree.specs.Bytes.{is_digit, is_name_byte, raised}
-use Rattle.rl_tree.specs.Tree.{Name, quote_name}
+use Rattle.rl_tree.specs.Name.{Name, quote_name}
 use Rattle.rl_text.specs.Byte.{Mark, Open, Close, Dot, Quote, OpenVector, CloseVector, Class, Blank, Percent, Marks, Text, Escape, Letter, Digit, Sign, Special, Nothing, class_of}
 use Rattle.rl_text.specs.Word.{Atom, Integer, Identifier, String, signed}
 use Rattle.rl_text.specs.Maker.{Made, Has, Wants}

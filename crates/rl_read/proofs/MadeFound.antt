@@ -6,7 +6,7 @@ use Rattle.rl_tags.specs.Tagged.{Tagged, index_of}
 use Rattle.rl_cells.specs.Cell.{Cell}
 use Rattle.rl_syms.specs.Table.{Among, IsFree, IsNamed, IsTable, ids_from, name_at}
 use Rattle.rl_text.specs.Maker.{Has}
-use Rattle.rl_tree.specs.Tree.{Name}
+use Rattle.rl_tree.specs.Name.{Name}
 use Rattle.rl_world.specs.declared.world.World.{World}
 use Rattle.rl_read.specs.Stock.{identifier_at, identifier_made, named_among, stock_of}
 

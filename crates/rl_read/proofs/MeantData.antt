@@ -4,7 +4,7 @@ use Rattle.std.specs.List.{AllByRecursion}
 use Rattle.rl_tags.specs.Tagged.{Tagged, Number, IdAt, StrAt, PairAt, VectorAt, index_of}
 use Rattle.rl_tags.specs.Ids.{nil_id}
 use Rattle.rl_cells.specs.Cell.{Cell, cell_at, car_in, cdr_in, vector_in}
-use Rattle.rl_tree.specs.Tree.{nil_name}
+use Rattle.rl_tree.specs.Name.{nil_name}
 use Rattle.rl_syms.specs.Contents.{number_at, value_of, store_of}
 use Rattle.rl_syms.specs.Laws.{IsRead}
 use Rattle.rl_syms.specs.Table.{Among, IsTable, IsNamed, ids_from, name_at, nil_value}

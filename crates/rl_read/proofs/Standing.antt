@@ -5,7 +5,7 @@ use Rattle.rl_tags.specs.Tagged.{Tagged, Number, StrAt, PairAt, VectorAt, index_
 use Rattle.rl_cells.specs.Cell.{Cell, PairCell, StrCell, VectorCell, cell_at, is_id_cell, is_pair_cell, is_str_cell, is_vector_cell}
 use Rattle.rl_syms.specs.Laws.{AreIdentifiers}
 use Rattle.rl_syms.specs.Table.{IsTable, IsNamed, nil_value}
-use Rattle.rl_tree.specs.Tree.{nil_name}
+use Rattle.rl_tree.specs.Name.{nil_name}
 use Rattle.rl_text.specs.Datum.{Datum, Elements, Int, Id, Str, Pair, Vector, NoElements, Element, elements}
 use Rattle.rl_read.specs.Data.{IsDatumWithin, datum_within}
 use Rattle.rl_read.proofs.DataKept.{Stays, stands_inside}

@@ -9,7 +9,7 @@ use Rattle.rl_syms.specs.Frame.{block_in}
 use Rattle.rl_syms.specs.Laws.{AreIdentifiers, IsKept, LeaveBlocks, NamesEnter}
 use Rattle.rl_syms.specs.Made.{id_cost, new_id, with_id}
 use Rattle.rl_syms.specs.Table.{Among, IsFree, IsNamed, ids_from, name_at, nil_value}
-use Rattle.rl_tree.specs.Tree.{Name, quote_name}
+use Rattle.rl_tree.specs.Name.{Name, quote_name}
 use Rattle.rl_text.specs.Datum.{Datum, Pair, Id, nil, quoted}
 use Rattle.rl_text.specs.Maker.{Made, Has, Wants}
 use Rattle.rl_text.specs.Word.{Atom, Integer, Identifier, String, datum_of_atom}

@@ -5,7 +5,7 @@ use Rattle.rl_tags.specs.Ids.{nil_id}
 use Rattle.rl_cells.specs.Cell.{Cell, PairCell, is_live, is_pair, car_of, cdr_of, placed}
 use Rattle.rl_syms.specs.Table.{IsTable, IsNamed, name_at, nil_value}
 use Rattle.rl_syms.specs.Contents.{value_of, store_of}
-use Rattle.rl_tree.specs.Tree.{nil_name}
+use Rattle.rl_tree.specs.Name.{nil_name}
 use Rattle.rl_text.specs.Datum.{Datum, Pair}
 use Rattle.rl_text.specs.Stored.{IsStored}
 use Rattle.rl_text.specs.Gap.{IsBlankText}

@@ -5,7 +5,7 @@ use Rattle.rl_tags.specs.Tagged.{Tagged, Number, IdAt, StrAt, PairAt, VectorAt}
 use Rattle.rl_cells.specs.Cell.{Store, Cell, PairCell, StrCell, VectorCell, cell_at, car_in, cdr_in, car_of, cost_of, used_of, has_room, grown, changed_at}
 use Rattle.rl_syms.specs.Table.{name_at, ids_from, nil_value}
 use Rattle.rl_syms.specs.Made.{id_cost, new_id, with_id}
-use Rattle.rl_tree.specs.Tree.{Name, quote_name}
+use Rattle.rl_tree.specs.Name.{Name, quote_name}
 use Rattle.rl_text.specs.Word.{Atom, Integer, Identifier, String}
 use Rattle.rl_text.specs.Maker.{Made, Has, Wants, Maker}
 use Rattle.rl_world.specs.Counts.{Counts, tick_stop, ticked, room_stop, roomed}

@@ -4,7 +4,7 @@ use Rattle.std.specs.List.{list_all, flat_map}
 use Rattle.std.proofs.lemmas.Bool.{cases_Bool, cond-true, cond-false, and_parts, or_parts}
 use Rattle.std.proofs.lemmas.List.{append-nil}
 use Rattle.rl_tree.specs.Bytes.{is_letter, is_digit, is_name_byte, raised}
-use Rattle.rl_tree.specs.Token.{number_after, number_of}
+use Rattle.rl_tree.specs.Digits.{number_after, number_of}
 use Rattle.rl_tree.specs.Atoms.{doubled}
 use Rattle.rl_text.specs.Byte.{is_sign, is_special, Class, Letter, Digit, Special, class_of}
 use Rattle.rl_text.specs.Byte as byte

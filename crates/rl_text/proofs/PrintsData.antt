@@ -5,10 +5,10 @@ use Rattle.std.proofs.lemmas.Bool.Decides.{Decides-eqb, same_from_decides}
 use Rattle.std.proofs.lemmas.Slice.Eq.{bytes_eq-Decides}
 use Rattle.std.proofs.lemmas.List.{append-nil}
 use Rattle.std.proofs.lemmas.List.Sums.{fold-append}
-use Rattle.rl_tree.specs.Tree.{nil_name}
+use Rattle.rl_tree.specs.Name.{nil_name}
 use Rattle.rl_tree.specs.Value.{Value, Ref}
 use Rattle.rl_tree.specs.Value as value
-use Rattle.rl_tree.specs.Printed.{Page}
+use Rattle.rl_tree.specs.Printing.{Page}
 use Rattle.rl_tree.specs.Atoms.{Style, name_text}
 use Rattle.rl_tree.specs.Printing.{Setting, Progress, Ending, Whole, NoTurn, TooDeep, Job, Listed, dotted_atom, with_text, with_atom, and_then, goes_on, with_turn, with_turn_of, with_level, marked, job_printed, value_printed, object_printed, rest_printed, rest_object, vector_printed, places_printed, printed}
 use Rattle.rl_tree.specs.Printing as job

@@ -3,7 +3,7 @@ use Rattle.std.proofs.Common.{◌≡◌, ℕ, pos, negsuc, List, [], refl}
 use Rattle.std.specs.Fmt.{digits}
 use Rattle.std.specs.Prelude.{codes}
 use Rattle.rl_tree.specs.Atoms.{Prin1, Prin2}
-use Rattle.rl_tree.specs.Printed.{Page}
+use Rattle.rl_tree.specs.Printing.{Page}
 use Rattle.rl_text.specs.Datum.{Datum, Int, Id, Str, Pair, Vector, NoElements, Element, nil, quoted}
 use Rattle.rl_text.specs.Printed.{with_datum}
 use Rattle.rl_text.specs.Reading.{Found, NoText, Unreadable, reading}

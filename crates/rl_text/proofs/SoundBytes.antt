@@ -1,7 +1,7 @@
 -- What bytes may still come after what has begun, in each mode; and that a mark goes before what may come after it.
 use Rattle.std.proofs.Common.{◌≡◌, ℕ, zero, suc, ◌<◌, ◌≤◌, Bool, true, false, if◌then◌else◌, List, [], ◌∷◌, ◌++◌, length, map, Some, refl, ap}
 use Rattle.std.proofs.lemmas.Bool.{cond_both}
-use Rattle.rl_tree.specs.Token.{number_of}
+use Rattle.rl_tree.specs.Digits.{number_of}
 use Rattle.rl_tree.specs.Atoms.{doubled}
 use Rattle.rl_text.specs.Byte.{Mark, Open, Close, Dot, Quote, OpenVector, CloseVector, mark_byte, is_sign}
 use Rattle.rl_text.specs.Word.{Character, Plain, Escaped, Sign, Unsigned, Word, Number, Named, Single, character_text, sign_text, word_text, is_minus, character_of, Identifier, atom_of, datum_of_atom, IsNumber, is_name, IsWord}

@@ -6,7 +6,7 @@ use Rattle.std.proofs.lemmas.List.Concat.{flat_map-append}
 use Rattle.std.proofs.lemmas.List.Folds.{list_all-append}
 use Rattle.std.proofs.lemmas.Bool.{cond_both, cond-false, cases_Bool, and_parts, and_from, and_right, and_left, or_from}
 use Rattle.rl_tree.specs.Bytes.{is_letter, is_digit, is_name_byte, raised}
-use Rattle.rl_tree.specs.Token.{number_of, number_after}
+use Rattle.rl_tree.specs.Digits.{number_of, number_after}
 use Rattle.rl_tree.specs.Atoms.{doubled}
 use Rattle.rl_text.specs.Byte.{Class, Blank, Percent, Marks, Text, Escape, Letter, Digit, Special, Nothing, is_sign, is_special, class_of}
 use Rattle.rl_text.specs.Byte as byte

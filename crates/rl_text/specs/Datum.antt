@@ -1,6 +1,6 @@
 -- What a text spells: integers, identifiers by their names, strings, pairs and vectors (Standard Lisp Report 1979, S-expressions).
 use Rattle.std.specs.Prelude.{ℤ, ℕ, List, [], ◌∷◌}
-use Rattle.rl_tree.specs.Tree.{Name, nil_name, quote_name}
+use Rattle.rl_tree.specs.Name.{Name, nil_name, quote_name}
 
 mutual
   pub data Datum : Type 0 where

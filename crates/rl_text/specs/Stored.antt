@@ -1,6 +1,6 @@
 -- A value in a store is a datum: the same atoms, and pairs and vectors whose parts are those of the datum.
 use Rattle.std.specs.Prelude.{◌≡◌, ◌↔◌, ℕ, List, [], ◌∷◌, slice_get, Some}
-use Rattle.rl_tree.specs.Tree.{Name, nil_name}
+use Rattle.rl_tree.specs.Name.{Name, nil_name}
 use Rattle.rl_tree.specs.Value.{Value, Store}
 use Rattle.rl_tree.specs.Value as value
 use Rattle.rl_text.specs.Datum.{Datum, Elements, Int, Id, Str, Pair, Vector, NoElements, Element}

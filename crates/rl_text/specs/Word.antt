@@ -2,8 +2,8 @@
 use Rattle.std.specs.Prelude.{◌≡◌, ℕ, ℤ, pos, ◌^◌, ◌<◌, ◌≤◌, Bool, true, false, ◌&&◌, ◌||◌, ◌==◌, List, [], ◌∷◌, ◌++◌, length, map}
 use Rattle.std.specs.List.{list_all, flat_map}
 use Rattle.rl_tree.specs.Bytes.{is_letter, is_digit, is_name_byte, raised}
-use Rattle.rl_tree.specs.Tree.{Name}
-use Rattle.rl_tree.specs.Token.{number_of, negated}
+use Rattle.rl_tree.specs.Name.{Name}
+use Rattle.rl_tree.specs.Digits.{number_of, negated}
 use Rattle.rl_tree.specs.Atoms.{doubled}
 use Rattle.rl_text.specs.Byte.{is_sign, is_special}
 use Rattle.rl_text.specs.Datum.{Datum}

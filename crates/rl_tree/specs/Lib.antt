@@ -1,14 +1,8 @@
 pub mod Value
-pub mod Tree
+pub mod Name
 pub mod Bytes
-pub mod Token
-pub mod Text
-pub mod Reading
-pub mod Printed
+pub mod Digits
 pub mod Atoms
 pub mod Printing
-pub mod Evaluation
-pub mod Shown
-pub mod Meaning
 pub mod Command
 pub mod Preorder

@@ -1,10 +1,14 @@
 -- Printed text: what PRIN1 and PRIN2 print of a value, and the turns and levels that they take (Standard Lisp Report 1979; turns and levels are this project's). Each pair, and each place of a vector, takes a turn as it is reached; each descent into a CAR or a place that is a pair or a vector takes a level until it is done.
 use Rattle.std.specs.Prelude.{ℕ, zero, suc, ◌+◌, ◌-◌, ◌^◌, Bool, true, false, ◌&&◌, ◌==◌, nat_lt, min, if◌then◌else◌, List, [], ◌∷◌, ◌++◌, length, fold, slice_get, Option, Some, None}
 use Rattle.rl_tree.specs.Value.{Value, Int, Id, Str, Ref, Fun, Object, Pair, Vector, Store}
-use Rattle.rl_tree.specs.Printed.{Page}
 use Rattle.rl_tree.specs.Atoms.{Style, atom_text}
 
 -- ---- bytes on a page
+
+-- what was printed, and the number of bytes since the last end of line, or 2^59 - 1 where they are more
+pub record Page : Type 0 where
+  pub text : List ℕ
+  pub column : ℕ
 
 -- the column after a byte: the bytes since the last end of line, or 2^59 - 1 where they are more
 abbrev pub column_with : ℕ → ℕ → ℕ

@@ -1,11 +1,9 @@
 //! The definitions that the contracts of the layers above cite, in `specs/`, with laws about them, and owned trees. A law is the contract of a function that does nothing.
 #![tactic(auto)]
 
-pub mod evaluation;
 mod held;
 mod nodes;
 pub mod preorder;
-pub mod text;
 mod trees;
 
 pub use held::{HeldTree, Kept, Kind, Names, VarKind};

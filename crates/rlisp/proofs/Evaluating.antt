@@ -6,8 +6,8 @@ use Rattle.std.proofs.lemmas.Slice.Eq.{slice_eq-Decides}
 use Rattle.std.proofs.lemmas.Bool.Decides.{Decides-eqb}
 use Rattle.std.proofs.lemmas.List.Elements.{All-cons, All-head, All-tail, All-weaker}
 use Rattle.rl_tags.specs.Tagged.{Tagged}
-use Rattle.rl_tree.specs.Tree.{Tree, Int, Id, Pair, nil, nil_name, quoted}
-use Rattle.rl_tree.specs.Printed.{Page}
+use Rattle.rl_tree.specs.Name.{Tree, Int, Id, Pair, nil, nil_name, quoted}
+use Rattle.rl_tree.specs.Printing.{Page}
 use Rattle.rl_tree.specs.Evaluation.{is_built}
 use Rattle.rl_tree.specs.Shown.{shown, with_line}
 use Rattle.rlisp.specs.World.{Memory, is_known, tree_in, Keeps, Stands}

@@ -8,7 +8,7 @@ use Rattle.std.proofs.lemmas.List.{append-nil, at_drop_more, length-drop, length
 use Rattle.std.proofs.lemmas.List.Elements.{All-push}
 use Rattle.std.proofs.lemmas.List.Sums.{prefix_len-le-length}
 use Rattle.rl_tree.specs.Bytes.{is_blank, is_letter, is_digit, is_name_byte, raised}
-use Rattle.rl_tree.specs.Token.{Token, Open, Close, Dot, Quote, Number, Symbol, number_after, number_of, negated}
+use Rattle.rl_tree.specs.Digits.{Token, Open, Close, Dot, Quote, Number, Symbol, number_after, number_of, negated}
 use Rattle.rl_tree.specs.Reading.{Lexed, Ended, Found, Bad, front_of, after_front, without_blanks, symbol_at, plain_number_at, signed_number_at, token_from, token_at, tokens_with, tokens_within, tokens_in}
 use Rattle.rlisp.specs.declared.token.Token.{Token as Read}
 use Rattle.rlisp.specs.declared.token.Token.TheVariants as read

@@ -13,7 +13,7 @@ use Rattle.rl_syms.specs.Table.{IsTable, IsNamed, is_id, name_at}
 use Rattle.rl_syms.specs.Laws.{AreIdentifiers, IsKept, KeepNames, LeaveBlocks}
 use Rattle.rl_syms.specs.Made.{Finds, Enters, new_words}
 use Rattle.rl_syms.specs.Opened.{IsOpened, is_name_cell}
-use Rattle.rl_tree.specs.Tree.{Name, Tree, Int, Id, Pair, nil}
+use Rattle.rl_tree.specs.Name.{Name, Tree, Int, Id, Pair, nil}
 use Rattle.rlisp.specs.World.{Memory, is_known_in, is_known, tree_among, cell_tree, trees_after, tree_of, tree_in, IsBefore, IsOlderCell, IsIdNamed, IsMemory, Keeps, Stands}
 use Rattle.rlisp.proofs.Trees.{SameNames, tree_among-names, tree_among-after, length-trees_after, trees_after-append, trees_after_at, trees_after-names}
 

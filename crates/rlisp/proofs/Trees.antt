@@ -5,7 +5,7 @@ use Rattle.std.proofs.lemmas.List.{get_or_append_left, append-nil}
 use Rattle.std.proofs.Math.Seq.{get_or-append_seam}
 use Rattle.rl_tags.specs.Tagged.{Tagged, Number, IdAt, StrAt, PairAt, VectorAt, BigAt, FunAt}
 use Rattle.rl_cells.specs.Cell.{Cell, PairCell, StrCell, VectorCell, BigCell, BlockCell, More, cell_at, is_id_cell}
-use Rattle.rl_tree.specs.Tree.{Name, Tree, Id, nil}
+use Rattle.rl_tree.specs.Name.{Name, Tree, Id, nil}
 use Rattle.rlisp.specs.World.{is_known_in, tree_among, cell_tree, trees_after, IsBefore, IsOlderCell}
 
 -- a value has the same tree beside further trees

@@ -7,7 +7,7 @@ use Rattle.std.proofs.lemmas.List.{reverse-append, map-append, at_drop_all}
 use Rattle.std.proofs.lemmas.List.Elements.{All-nil, All-cons, All-append}
 use Rattle.rl_tags.specs.Tagged.{Tagged}
 use Rattle.rl_tree.specs.Bytes.{raised}
-use Rattle.rl_tree.specs.Tree.{Tree, Id, Pair, nil, quoted}
+use Rattle.rl_tree.specs.Name.{Tree, Id, Pair, nil, quoted}
 use Rattle.rl_tree.specs.Reading.{Progress, list_of, with_tree, with_close, with_token, whole_trees, trees_from}
 use Rattle.rl_tree.specs.Reading as reading
 use Rattle.rlisp.specs.World.{Memory, is_known, tree_in, Keeps, Stands}

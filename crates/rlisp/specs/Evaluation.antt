@@ -1,9 +1,9 @@
 -- Evaluation of the forms that are built: constants, QUOTE, CONS, PRINT, PRIN1, PRIN2 and TERPRI (Standard Lisp Report 1979, EVAL). No form changes an object, so a value is as good as its datum.
 use Rattle.std.specs.Prelude.{ℕ, Bool, true, false, ◌&&◌, ◌||◌, if◌then◌else◌, List, [], ◌∷◌, codes}
 use Rattle.std.specs.Str.{bytes_eq}
-use Rattle.rl_tree.specs.Tree.{Name, nil_name, t_name, quote_name, cons_name, print_name}
+use Rattle.rl_tree.specs.Name.{Name, nil_name, t_name, quote_name, cons_name, print_name}
 use Rattle.rl_tree.specs.Atoms.{Style, Prin1, Prin2}
-use Rattle.rl_tree.specs.Printed.{Page}
+use Rattle.rl_tree.specs.Printing.{Page}
 use Rattle.rl_tree.specs.Printing.{with_text}
 use Rattle.rl_text.specs.Datum.{Datum, Int, Id, Str, Pair, Vector, nil}
 use Rattle.rl_text.specs.Printed.{with_datum}

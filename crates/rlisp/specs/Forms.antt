@@ -1,8 +1,8 @@
 -- What a form is seen to be.
 use Rattle.std.specs.Prelude.{◌≡◌, Bool, true, false}
 use Rattle.std.specs.Str.{bytes_eq}
-use Rattle.rl_tree.specs.Tree.{Name, Tree, Int, Id, Pair, nil, nil_name, quoted, print_name, cons_name}
-use Rattle.rl_tree.specs.Printed.{Page}
+use Rattle.rl_tree.specs.Name.{Name, Tree, Int, Id, Pair, nil, nil_name, quoted, print_name, cons_name}
+use Rattle.rl_tree.specs.Printing.{Page}
 use Rattle.rl_tree.specs.Evaluation.{is_built}
 use Rattle.rl_tree.specs.Shown.{shown}
 use Rattle.rlisp.specs.World.{Memory, is_known, tree_in}

@@ -2,7 +2,7 @@
 use Rattle.std.specs.Prelude.{◌≡◌, ℕ, suc, Bool, true, false, List, [], ◌∷◌, map, Option, Some, None}
 use Rattle.std.specs.List.{AllByRecursion}
 use Rattle.rl_tags.specs.Tagged.{Tagged}
-use Rattle.rl_tree.specs.Tree.{Tree, Int, Id, Pair}
+use Rattle.rl_tree.specs.Name.{Tree, Int, Id, Pair}
 use Rattle.rl_tree.specs.Reading.{Progress, with_tree}
 use Rattle.rl_tree.specs.Reading as reading
 use Rattle.rlisp.specs.World.{Memory, is_known, tree_in}

@@ -1,7 +1,7 @@
 -- What a value is seen to be.
 use Rattle.std.specs.Prelude.{◌≡◌, true}
 use Rattle.rl_tags.specs.Tagged.{Tagged}
-use Rattle.rl_tree.specs.Tree.{Int, Id, Pair}
+use Rattle.rl_tree.specs.Name.{Int, Id, Pair}
 use Rattle.rlisp.specs.World.{Memory, is_known, tree_in}
 use Rattle.rlisp.specs.declared.world.Look.{Look}
 use Rattle.rlisp.specs.declared.world.Look.TheVariants as look

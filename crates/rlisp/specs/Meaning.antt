@@ -1,7 +1,7 @@
 -- The meaning of a run of `sl`: the forms of the file are evaluated in turn, on an empty page.
 use Rattle.std.specs.Prelude.{true, ◌≡◌, ◌⊎◌, ℕ, zero, suc, ◌<◌, nat_lt, if◌then◌else◌, List, [], ◌∷◌, length, Option, Some, None, option_map}
 use Rattle.std.specs.List.{list_all}
-use Rattle.rl_tree.specs.Printed.{Page}
+use Rattle.rl_tree.specs.Printing.{Page}
 use Rattle.rl_text.specs.Datum.{Datum}
 use Rattle.rl_text.specs.Gap.{IsBlankText}
 use Rattle.rl_text.specs.Spelling.{IsSpelled}

@@ -1,6 +1,6 @@
 -- What is left to print: tasks, the newest first, and the pieces that they stand for.
 use Rattle.std.specs.Prelude.{◌≡◌, ◌<◌, Bool, true, List, [], ◌∷◌, ◌++◌, length}
-use Rattle.rl_tree.specs.Printed.{Page, Piece, pieces_of, rest_pieces, with_pieces}
+use Rattle.rl_tree.specs.Printing.{Page, Piece, pieces_of, rest_pieces, with_pieces}
 use Rattle.rl_tree.specs.Evaluation.{line_length}
 use Rattle.rlisp.specs.World.{Memory, is_known, tree_in}
 use Rattle.rlisp.specs.declared.printer.Task.{Task}

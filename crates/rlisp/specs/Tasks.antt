@@ -2,8 +2,8 @@
 use Rattle.std.specs.Prelude.{◌≡◌, ℕ, ◌+◌, ◌<◌, Bool, true, if◌then◌else◌, List, [], ◌∷◌, map, Option, Some, None, MatchBool}
 use Rattle.std.specs.List.{All}
 use Rattle.rl_tags.specs.Tagged.{Tagged}
-use Rattle.rl_tree.specs.Tree.{Tree, Int, Id, Pair}
-use Rattle.rl_tree.specs.Printed.{Page}
+use Rattle.rl_tree.specs.Name.{Tree, Int, Id, Pair}
+use Rattle.rl_tree.specs.Printing.{Page}
 use Rattle.rl_tree.specs.Evaluation.{is_built}
 use Rattle.rl_tree.specs.Shown.{shown, with_line}
 use Rattle.rlisp.specs.World.{Memory, is_known, tree_in}

@@ -1,7 +1,7 @@
 -- The tokens of the program as those of the definitions.
 use Rattle.std.specs.Prelude.{pos, negsuc, ◌≤◌, ◌≤ℤ◌, List, length, map}
 use Rattle.rl_tree.specs.Bytes.{raised}
-use Rattle.rl_tree.specs.Token as token
+use Rattle.rl_tree.specs.Digits as token
 use Rattle.rl_tree.specs.Reading as reading
 use Rattle.rlisp.specs.declared.token.Token.{Token}
 use Rattle.rlisp.specs.declared.token.Token.TheVariants.{Open, Close, Dot, Quote, Number, Symbol}

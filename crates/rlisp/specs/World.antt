@@ -3,7 +3,7 @@ use Rattle.std.specs.Prelude.{◌≡◌, ℕ, ◌<◌, Bool, true, false, List, 
 use Rattle.rl_tags.specs.Tagged.{Tagged, Number, IdAt, StrAt, PairAt, VectorAt, BigAt, FunAt}
 use Rattle.rl_cells.specs.Cell.{Cell, PairCell, Store, cell_at, is_id_cell, is_pair_cell}
 use Rattle.rl_syms.specs.Table.{IsTable, name_at}
-use Rattle.rl_tree.specs.Tree.{Name, Tree, Int, Id, Pair, nil, nil_name, quote_name}
+use Rattle.rl_tree.specs.Name.{Name, Tree, Int, Id, Pair, nil, nil_name, quote_name}
 
 -- the store of objects, and where the chain of its identifiers begins
 pub record Memory : Type 0 where

@@ -1,7 +1,7 @@
 //! Evaluation of forms, by a stack of tasks and one of values, so that forms may nest as deep as memory lasts.
 ghost use Rattle.std.specs.Prelude.{◌≡◌, true, [], map, IsTrue, IfOk, OnOk, MatchOption};
 ghost use Rattle.std.specs.List.{All, list_all};
-ghost use Rattle.rl_tree.specs.Tree.{Id, Pair};
+ghost use Rattle.rl_tree.specs.Name.{Id, Pair};
 ghost use Rattle.rl_tree.specs.Evaluation.{is_built};
 ghost use Rattle.rl_tree.specs.Shown.{shown, page_after};
 ghost use Rattle.rlisp.specs.World.{Memory, is_known, tree_in, Keeps};

@@ -2,7 +2,7 @@
 ghost use Rattle.std.specs.Prelude.{◌≡◌, [], ◌+◌, ◌&&◌, length, nat_lt, OnOk};
 ghost use Rattle.std.specs.Fmt.{signed_decimal};
 ghost use Rattle.rl_tree.specs.Evaluation.{line_length};
-ghost use Rattle.rl_tree.specs.Printed.{Atom, Mark, with_end_of_line, with_piece};
+ghost use Rattle.rl_tree.specs.Printing.{Atom, Mark, with_end_of_line, with_piece};
 
 use itoa::Buffer;
 use rl_io::OutOfMemory;
@@ -24,7 +24,7 @@ pub(crate) struct Page {
 
 impl Model for Page {
     ghost use Rattle.std.specs.Prelude.{◌≤◌, ◌-◌, ◌^◌};
-    ghost use Rattle.rl_tree.specs.Printed.{Page};
+    ghost use Rattle.rl_tree.specs.Printing.{Page};
 
     ghost Value = { Page };
 

@@ -3,8 +3,8 @@ ghost use Rattle.std.specs.Prelude.{◌≡◌, [], ◌∷◌, IfNone, IfSome, Is
 ghost use Rattle.std.specs.Str.{bytes_eq};
 ghost use Rattle.rl_tree.specs.Shown.{with_line};
 ghost use Rattle.rl_tree.specs.Evaluation.{line_length};
-ghost use Rattle.rl_tree.specs.Printed.{rest_pieces, with_pieces};
-ghost use Rattle.rl_tree.specs.Tree.{Id, nil_name};
+ghost use Rattle.rl_tree.specs.Printing.{rest_pieces, with_pieces};
+ghost use Rattle.rl_tree.specs.Name.{Id, nil_name};
 ghost use Rattle.rlisp.specs.World.{is_known, tree_in};
 ghost use Rattle.rlisp.specs.Printing.{Advances, AreKnown};
 ghost use Rattle.rlisp.specs.declared.printer.Task.TheVariants.{Whole, Rest};

@@ -1,7 +1,7 @@
 //! The reader: tokens into values, with the lists that are still open on a stack.
 ghost use Rattle.std.specs.Prelude.{◌≡◌, ◌≢◌, ◌≤◌, [], ◌∷◌, length, map, reverse, true, false, option_map, IsTrue, IfOk, IfSome, OnOk, MatchOption};
 ghost use Rattle.std.specs.List.{All};
-ghost use Rattle.rl_tree.specs.Tree.{Pair, quoted};
+ghost use Rattle.rl_tree.specs.Name.{Pair, quoted};
 ghost use Rattle.rl_tree.specs.Reading.{list_of, with_dot, with_close, with_token, trees_in};
 ghost use Rattle.rlisp.specs.World.{is_known, tree_in, Keeps, Stands};
 ghost use Rattle.rlisp.specs.Tokens.{IsSmall, token_of, tokens_of};

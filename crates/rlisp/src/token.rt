@@ -1,7 +1,7 @@
 //! The tokens of a text, each with the bytes that it rests on.
 ghost use Rattle.std.specs.Prelude.{◌≡◌, ◌≤◌, ◌<◌, ◌^◌, All, IfOk, IfSome, MatchOption, length, option_map};
 ghost use Rattle.rl_tree.specs.Bytes.{is_blank, is_digit, is_letter, is_name_byte};
-ghost use Rattle.rl_tree.specs.Token.{number_of};
+ghost use Rattle.rl_tree.specs.Digits.{number_of};
 ghost use Rattle.rl_tree.specs.Reading.{after_front, front_of, plain_number_at, signed_number_at, symbol_at, token_at, tokens_in, without_blanks};
 ghost use Rattle.rlisp.specs.Tokens.{IsSmall, lexed_of, tokens_of};
 

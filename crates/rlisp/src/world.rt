@@ -1,7 +1,7 @@
 //! The memory of a run: the store of objects and the table of names, seen by the trees that values stand for.
 ghost use Rattle.std.specs.Prelude.{◌≡◌, map, pos, negsuc, ◌≤◌, ◌≤ℤ◌, IsTrue, IfOk, length};
 ghost use Rattle.rl_tree.specs.Bytes.{raised};
-ghost use Rattle.rl_tree.specs.Tree.{Id, Int, Pair, nil, quote_name};
+ghost use Rattle.rl_tree.specs.Name.{Id, Int, Pair, nil, quote_name};
 ghost use Rattle.rlisp.specs.World.{is_known, tree_in, Keeps, Stands};
 ghost use Rattle.rlisp.specs.Looks.{Sees};
 

@@ -1,5 +1,5 @@
 use Rattle.std.proofs.Common.{◌≡◌, ◌≤◌, ◌^◌, drop}
-use Rattle.rl_tree.specs.Token.{number_after, number_of}
+use Rattle.rl_tree.specs.Digits.{number_after, number_of}
 use Rattle.rlisp.proofs.token.number.Given as goal
 
 abbrev pub invariant-loop-digit : goal.invariant-loop-digit

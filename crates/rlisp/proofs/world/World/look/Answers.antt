@@ -1,7 +1,7 @@
 use Rattle.std.proofs.Common.{◌≡◌, sym, ap, ◌∙◌, arith}
 use Rattle.std.proofs.lemmas.Int.{to_z-of_z}
 use Rattle.rl_cells.specs.Cell.{bytes_of}
-use Rattle.rl_tree.specs.Tree.{Int}
+use Rattle.rl_tree.specs.Name.{Int}
 use Rattle.rlisp.specs.World.{tree_in}
 use Rattle.rlisp.proofs.Memories.{known_in, number_seen, identifier_known, identifier_seen, pair_value_seen, pair_live}
 use Rattle.rlisp.proofs.world.World.look.Goals as goal
