@@ -298,3 +298,7 @@ a_removed_macro_turns : (run 100000000 50000 [] (codes "(DM M (U) 1) (DE F (X) (
     ≡ Some (record { event = Turned 244; printed = 0; noted = 0 })
 unfolding bare_state opening_rows byte_names special_rows native_rows digits error_texts job
 a_removed_macro_turns = refl
+
+an_applied_list_is_no_body : (run 100000000 50000 [] (codes "(DM M (U) 1) (APPLY '(LAMBDA NIL (DM M (U) 2)) NIL)")).state.event ≡ None
+unfolding bare_state opening_rows byte_names special_rows native_rows digits error_texts job
+an_applied_list_is_no_body = refl
