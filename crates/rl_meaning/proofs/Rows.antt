@@ -1,5 +1,5 @@
 -- Runs that the definition computes, from a state without the prelude.
-use Rattle.std.proofs.Common.{◌≡◌, ℕ, List, [], ◌∷◌, ◌++◌, Some, refl}
+use Rattle.std.proofs.Common.{◌≡◌, [], ◌++◌, ◌∷◌, Some, refl}
 use Rattle.std.specs.Prelude.{codes}
 use Rattle.std.specs.Fmt.{digits}
 use Rattle.rl_tags.specs.Opening.{opening_rows, byte_names}
@@ -9,27 +9,8 @@ use Rattle.rl_meaning.specs.Errors.{error_texts}
 use Rattle.rl_meaning.specs.Outcome.{Turns, Depth, Expands}
 use Rattle.rl_meaning.specs.Evaluation.{job}
 use Rattle.rl_meaning.specs.Opening.{bare_state}
-use Rattle.rl_meaning.specs.Run.{Ending, Finished, Stops, Ran, run_bytes, started}
-
--- a run of these forms within so many turns and levels, over this input
-abbrev run : ℕ → ℕ → List ℕ → List ℕ → Ran
-run turns levels input source = run_bytes (Some levels) source (started (record { turns = turns; cells = Some 4000000; levels = Some levels }) input bare_state)
-
-abbrev printed : List ℕ → List ℕ
-printed source = (run 100000000 50000 [] source).state.outside.output
-
--- how a run ends, what it printed and noted, and the turns that it left
-pub record Seen : Type 0 where
-  pub ending : Ending
-  pub output : List ℕ
-  pub notes : List ℕ
-  pub left : ℕ
-
-abbrev seen : Ran → Seen
-seen r = record { ending = r.ending; output = r.state.outside.output; notes = r.state.outside.notes; left = r.state.counts.turns }
-
-abbrev line : List ℕ → List ℕ
-line text = text ++ 10 ∷ []
+use Rattle.rl_meaning.specs.Run.{Finished, Stops}
+use Rattle.rl_meaning.proofs.Runs.{run, printed, seen, line}
 
 a_pair : printed (codes "(PRINT (CONS 1 2))") ≡ line (codes "(1 . 2)")
 unfolding bare_state opening_rows byte_names special_rows native_rows digits error_texts job

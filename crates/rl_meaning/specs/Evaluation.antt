@@ -154,12 +154,12 @@ module _ (rec : Rec) where
   -- ---- application
 
   -- the body of a held function: its mark, its parameters bound in order, and former bindings back on every way out
-  abbrev pub held_body : Option ℕ → Levels → ℕ → Held → List Value → State → Outcome Value
+  abbrev pub held_body : Option ℕ → Levels → Option ℕ → Held → List Value → State → Outcome Value
   held_body name levels f held vs s =
-      restored (length s.bindings) (binding levels held.kept held.parameters vs (with_mark (Some f) s)
+      restored (length s.bindings) (binding levels held.kept held.parameters vs (with_mark f s)
       (λ levels s. rec (Body name (record { levels = levels; chain = longest_chain; kept = held.kept }) held.body) s))
 
-  abbrev pub held_applied : Option ℕ → Levels → ℕ → Held → List Value → State → Outcome Value
+  abbrev pub held_applied : Option ℕ → Levels → Option ℕ → Held → List Value → State → Outcome Value
   held_applied name levels f held vs s = turn s (λ s. deeper 1 levels (requests_taken name s) (λ levels. held_body name levels f held vs (requests_taken name s)))
 
   -- a held form that is evaluated once, with a mark and no variables
@@ -174,10 +174,19 @@ module _ (rec : Rec) where
   abbrev pub errorset : Levels → Value → Value → State → Outcome Value
   errorset levels u msgp s = turn s (λ s. then_do (hold_form levels u s) (λ f s. caught levels msgp (form_evaluated levels (function_at s f) s)))
 
+  abbrev pub counted : Bool → Value → State → (State → Outcome Value) → Outcome Value
+  counted true culprit s next = next s
+  counted false culprit s next = fail wrong_count culprit s
+
+  -- the held form of a LAMBDA list is no body that turns: its mark names no function
+  abbrev pub list_applied : Levels → ℕ → Function → List Value → State → Outcome Value
+  list_applied levels f (HeldFunction held) vs s = counted (length held.parameters == length vs) (Fun f) s (λ s. held_applied None levels None held vs s)
+  list_applied levels f other vs s = Done nil s
+
   -- APPLY: first the tests of f, then the walk of l, its levels, and the holding of a LAMBDA list
   abbrev pub applied_to : Levels → Target → List Value → State → Outcome Value
   applied_to levels (Function_ name f) vs s = rec (Call_ name levels f vs) s
-  applied_to levels (Lambda rest) vs s = then_do (hold_lambda Expr levels (pair_at s rest) s) (λ f s. rec (Call_ None levels f vs) s)
+  applied_to levels (Lambda rest) vs s = then_do (hold_lambda Expr levels (pair_at s rest) s) (λ f s. list_applied levels f (function_at s f) vs s)
   applied_to levels other vs s = Done nil s
 
   abbrev pub apply_target : Levels → Target → Value → Value → State → Outcome Value
@@ -200,10 +209,6 @@ module _ (rec : Rec) where
   native_applied Load levels vs s = load_file vs s
   native_applied other levels vs s = native other levels vs s
 
-  abbrev pub counted : Bool → Value → State → (State → Outcome Value) → Outcome Value
-  counted true culprit s next = next s
-  counted false culprit s next = fail wrong_count culprit s
-
   -- the culprit of a wrong number of arguments: the name that was called, or the function pointer
   abbrev pub called_as : Option ℕ → ℕ → Value
   called_as (Some i) f = Id i
@@ -212,7 +217,7 @@ module _ (rec : Rec) where
   abbrev pub function_applied : Option ℕ → Levels → ℕ → Function → List Value → State → Outcome Value
   function_applied name levels f (SpecialForm form) vs s = fail wrong_type (called_as name f) s
   function_applied name levels f (NativeFunction n) vs s = counted (arguments_of n == length vs) (called_as name f) s (λ s. native_applied n levels vs s)
-  function_applied name levels f (HeldFunction held) vs s = counted (length held.parameters == length vs) (called_as name f) s (λ s. held_applied name levels f held vs s)
+  function_applied name levels f (HeldFunction held) vs s = counted (length held.parameters == length vs) (called_as name f) s (λ s. held_applied name levels (Some f) held vs s)
 
   abbrev pub applied : Option ℕ → Levels → ℕ → List Value → State → Outcome Value
   applied name levels f vs s = function_applied name levels f (function_at s f) vs s
