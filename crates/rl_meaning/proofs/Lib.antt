@@ -1,1 +1,14 @@
 mod Rows
+mod Spending
+mod SpendingObjects
+mod SpendingWalks
+mod SpendingHolding
+mod SpendingVariables
+mod SpendingNatives
+mod SpendingPrinting
+mod Reading
+mod SpendingReading
+mod SpendingAll
+mod Alike
+mod Fuel
+mod Runs
