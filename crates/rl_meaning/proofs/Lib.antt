@@ -5,3 +5,16 @@ mod RowsForms
 mod RowsCounts
 mod RowsPrinting
 mod RowsPrelude
+mod Spending
+mod SpendingObjects
+mod SpendingWalks
+mod SpendingHolding
+mod SpendingVariables
+mod SpendingNatives
+mod SpendingPrinting
+mod Reading
+mod SpendingReading
+mod SpendingAll
+mod Alike
+mod Fuel
+mod RunsFall

@@ -75,8 +75,8 @@ deeper_here n here s next = deeper n here.levels s (λ levels. next (record here
 -- ---- expansions
 
 abbrev pub opened_expansion : ℕ → Option Expansion → Expansion
-opened_expansion f None = record { macro = f; open_count = 1; turns = expansion_turns; cells = expansion_cells }
-opened_expansion f (Some e) = record e { open_count = suc e.open_count }
+opened_expansion f None = record { macro = f; inner_count = 0; turns = expansion_turns; cells = expansion_cells }
+opened_expansion f (Some e) = record e { inner_count = suc e.inner_count }
 
 -- an expansion is open; turns and cells are those of the outermost one
 abbrev pub with_expansion : ℕ → State → State
@@ -84,7 +84,7 @@ with_expansion f s = record s { counts = record s.counts { expansion = Some (ope
 
 abbrev pub closed_expansion : Option Expansion → Option Expansion
 closed_expansion None = None
-closed_expansion (Some e) = elim e.open_count [ zero ↦ None | suc n ↦ if n == 0 then None else Some (record e { open_count = n }) ]
+closed_expansion (Some e) = elim e.inner_count [ zero ↦ None | suc n ↦ Some (record e { inner_count = n }) ]
 
 abbrev pub without_expansion : State → State
 without_expansion s = record s { counts = record s.counts { expansion = closed_expansion s.counts.expansion } }

@@ -62,10 +62,10 @@ pub data Entry : Type 0 where
 
 -- ---- counts
 
--- the outermost open expansion: its macro, how many expansions are open, and the turns and cells that it has left
+-- the outermost open expansion: its macro, how many expansions are open inside it, and the turns and cells that it has left
 pub record Expansion : Type 0 where
   pub macro : ℕ
-  pub open_count : ℕ
+  pub inner_count : ℕ
   pub turns : ℕ
   pub cells : ℕ
 
