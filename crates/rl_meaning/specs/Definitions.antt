@@ -14,6 +14,7 @@ use Rattle.rl_meaning.specs.Holding.{hold_function, fits_kind}
 use Rattle.rl_meaning.specs.Properties.{of_identifier, with_identifier, for_each}
 use Rattle.rl_meaning.specs.Variables.{assigned_by_name}
 use Rattle.rl_meaning.specs.Reach.{with_change}
+use Rattle.rl_meaning.specs.Compiling.{defined}
 
 -- ---- functions by their number
 
@@ -102,7 +103,7 @@ putd levels f t b s =
     with_kind (kind_of t) t s (λ kind s.
     with_body (body_in s kind b) b s (λ body s.
     own_name i s (λ s.
-    then_do (function_of kind levels body s) (λ g s. Done f (define i kind g s))))))
+    then_do (function_of kind levels body s) (λ g s. Done f (defined i (define i kind g s)))))))
 
 abbrev pub remd : Value → State → Outcome Value
 remd f s =

@@ -8,6 +8,7 @@ pub mod Walks
 pub mod Holding
 pub mod Copying
 pub mod Reach
+pub mod Compiling
 pub mod Variables
 pub mod Numbers
 pub mod Lists
@@ -17,7 +18,6 @@ pub mod Definitions
 pub mod Printing
 pub mod Input
 pub mod Natives
-pub mod Compiling
 pub mod Forms
 pub mod Evaluation
 pub mod Opening
