@@ -42,6 +42,10 @@ turns_of_parameters : bounds_of_turns (codes "(DE F (X X) (CAR 'A))") 14 ≡ (Fi
 unfolding bare_state opening_rows byte_names special_rows native_rows digits error_texts job
 turns_of_parameters = refl
 
+turns_of_parameters_like_a_function_form : bounds_of_turns (codes "(DE F (FUNCTION (LAMBDA NIL 1)) 5)") 13 ≡ (Finished, Stops Turns)
+unfolding bare_state opening_rows byte_names special_rows native_rows digits error_texts job
+turns_of_parameters_like_a_function_form = refl
+
 turns_of_eval : bounds_of_turns (codes "(EVAL '(CAR '(A)))") 9 ≡ (Finished, Stops Turns)
 unfolding bare_state opening_rows byte_names special_rows native_rows digits error_texts job
 turns_of_eval = refl

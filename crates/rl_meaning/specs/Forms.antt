@@ -126,6 +126,7 @@ visited levels t s = Done tt s
 -- the spine of a parameter list
 abbrev pub visited_spine : Tree → State → Outcome (Unit {0})
 visited_spine (Pair a d) s = turn s (λ s. visited_spine d s)
+visited_spine (Literal n e) s = turn s (λ s. turn s (λ s. Done tt s))
 visited_spine t s = Done tt s
 
 -- the tree without the numbers of FUNCTION forms
