@@ -246,6 +246,21 @@ levels_of_printing_along : bounds_of_levels (codes "(SETQ X (CONS 1 2)) (SETQ X 
 unfolding bare_state opening_rows byte_names special_rows native_rows digits error_texts job
 levels_of_printing_along = refl
 
+-- its comparisons begin at no level of their own
+levels_of_member : bounds_of_levels (codes "(SETQ X (CONS 1 2)) (SETQ X (CONS X 3)) (SETQ Y (CONS 1 2)) (SETQ Y (CONS Y 3)) (SETQ Z (CONS Y 4)) (MEMBER X Z)") 2
+    ≡ (Finished, Stops Depth)
+unfolding bare_state opening_rows byte_names special_rows native_rows digits error_texts job
+levels_of_member = refl
+
+levels_of_a_copy : bounds_of_levels (codes "(DF F (X) 1) (F (((A))))") 4 ≡ (Finished, Stops Depth)
+unfolding bare_state opening_rows byte_names special_rows native_rows digits error_texts job
+levels_of_a_copy = refl
+
+-- the third pair passes both bounds
+turns_before_levels_in_printing : (run 22 2 [] (codes "(SETQ X (CONS 1 2)) (SETQ X (CONS X 3)) (SETQ X (CONS X 4)) (PRIN1 X)")).ending ≡ Stops Turns
+unfolding bare_state opening_rows byte_names special_rows native_rows digits error_texts job
+turns_before_levels_in_printing = refl
+
 -- ---- cells
 
 cells_of_an_atom : bounds_of_cells (codes "5") 8 ≡ (Finished, Stops Cells)

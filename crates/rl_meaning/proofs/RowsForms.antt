@@ -5,10 +5,12 @@ use Rattle.std.specs.Fmt.{digits}
 use Rattle.rl_tags.specs.Opening.{opening_rows, byte_names}
 use Rattle.rl_meaning.specs.Names.{special_rows, native_rows}
 use Rattle.rl_meaning.specs.State.{Stray, Turned}
+use Rattle.rl_meaning.specs.Outcome.{Depth}
 use Rattle.rl_meaning.specs.Errors.{error_texts}
 use Rattle.rl_meaning.specs.Evaluation.{job}
 use Rattle.rl_meaning.specs.Opening.{bare_state}
-use Rattle.rl_meaning.proofs.Runs.{run, printed, line, lines}
+use Rattle.rl_meaning.specs.Run.{Finished, Stops}
+use Rattle.rl_meaning.proofs.Runs.{run, printed, printed_over, seen, line, lines}
 
 -- ---- special forms
 
@@ -112,6 +114,17 @@ literals_inside_literals : printed (codes "(DE F NIL (FUNCTION (LAMBDA (X) (FUNC
 unfolding bare_state opening_rows byte_names special_rows native_rows digits error_texts job
 literals_inside_literals = refl
 
+-- the rest of a list is none: its pairs are copied, and its identifiers evaluated
+quoted_parts_are_elements : printed (codes "(DF Q (X) X) (PRINT (Q QUOTE (A B))) (DE G NIL (Q QUOTE (A B))) (PRINT (EQ (CADR (G)) (CADR (G)))) (DE H NIL (Q '(A B))) (PRINT (EQ (CADAR (H)) (CADAR (H)))) (DE F (X) QUOTE X) (F 1) (COND (QUOTE X)) (SETQ QUOTE 5) (PRINT (COND (QUOTE X))) (PRINT (F 1))")
+    ≡ lines (codes "(QUOTE (A B))" ∷ codes "NIL" ∷ codes "T" ∷ codes "***** QUOTE is unbound" ∷ codes "***** QUOTE is unbound" ∷ codes "X" ∷ codes "1" ∷ [])
+unfolding bare_state opening_rows byte_names special_rows native_rows digits error_texts job
+quoted_parts_are_elements = refl
+
+constants_in_progs : printed (codes "(PRINT (PROG NIL (GO NIL) (RETURN 0) NIL (RETURN 1))) (PROG (T) 1) (PROG (NIL) 1) (PROG (X !$EOF!$) 1) (PRINT (PROG NIL T (COND (NIL (GO T))) (RETURN 2)))")
+    ≡ lines (codes "1" ∷ codes "***** T may not be bound or set" ∷ codes "***** NIL may not be bound or set" ∷ codes "***** $EOF$ may not be bound or set" ∷ codes "2" ∷ [])
+unfolding bare_state opening_rows byte_names special_rows native_rows digits error_texts job
+constants_in_progs = refl
+
 -- ---- definitions
 
 definitions_of_three_kinds : printed (codes "(PRINT (DE F (X) (PRINT X) (CONS X X))) (PRINT (F 1)) (PRINT (DF G (X) X)) (PRINT (G (CAR A) B 5)) (PRINT (DM H (X) (LIST 'QUOTE X))) (PRINT (H A (B))) (PRINT (DE K NIL)) (PRINT (K)) (PRINT (G))")
@@ -158,6 +171,16 @@ arguments_from_left_to_right : printed (codes "(PRINT (LIST (PRINT 1) (PRINT 2))
     ≡ lines (codes "1" ∷ codes "2" ∷ codes "(1 2)" ∷ codes "3" ∷ codes "4" ∷ codes "***** 4 is of a wrong type" ∷ codes "5" ∷ codes "6" ∷ codes "5" ∷ [])
 unfolding bare_state opening_rows byte_names special_rows native_rows digits error_texts job
 arguments_from_left_to_right = refl
+
+functions_defined_anew : printed (codes "(DE F NIL (DE F NIL 2) 1) (PRINT (F)) (PRINT (F)) (SETQ P (CDR (GETD 'F))) (REMD 'F) (PRINT (APPLY P NIL)) (DF G (X) X) (G . 5) (DE G (X) X) (PRINT (G (CAR '(A))))")
+    ≡ lines (codes "1" ∷ codes "2" ∷ codes "2" ∷ codes "***** G is badly formed" ∷ codes "A" ∷ [])
+unfolding bare_state opening_rows byte_names special_rows native_rows digits error_texts job
+functions_defined_anew = refl
+
+natives_by_another_name : printed (codes "(PUTD 'J 'EXPR (CDR (GETD 'ADD1))) (PRINT (J 1)) (J 576460752303423487) (J) (J 'A) (PUTD 'E 'EXPR (CDR (GETD 'EVAL))) (PRINT (E '(CAR '(A)))) (PRINT (APPLY 'APPLY (LIST 'CAR (LIST '(A))))) (PRINT (APPLY 'EVAL '((CAR '(B))))) (PRINT (APPLY 'ERRORSET '((CAR 5) T NIL)))")
+    ≡ lines (codes "2" ∷ codes "***** ADD1 overflows" ∷ codes "***** J has a wrong number of arguments" ∷ codes "***** A is of a wrong type" ∷ codes "A" ∷ codes "A" ∷ codes "B" ∷ codes "***** 5 is of a wrong type" ∷ codes "13" ∷ [])
+unfolding bare_state opening_rows byte_names special_rows native_rows digits error_texts job
+natives_by_another_name = refl
 
 -- ---- variables
 
@@ -206,6 +229,21 @@ unreadable_statements : printed ((line (codes "(PRINT 1) (CAR 'B) ) (PRINT 0)"))
 unfolding bare_state opening_rows byte_names special_rows native_rows digits error_texts job
 unreadable_statements = refl
 
+numbers_of_errors : printed_over (codes ")") (codes "(PRINT (LIST (ERRORSET 'X NIL NIL) (ERRORSET '(NN) NIL NIL) (ERRORSET '(CAR) NIL NIL) (ERRORSET '(CAR 5) NIL NIL) (ERRORSET '(MKVECT -2) NIL NIL) (ERRORSET '(ADD1 576460752303423487) NIL NIL) (ERRORSET '(QUOTIENT 1 0) NIL NIL) (ERRORSET '(GO A) NIL NIL) (ERRORSET '(QUOTE) NIL NIL) (ERRORSET '(SETQ T 1) NIL NIL) (ERRORSET '(DE CAR NIL 1) NIL NIL) (ERRORSET '(COMPRESS NIL) NIL NIL) (ERRORSET '(READ) NIL NIL)))")
+    ≡ lines (codes "(10 11 12 13 14 15 16 17 18 19 20 23 23)" ∷ [])
+unfolding bare_state opening_rows byte_names special_rows native_rows digits error_texts job
+numbers_of_errors = refl
+
+notes_of_errorsets : (run 1000 100 [] (codes "(ERRORSET '(ERRORSET '(CAR 5) NIL NIL) NIL NIL) (ERRORSET '(ERROR -5 1) NIL NIL)")).state.outside.notes
+    ≡ lines (codes "errorset 13" ∷ codes "errorset value" ∷ codes "errorset -5" ∷ [])
+unfolding bare_state opening_rows byte_names special_rows native_rows digits error_texts job
+notes_of_errorsets = refl
+
+stops_are_not_caught : seen (run 100 100 [] (codes "(DE L NIL (L)) (ERRORSET '(L) T NIL) (PRINT 1)"))
+    ≡ record { ending = Stops Depth; output = []; notes = []; left = 36 }
+unfolding bare_state opening_rows byte_names special_rows native_rows digits error_texts job
+stops_are_not_caught = refl
+
 -- ---- macros
 
 macros_expand_in_place : printed (codes "(DM M (U) (LIST 'CONS (CADR U) 2)) (PRINT (M (PRINT 1))) (DM R (U) '(RETURN 'A)) (PRINT (PROG NIL (R) (PRINT 0))) (DM J (U) '(GO L)) (PRINT (PROG NIL (J) (PRINT 0) L (RETURN 'B))) (LIST (R)) (DM B (U) '(M 5)) (PRINT (B)) (DM V (U) 'X) (SETQ X 7) (PRINT (V)) (DM E (U) (CAR 'E)) (E) (M . 5) (DM N (U) ''(A)) (PRINT (EQ (N) (N)))")
@@ -217,6 +255,17 @@ a_macro_gets_a_fresh_form : printed (codes "(DM M (U) (LIST 'QUOTE U)) (DE F NIL
     ≡ lines (codes "(M (A) (QUOTE (B)))" ∷ codes "(NIL NIL T)" ∷ codes "(M (A) (QUOTE (B)))" ∷ [])
 unfolding bare_state opening_rows byte_names special_rows native_rows digits error_texts job
 a_macro_gets_a_fresh_form = refl
+
+an_expansion_has_functions_of_its_own : printed (codes "(DM M (U) '(FUNCTION (LAMBDA (X) X))) (DE F NIL (M)) (PRINT (EQ (F) (F))) (PRINT (APPLY (F) '(5))) (DM N (U) ''(A)) (DE G NIL (N)) (PRINT (EQ (G) (G))) (DM K (U) '(DE H (X) (CONS X X))) (PRINT (K)) (PRINT (H 1))")
+    ≡ lines (codes "NIL" ∷ codes "5" ∷ codes "T" ∷ codes "H" ∷ codes "(1 . 1)" ∷ [])
+unfolding bare_state opening_rows byte_names special_rows native_rows digits error_texts job
+an_expansion_has_functions_of_its_own = refl
+
+-- its own turns are none of the run, and those behind it are
+an_expansion_ends_with_its_error : seen (run 29 100 [] (codes "(DM M (U) (CAR 'A)) (ERRORSET '(M) NIL NIL) (LENGTH '(A B C))"))
+    ≡ record { ending = Finished; output = []; notes = line (codes "errorset 13"); left = 0 }
+unfolding bare_state opening_rows byte_names special_rows native_rows digits error_texts job
+an_expansion_ends_with_its_error = refl
 
 -- ---- events
 
@@ -302,3 +351,14 @@ a_removed_macro_turns = refl
 an_applied_list_is_no_body : (run 100000000 50000 [] (codes "(DM M (U) 1) (APPLY '(LAMBDA NIL (DM M (U) 2)) NIL)")).state.event ≡ None
 unfolding bare_state opening_rows byte_names special_rows native_rows digits error_texts job
 an_applied_list_is_no_body = refl
+
+an_expansion_has_its_holders_kinds : (run 100000000 50000 [] (codes "(FLUID '(X)) (DM N (U) '((LAMBDA (X) (EVAL 'X)) 5)) (DM M (U) '(N)) (DE F NIL X (M)) (F)")).state.event
+    ≡ None
+unfolding bare_state opening_rows byte_names special_rows native_rows digits error_texts job
+an_expansion_has_its_holders_kinds = refl
+
+-- a name that the holder lacks is plain there
+an_expansion_without_its_holders_kinds : (run 100000000 50000 [] (codes "(FLUID '(X)) (DM N (U) '((LAMBDA (X) (EVAL 'X)) 5)) (DM M (U) '(N)) (DE F NIL (M)) (F)")).state.event
+    ≡ Some (record { event = Stray 254; printed = 0; noted = 0 })
+unfolding bare_state opening_rows byte_names special_rows native_rows digits error_texts job
+an_expansion_without_its_holders_kinds = refl

@@ -31,6 +31,11 @@ lines_break_before_atoms : printed (codes "(LINELENGTH 10) (PRINT '(AAA BBB CCC 
 unfolding bare_state opening_rows byte_names special_rows native_rows digits error_texts job
 lines_break_before_atoms = refl
 
+an_atom_is_measured_as_it_is_written : printed (codes "(LINELENGTH 4) (PRIN1 'A) (PRIN1 '!+!+) (TERPRI) (PRIN1 'A) (PRIN2 '!+!+) (TERPRI) (PRIN1 1) (PRIN1 -234) (TERPRI)")
+    ≡ lines (codes "A" ∷ codes "!+!+" ∷ codes "A++" ∷ codes "1" ∷ codes "-234" ∷ [])
+unfolding bare_state opening_rows byte_names special_rows native_rows digits error_texts job
+an_atom_is_measured_as_it_is_written = refl
+
 an_empty_atom_past_the_line : printed (codes "(LINELENGTH 3) (PRIN2 'ABCDE) (PRIN2 \"\") (PRIN2 'X) (PRIN2 \"\") (PRINT 'YZ)")
     ≡ lines (codes "ABCDE" ∷ codes "XYZ" ∷ [])
 unfolding bare_state opening_rows byte_names special_rows native_rows digits error_texts job
