@@ -1,10 +1,4 @@
-pub mod Lexing
-pub mod Trees
-pub mod Memories
 pub mod Keeping
 pub mod Appends
 pub mod Commands
-pub mod Endings
-pub mod Evaluating
 pub mod Loading
-pub mod Turns

@@ -1,0 +1,43 @@
+//! The forms of a file.
+ghost use Rattle.std.specs.Prelude.{◌≡◌, IfOk, IfSome};
+ghost use Rattle.std.specs.List.{All};
+ghost use Rattle.rlisp.specs.Meaning.{data_in};
+ghost use Rattle.rlisp.specs.World.{IsKnown, IsRunning};
+ghost use Rattle.rlisp.specs.Outputs.{data_told};
+
+use rl_io::OutOfMemory;
+use rl_read::laws::{reading_is_of_text, what_is_read_is_the_datum};
+use rl_read::{ReadFault, SliceBytes, read_form};
+use rl_tags::Val;
+use rl_text::laws::{blank_text_has_none, unreadable_at_first_byte, what_is_found_is_spelled};
+use rl_world::World;
+use std::alloc::Global;
+
+/// The forms that the bytes spell; None where they spell none. `OutOfMemory` also where a cell, a turn or a level is wanting.
+pub(crate) fn forms_in(
+    alloc: Global,
+    world: &mut World,
+    bytes: &[u8],
+) -> Result<Option<Vec<Val>>, OutOfMemory>
+    requires { IsRunning world.old }
+    ensures read { IfOk result (λ forms. data_told world.new forms ≡ data_in bytes.now) }
+    ensures known { IfOk result (λ forms. IfSome forms (λ forms. All (IsKnown world.new) forms.items)) }
+    ensures running { IfOk result (λ _. IsRunning world.new) }
+    ensures output { IfOk result (λ _. world.new.output ≡ world.old.output) }
+{
+    reading_is_of_text();
+    what_is_read_is_the_datum();
+    what_is_found_is_spelled();
+    blank_text_has_none();
+    unreadable_at_first_byte();
+    let mut text = SliceBytes::new(bytes);
+    let mut forms = Vec::new(alloc);
+    'forms: loop {
+        match read_form(world, &mut text) {
+            Ok(form) => forms.push(form)?,
+            Err(ReadFault::End) => return Ok(Some(forms)),
+            Err(ReadFault::Syntax(_)) => return Ok(None),
+            Err(ReadFault::Stop(_)) => return Err(OutOfMemory),
+        }
+    }
+}
