@@ -70,14 +70,29 @@ pub fn rlisp<I: Source, O: Sink, N: Sink, F: Files>(
             blank_text_has_none();
             what_is_found_is_spelled();
             let mut nowhere = NullSink::new();
-            let mut io = Io {
-                input: &mut *input,
-                out: &mut *out,
-                notes: &mut nowhere,
-                files: &mut *files,
-            };
+            let mut io = together(input, out, &mut nowhere, files);
             run_file(alloc, path, &mut io)
         }
+    }
+}
+
+/// All that a run reads and writes, together.
+fn together<'a, I: Source, O: Sink, N: Sink, F: Files>(
+    input: &'a mut I,
+    out: &'a mut O,
+    notes: &'a mut N,
+    files: &'a mut F,
+) -> Io<'a, I, O, N, F>
+    ensures input { result.input ≡ input.entry }
+    ensures out { result.out ≡ out.entry }
+    ensures notes { result.notes ≡ notes.entry }
+    ensures files { result.files ≡ files.entry }
+{
+    Io {
+        input,
+        out,
+        notes,
+        files,
     }
 }
 
