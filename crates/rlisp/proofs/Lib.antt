@@ -6,3 +6,6 @@ pub mod Memories
 pub mod Built
 pub mod Waited
 pub mod Paging
+pub mod Testing
+pub mod Evaluating
+pub mod Turns

@@ -9,4 +9,4 @@ pub returns-in-Other : goal.returns-in-Other
 returns-in-Other c = λ head. plain_behind head _ c.in-Other.ensures
 
 pub returns-in-Identifier : goal.returns-in-Identifier
-returns-in-Identifier c = ?
+returns-in-Identifier c = λ head. name_behind head _ c.in-Identifier.ensures (has_other 2 c.args.world.now _ c.args.list c.requires.running.table c.requires.running.nil c.requires.known (sym c.eq.ensures ∙ c.if-eq.false))
