@@ -1,5 +1,6 @@
 -- What each turn of the evaluator does.
 use Rattle.std.proofs.Common.{◌≡◌, ℕ, ◌+◌, ◌<◌, Bool, true, false, ◌&&◌, if◌then◌else◌, List, [], ◌∷◌, ◌++◌, map, Option, Some, None, refl, sym, ap, ◌∙◌, arith}
+use Rattle.std.specs.Prelude.{Result, Err, slice_get, length, reverse, ◌-◌}
 use Rattle.std.specs.List.{All, list_all}
 use Rattle.std.proofs.lemmas.List.Elements.{All-head, All-nil, All-tail}
 use Rattle.rl_tags.specs.Tagged.{Tagged}
@@ -221,3 +222,14 @@ begun_known w vs k known is = rw is (go vs known)
     go : (vs : List Tagged) → All (IsKnown w) vs → AreKnown w (begun vs)
     go [] h = record { tasks = All-nil _; values = All-nil (IsKnown w) }
     go (v ∷ vs) h = known_task w (task.Evaluate v) (begun vs) (All-head (IsKnown w) v vs h) (go vs (All-tail (IsKnown w) v vs h))
+
+-- ---- faults
+
+-- a fault is the same one in another answer
+pub same_fault : {X Y F : Type 0} (a b : F) → let one : F → Result X F = λ f. Err f in one a ≡ one b → let other : F → Result Y F = λ f. Err f in other a ≡ other b
+same_fault a b e = cc
+
+-- ---- the newest value
+
+newest_item : {X : Type 0} (rs : List X) (v : X) → slice_get (reverse rs ++ v ∷ []) (length (reverse rs ++ v ∷ []) - 1) ≡ Some v
+newest_item rs v = ?
