@@ -1,7 +1,8 @@
 -- What each turn of the evaluator does.
 use Rattle.std.proofs.Common.{◌≡◌, ℕ, ◌+◌, ◌<◌, Bool, true, false, ◌&&◌, if◌then◌else◌, List, [], ◌∷◌, ◌++◌, map, Option, Some, None, refl, sym, ap, ◌∙◌, arith}
-use Rattle.std.specs.Prelude.{Result, Err, slice_get, length, reverse, ◌-◌}
+use Rattle.std.specs.Prelude.{Result, Err, MatchOption, slice_get, length, reverse, ◌-◌}
 use Rattle.std.specs.List.{All, list_all}
+use Rattle.std.proofs.lemmas.List.{length-append, reverse-append, reverse-reverse}
 use Rattle.std.proofs.lemmas.List.Elements.{All-head, All-nil, All-tail}
 use Rattle.rl_tags.specs.Tagged.{Tagged}
 use Rattle.rl_tags.specs.Ids.{nil_id}
@@ -18,9 +19,9 @@ use Rattle.rlisp.specs.Forms.{IsConstant, call, cons_call, terpri_call, printer_
 use Rattle.rlisp.specs.declared.forms.Printer.{Printer}
 use Rattle.rlisp.specs.declared.forms.Printer.TheVariants as printer
 use Rattle.rlisp.specs.Pages.{page_in, Told, Prints, Halts, Cuts, KeepsObjects}
-use Rattle.rlisp.specs.Tasks.{Step, Evaluate, Cons, Print, EndLine, page_finished, Stacks, steps_of, page_at_end, AreKnown, weight, IsFurther, IsNewest, with_task, with_value, with_print, page_of_forms, begun}
+use Rattle.rlisp.specs.Tasks.{Step, Evaluate, Cons, Print, EndLine, page_finished, Stacks, steps_of, page_at_end, AreKnown, weight, IsFurther, IsNewest, IsStuck, with_task, with_value, with_print, page_of_forms, begun}
 use Rattle.rlisp.specs.declared.evaluator.Task.TheVariants as task
-use Rattle.rlisp.proofs.Evaluating.{quiet, then_prints, then_front, finished_adds, known_task, known_value, without_task, without_value, newest_task, kept_known, kept_steps, kept_values, objects_keep}
+use Rattle.rlisp.proofs.Evaluating.{quiet, quiet_halts, prints_trans, halts_behind, cut_behind, then_prints, then_front, finished_adds, known_task, known_value, without_task, without_value, newest_task, kept_known, kept_steps, kept_values, objects_keep}
 use Rattle.rlisp.proofs.Paging.{shown}
 
 -- ---- on data
@@ -231,5 +232,46 @@ same_fault a b e = cc
 
 -- ---- the newest value
 
-newest_item : {X : Type 0} (rs : List X) (v : X) → slice_get (reverse rs ++ v ∷ []) (length (reverse rs ++ v ∷ []) - 1) ≡ Some v
-newest_item rs v = ?
+at_seam : (xs : List Tagged) (y : Tagged) → slice_get (xs ++ y ∷ []) (length xs) ≡ Some y
+at_seam [] y = refl
+at_seam (x ∷ xs) y = at_seam xs y
+
+newest_item : (xs : List Tagged) (y : Tagged) → slice_get (xs ++ y ∷ []) (length (xs ++ y ∷ []) - 1) ≡ Some y
+newest_item xs y = let last : length (xs ++ y ∷ []) - 1 ≡ length xs = omega (arith, length-append xs (y ∷ [])) in rw last (at_seam xs y)
+
+-- the last item is the newest value
+pub newest_of : (items : List Tagged) (k : Stacks) → k.values ≡ reverse items → MatchOption (slice_get items (length items - 1)) (k.values ≡ []) (λ v. IsNewest v k)
+newest_of items k e = rw (← reverse-reverse items) (go (reverse items) e)
+  where
+    go : (rs : List Tagged) → k.values ≡ rs → MatchOption (slice_get (reverse rs) (length (reverse rs) - 1)) (k.values ≡ []) (λ v. IsNewest v k)
+    go [] e = e
+    go (r ∷ rs) e = rw (reverse-append (r ∷ []) rs, newest_item (reverse rs) r) (record { tasks = k.tasks; values = rs }, ap (λ vs. record { tasks = k.tasks; values = vs }) e)
+
+-- ---- from the first form to the last
+
+pub all_done : (a b : Option (List ℕ)) (x y : List ℕ) (one : Told) (w : World) (k : Stacks) → Prints a b x y one (page_at_end w k) → k.tasks ≡ [] → Prints a b x y one (λ text. Some (page_in w text))
+all_done a b x y one w k p e = record {
+  bytes = p.bytes;
+  follows = p.follows;
+  means = λ text. p.means text ∙ ap (λ tasks. page_finished (steps_of w (record { tasks = tasks; values = k.values })) (map (datum_in w) k.values) (page_in w (text ++ p.bytes))) e;
+}
+
+pub further_prints : (a b c : Option (List ℕ)) (x : List ℕ) (one : Told) (w v : World) (k l m : Stacks) → k ≡ l → Prints a b x w.output.waiting one (page_at_end w k) → IsFurther b c w l v m → Prints a c x v.output.waiting one (page_at_end v m)
+further_prints a b c x one w v k l m e p q = prints_trans a b c x w.output.waiting v.output.waiting one (page_at_end w k) (page_at_end v m) p (rw e q.prints)
+
+pub further_halts : (a b c : Option (List ℕ)) (x z : List ℕ) (one : Told) (w : World) (k l : Stacks) → k ≡ l → Prints a b x w.output.waiting one (page_at_end w k) → Halts b c w.output.waiting z (page_at_end w l) → Halts a c x z one
+further_halts a b c x z one w k l e p h = halts_behind a b c x w.output.waiting z one (page_at_end w k) p (rw e h)
+
+pub further_cut : (a b c : Option (List ℕ)) (x : List ℕ) (one : Told) (w : World) (k l : Stacks) → k ≡ l → Prints a b x w.output.waiting one (page_at_end w k) → Cuts b c w.output.waiting (page_at_end w l) → Cuts a c x one
+further_cut a b c x one w k l e p h = cut_behind a b c x w.output.waiting one (page_at_end w k) p (rw e h)
+
+pub begins : (told : Option (List ℕ)) (w : World) (vs : List Tagged) (k : Stacks) → are_built w vs ≡ true → k ≡ begun vs → Prints told told w.output.waiting w.output.waiting (page_of_forms w vs) (page_at_end w k)
+begins told w vs k built is = quiet told w.output.waiting w.output.waiting (page_of_forms w vs) (page_at_end w k) refl (λ text. forms_begun w vs k text built is)
+
+-- before anything is done
+pub halts_first : (told : Option (List ℕ)) (w : World) (vs : List Tagged) → are_built w vs ≡ true → Halts told told w.output.waiting w.output.waiting (page_of_forms w vs)
+halts_first told w vs built = halts_behind told told told w.output.waiting w.output.waiting w.output.waiting (page_of_forms w vs) (page_at_end w (begun vs)) (begins told w vs (begun vs) built refl) (quiet_halts told w (begun vs) w.output.waiting refl)
+
+-- built forms are evaluated to their end
+pub not_stuck : (a b : Option (List ℕ)) (x : List ℕ) (w v : World) (vs : List Tagged) (k l : Stacks) → k ≡ l → Prints a b x v.output.waiting (page_of_forms w vs) (page_at_end v k) → IsStuck v l → ⊥
+not_stuck a b x w v vs k l e p stuck = let none : page_of_forms w vs [] ≡ None = p.means [] ∙ rw e (stuck ([] ++ p.bytes)) in cc

@@ -1,5 +1,5 @@
 //! Evaluation of forms, by a stack of tasks and one of values, so that forms may nest as deep as memory lasts.
-ghost use Rattle.std.specs.Prelude.{◌≡◌, ◌≢◌, true, [], Err, IfOk, OnOk, Some, MatchOption};
+ghost use Rattle.std.specs.Prelude.{◌≡◌, ◌≢◌, true, [], map, Err, IfOk, OnOk, Some, MatchOption};
 ghost use Rattle.std.specs.List.{All};
 ghost use Rattle.rl_io.specs.Faults.{Rose};
 ghost use Rattle.rlisp.specs.World.{IsKnown, IsRunning};
@@ -49,12 +49,10 @@ impl Work {
     fn of(alloc: Global, forms: &[Val]) -> Result<Work, OutOfMemory>
         ensures { IfOk result (λ work. work ≡ begun forms.now) }
     {
+        let mut tasks = tasks_of(alloc, forms)?;
+        tasks.reverse();
         Ok(Work {
-            tasks: forms
-                .iter()
-                .rev()
-                .map(|form| Task::Evaluate(*form))
-                .collect(alloc)?,
+            tasks,
             values: Vec::new(alloc),
         })
     }
@@ -229,6 +227,16 @@ impl Work {
             Err(fault) => Err(fault),
         }
     }
+}
+
+/// Each form as a task.
+fn tasks_of(alloc: Global, forms: &[Val]) -> Result<Vec<Task>, OutOfMemory>
+    ensures { IfOk result (λ tasks. tasks.items ≡ map (λ v. task.Evaluate v) forms.now) }
+{
+    Ok(forms
+        .iter()
+        .map(|form| Task::Evaluate(*form))
+        .collect(alloc)?)
 }
 
 /// Evaluates the forms, which are built, in turn.

@@ -1,5 +1,6 @@
-use Rattle.rlisp.proofs.Evaluating.{quiet}
+use Rattle.std.proofs.Common.{refl}
+use Rattle.std.proofs.lemmas.List.{reverse-reverse}
 use Rattle.rlisp.proofs.evaluator.Work.of.Goals as goal
 
 pub returns : goal.returns
-returns c = ?
+returns c = rw (c.reverse.ensures.items, c.in_ok-tasks.ensures, reverse-reverse, c.new.ensures.items) refl

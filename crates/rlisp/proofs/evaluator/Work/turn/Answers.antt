@@ -18,13 +18,13 @@ pub returns-in-Ok-clause-turn : goal.returns-in-Ok-clause-turn
 returns-in-Ok-clause-turn g c = rw c.in-Evaluate.is (c.in-Ok.ensures (g.O.Sink.contents c.args.io.now.out.now))
 
 pub returns-in-Err-clause-halts : goal.returns-in-Err-clause-halts
-returns-in-Err-clause-halts g c = λ e. quiet_halts _ c.args.world.now _ _ refl
+returns-in-Err-clause-halts g c = λ e. quiet_halts _ c.args.world.now (with_task c.args.task c.args.self.now) _ refl
 
 pub returns-in-Ok-cons-clause-turn : goal.returns-in-Ok-cons-clause-turn
 returns-in-Ok-cons-clause-turn g c = rw c.in-Cons.is (c.in-Ok-cons.ensures.turn (g.O.Sink.contents c.args.io.now.out.now))
 
 pub returns-in-Err-cons-clause-halts : goal.returns-in-Err-cons-clause-halts
-returns-in-Err-cons-clause-halts g c = λ e. quiet_halts _ c.args.world.now _ _ (ap (λ (o : Output). o.waiting) c.in-Err-cons.ensures.output)
+returns-in-Err-cons-clause-halts g c = λ e. quiet_halts _ c.args.world.now (with_task c.args.task c.args.self.now) _ (ap (λ (o : Output). o.waiting) c.in-Err-cons.ensures.output)
 
 pub returns-in-Print-clause-halts : goal.returns-in-Print-clause-halts
 returns-in-Print-clause-halts g c = rw c.in-Print.is c.print.ensures.halts
