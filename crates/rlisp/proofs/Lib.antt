@@ -9,3 +9,5 @@ pub mod Paging
 pub mod Testing
 pub mod Evaluating
 pub mod Turns
+pub mod Finding
+pub mod ReadForms

@@ -1,9 +1,8 @@
 //! The forms of a file.
 ghost use Rattle.std.specs.Prelude.{◌≡◌, IfOk, IfSome};
-ghost use Rattle.std.specs.List.{All};
 ghost use Rattle.rlisp.specs.Meaning.{data_in};
-ghost use Rattle.rlisp.specs.World.{IsKnown, IsRunning};
-ghost use Rattle.rlisp.specs.Outputs.{data_told};
+ghost use Rattle.rlisp.specs.World.{IsRunning};
+ghost use Rattle.rlisp.specs.Outputs.{AreRead, data_told};
 
 use rl_io::OutOfMemory;
 use rl_read::laws::{reading_is_of_text, what_is_read_is_the_datum};
@@ -21,9 +20,7 @@ pub(crate) fn forms_in(
 ) -> Result<Option<Vec<Val>>, OutOfMemory>
     requires { IsRunning world.old }
     ensures read { IfOk result (λ forms. data_told world.new forms ≡ data_in bytes.now) }
-    ensures known { IfOk result (λ forms. IfSome forms (λ forms. All (IsKnown world.new) forms.items)) }
-    ensures running { IfOk result (λ _. IsRunning world.new) }
-    ensures output { IfOk result (λ _. world.new.output ≡ world.old.output) }
+    ensures forms { IfOk result (λ forms. IfSome forms (λ forms. AreRead world.old world.new forms.items)) }
 {
     reading_is_of_text();
     what_is_read_is_the_datum();
