@@ -1,5 +1,4 @@
 pub mod Keeping
-pub mod Appends
 pub mod Commands
 pub mod Loading
 pub mod Memories
@@ -11,3 +10,5 @@ pub mod Evaluating
 pub mod Turns
 pub mod Finding
 pub mod ReadForms
+pub mod Closing
+pub mod Endings

@@ -36,6 +36,14 @@ cut_more (Some a) None c x y first more p q = absurd p
 cut_more (Some a) (Some b) None x y first more p q = absurd q
 cut_more (Some a) (Some b) (Some c) x y first more p q = (length (take p.0 (x ++ first)) + q.0, taken_more p.0 q.0 a b c x y first more p.1 p.2 q.1)
 
+-- a front is one of more
+pub cut_longer : (a c : Option (List ℕ)) (x first more : List ℕ) → IsCutOff a c (x ++ first) → IsCutOff a c (x ++ (first ++ more))
+cut_longer None c x first more h = tt
+cut_longer (Some a) None x first more h = absurd h
+cut_longer (Some a) (Some c) x first more h =
+    let front = take h.0 (x ++ first) in
+    (length front + 0, h.1 ∙ ap (λ t. a ++ t) (sym (append-nil front) ∙ (sym (take-append-add front (drop h.0 (x ++ first) ++ more) 0) ∙ ap (take (length front + 0)) (sym (cut_at h.0 x first more)))))
+
 -- nothing follows
 pub nothing_follows : (told : Option (List ℕ)) (waited waiting : List ℕ) → waiting ≡ waited → Follows told waited told waiting []
 nothing_follows None waited waiting e = tt

@@ -115,7 +115,8 @@ fn run_file<I: Source, O: Sink, F: Files>(
     ensures files_stay { F.contents io.new.files.now ≡ F.contents io.old.files.now }
     ensures same_out { io.new.out.ghost_name ≡ io.old.out.ghost_name }
     ensures same_files { io.new.files.ghost_name ≡ io.old.files.ghost_name }
-    ensures rest { io.new ≡ record io.old { out = io.new.out; files = io.new.files } }
+    ensures same_notes { io.new.notes.ghost_name ≡ io.old.notes.ghost_name }
+    ensures rest { io.new ≡ record io.old { out = io.new.out; notes = io.new.notes; files = io.new.files } }
 {
     match load(alloc, io.files, path) {
         Loaded::File(file) => run_bytes(alloc, &file, io),
@@ -141,7 +142,8 @@ fn run_bytes<I: Source, O: Sink, F: Files>(
     ensures no_missing { (name : List ℕ) → result ≢ Status.Missing name }
     ensures no_file_fault { result ≢ Status.FileFault }
     ensures same_out { io.new.out.ghost_name ≡ io.old.out.ghost_name }
-    ensures rest { io.new ≡ record io.old { out = io.new.out } }
+    ensures same_notes { io.new.notes.ghost_name ≡ io.old.notes.ghost_name }
+    ensures rest { io.new ≡ record io.old { out = io.new.out; notes = io.new.notes } }
 {
     let mut world = match open(alloc) {
         Ok(world) => world,
@@ -187,7 +189,8 @@ fn print_forms<I: Source, O: Sink, F: Files>(
     ensures write_fault { result ≡ Status.WriteFault → Rose (O.faults io.old.out.now) (O.faults io.new.out.now) }
     ensures steady_out { result ≢ Status.WriteFault → O.faults io.new.out.now ≡ O.faults io.old.out.now }
     ensures same_out { io.new.out.ghost_name ≡ io.old.out.ghost_name }
-    ensures rest { io.new ≡ record io.old { out = io.new.out } }
+    ensures same_notes { io.new.notes.ghost_name ≡ io.old.notes.ghost_name }
+    ensures rest { io.new ≡ record io.old { out = io.new.out; notes = io.new.notes } }
 {
     match evaluate_all(alloc, world, forms, io) {
         Ok(()) => match world.flush(io) {
