@@ -23,7 +23,11 @@ use Rattle.rlisp.specs.Appending.{Appended, AppendedFront}
 use Rattle.rlisp.specs.Pages.{page_in, Told, Prints, Halts, Cuts, IsFront}
 use Rattle.rlisp.specs.Tasks.{page_of_forms}
 use Rattle.rlisp.specs.Outputs.{AreRead, data_told}
-use Rattle.rlisp.specs.Headline.{AreForms, IsReady, output_of}
+use Rattle.rlisp.specs.Status.{is_silent}
+use Rattle.rlisp.specs.Headline.{AreForms, Ends, PrintsForms, output_of}
+use Rattle.rlisp.specs.declared.status.Status.{Status}
+use Rattle.rlisp.specs.declared.status.Status.TheVariants as status
+use Rattle.rlisp.specs.declared.status.Status.TheVariants.{Done, Usage, Missing, WriteFault, FileFault, OutOfMemory}
 use Rattle.rlisp.proofs.Finding.{spelled_found}
 use Rattle.rlisp.proofs.Waited.{follows_more, cut_more, cut_longer}
 
@@ -126,3 +130,25 @@ unbuilt_rule finds none file e = elim (cases_Bool (nat_lt 4096 (length file))) [
       let ends : (meaning (Some file)).outcome ≡ Finished = rw (small, found, built) refl in
       cc)
 ]
+
+-- ---- the status
+
+-- a run over the forms of a file ends as they do
+pub forms_end : (file : List ℕ) (w : World) (vs : List Tagged) (old new : Option (List ℕ)) (status : Status) → AreForms file w vs → PrintsForms (output_of w vs) old new status → Ends (Some file) old new status
+forms_end file w vs old new Done h p = record { finished = ap (λ (m : Meaning). m.outcome) h.means; output = rw (ap (λ (m : Meaning). m.output) h.means) p }
+forms_end file w vs old new (Usage word) h p = p
+forms_end file w vs old new (Missing name) h p = absurd p
+forms_end file w vs old new WriteFault h p = rw (ap (λ (m : Meaning). m.output) h.means) p
+forms_end file w vs old new FileFault h p = absurd p
+forms_end file w vs old new OutOfMemory h p = rw (ap (λ (m : Meaning). m.output) h.means) p
+forms_end file w vs old new status.Unbuilt h p = absurd p
+
+-- it is one with which something may have been printed
+pub never_silent : (output : List ℕ) (old new : Option (List ℕ)) (status : Status) → PrintsForms output old new status → is_silent status ≡ true → ⊥
+never_silent output old new Done p s = cc
+never_silent output old new (Usage word) p s = p
+never_silent output old new (Missing name) p s = p
+never_silent output old new WriteFault p s = cc
+never_silent output old new FileFault p s = p
+never_silent output old new OutOfMemory p s = cc
+never_silent output old new status.Unbuilt p s = p
