@@ -67,11 +67,9 @@ pub fn rlisp<I: Source, O: Sink, N: Sink, F: Files>(
     match path_of(words) {
         Err(word) => Status::Usage(word),
         Ok(path) => {
-            blank_text_has_none();
-            what_is_found_is_spelled();
             let mut nowhere = NullSink::new();
             let mut io = together(input, out, &mut nowhere, files);
-            run_file(alloc, path, &mut io)
+            run_path(alloc, path, &mut io)
         }
     }
 }
@@ -96,7 +94,38 @@ fn together<'a, I: Source, O: Sink, N: Sink, F: Files>(
     }
 }
 
-/// Runs the file of this path.
+/// Runs the file of this path. However the run ends, it has printed a front of what the file prints.
+fn run_path<I: Source, O: Sink, F: Files>(
+    alloc: Global,
+    path: &[u8],
+    io: &mut Io<'_, I, O, NullSink, F>,
+) -> Status
+    requires { IsPath path.now }
+    ensures ends { IfSome (F.contents io.old.files.now)
+        (λ file_of. Ends (file_of path.now) (O.contents io.old.out.now) (O.contents io.new.out.now) result) }
+    ensures front { IfSome (F.contents io.old.files.now)
+        (λ file_of. AppendedFront (O.contents io.old.out.now) (O.contents io.new.out.now) (meaning (file_of path.now)).output) }
+    ensures unbuilt { result ≡ Status.Unbuilt → IfSome (F.contents io.old.files.now)
+        (λ file_of. IsSomeAnd (file_of path.now) IsUnbuilt) }
+    ensures named { (name : List ℕ) → result ≡ Status.Missing name → name ≡ path.now }
+    ensures write_fault { result ≡ Status.WriteFault → Rose (O.faults io.old.out.now) (O.faults io.new.out.now) }
+    ensures file_fault { result ≡ Status.FileFault → Rose (F.faults io.old.files.now) (F.faults io.new.files.now) }
+    ensures steady_out { result ≢ Status.WriteFault → O.faults io.new.out.now ≡ O.faults io.old.out.now }
+    ensures steady_files { result ≢ Status.FileFault → F.faults io.new.files.now ≡ F.faults io.old.files.now }
+    ensures silent { IsTrue (is_silent result) → io.new.out.now ≡ io.old.out.now }
+    ensures no_usage { (k : ℕ) → result ≢ Status.Usage k }
+    ensures files_stay { F.contents io.new.files.now ≡ F.contents io.old.files.now }
+    ensures same_out { io.new.out.ghost_name ≡ io.old.out.ghost_name }
+    ensures same_files { io.new.files.ghost_name ≡ io.old.files.ghost_name }
+    ensures same_notes { io.new.notes.ghost_name ≡ io.old.notes.ghost_name }
+    ensures rest { io.new ≡ record io.old { out = io.new.out; notes = io.new.notes; files = io.new.files } }
+{
+    blank_text_has_none();
+    what_is_found_is_spelled();
+    run_file(alloc, path, io)
+}
+
+/// Loads the file of this path, and runs it.
 fn run_file<I: Source, O: Sink, F: Files>(
     alloc: Global,
     path: &[u8],

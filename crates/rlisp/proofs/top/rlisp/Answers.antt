@@ -1,7 +1,5 @@
-use Rattle.std.proofs.Common.{ap}
 use Rattle.rlisp.specs.Texts.{texts_of}
-use Rattle.rlisp.proofs.Closing.{unbuilt_rule}
-use Rattle.rlisp.proofs.Endings.{front_of_end, of_file_weaker, unbuilt_by, usage_at}
+use Rattle.rlisp.proofs.Endings.{usage_at}
 use Rattle.rlisp.proofs.top.rlisp.Goals as goal
 
 pub returns-in-Err-clause-usage : goal.returns-in-Err-clause-usage
