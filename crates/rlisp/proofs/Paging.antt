@@ -85,9 +85,10 @@ front_shown : MeansDatum → PrintsData → (style : atoms.Style) (old : World) 
 front_shown means law style old v bytes is known more = record {
   more = λ text.
       let first = more text in
-      let next = law.front (setting_in style old) (value_of old.cells.cells v) (datum_in old v) (levels_left old) (progress_in old text) refl (stored means old v is known style) in
-      (first.0 ++ next.0,
-        ap (λ (p : Page). p.text) (sym (line_is style old v (page_in old text) is)) ∙ (next.1 ∙ (ap (λ t. t ++ next.0) first.1 ∙ append_assoc (text ++ bytes) first.0 next.0)));
+      let next = law.front (setting_in style old) (value_of old.cells.cells v) (datum_in old v) (levels_left old) (progress_in old text) refl (stored means old v is known style) in (
+        first.0 ++ next.0,
+        ap (λ (p : Page). p.text) (sym (line_is style old v (page_in old text) is)) ∙ (next.1 ∙ (ap (λ t. t ++ next.0) first.1 ∙ append_assoc (text ++ bytes) first.0 next.0)),
+      );
 }
 
 -- where a turn or a level was wanting

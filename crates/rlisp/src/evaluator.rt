@@ -233,10 +233,12 @@ impl Work {
 fn tasks_of(alloc: Global, forms: &[Val]) -> Result<Vec<Task>, OutOfMemory>
     ensures { IfOk result (λ tasks. tasks.items ≡ map (λ v. task.Evaluate v) forms.now) }
 {
-    Ok(forms
-        .iter()
-        .map(|form| Task::Evaluate(*form))
-        .collect(alloc)?)
+    Ok(
+        forms
+            .iter()
+            .map(|form| Task::Evaluate(*form))
+            .collect(alloc)?,
+    )
 }
 
 /// Evaluates the forms, which are built, in turn.

@@ -41,11 +41,7 @@ enum Arguments {
 }
 
 /// Whether all forms are built.
-pub(crate) fn all_built(
-    alloc: Global,
-    world: &World,
-    forms: &[Val],
-) -> Result<bool, OutOfMemory>
+pub(crate) fn all_built(alloc: Global, world: &World, forms: &[Val]) -> Result<bool, OutOfMemory>
     requires running { IsRunning world.now }
     requires known { All (IsKnown world.now) forms.now }
     ensures { IfOk result (λ b. b ≡ list_all is_built (map (datum_in world.now) forms.now)) }

@@ -3,9 +3,6 @@ use Rattle.rlisp.proofs.Keeping.{keeps_refl}
 use Rattle.rlisp.proofs.Memories.{known_live, grown_running, grown_keeps, grown_stands}
 use Rattle.rlisp.proofs.memory.cons.Goals as goal
 
-pub pairs_are_data-requires : goal.pairs_are_data-requires
-pairs_are_data-requires c = ?
-
 pub cons-requires-clause-car_live : goal.cons-requires-clause-car_live
 cons-requires-clause-car_live c = known_live c.pairs_are_data.ensures c.args.world.now c.args.car c.requires.car_known
 

@@ -2,9 +2,6 @@ use Rattle.std.proofs.Common.{sym, ◌∙◌}
 use Rattle.rlisp.proofs.Memories.{id_seen, known_pair, pair_seen, plain_seen}
 use Rattle.rlisp.proofs.memory.look_at.Goals as goal
 
-pub pairs_are_data-requires : goal.pairs_are_data-requires
-pairs_are_data-requires c = ?
-
 pub returns-in-Id : goal.returns-in-Id
 returns-in-Id c = id_seen c.args.world.now c.args.v (sym c.in-Id.is ∙ c.tag.ensures)
 

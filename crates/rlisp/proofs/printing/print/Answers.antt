@@ -5,12 +5,6 @@ use Rattle.rlisp.proofs.Memories.{known_live}
 use Rattle.rlisp.proofs.Paging.{all_shown, front_halts, front_cut}
 use Rattle.rlisp.proofs.printing.print.Goals as goal
 
-pub data_are_stored-requires : goal.data_are_stored-requires
-data_are_stored-requires g c = ?
-
-pub pairs_are_data-requires : goal.pairs_are_data-requires
-pairs_are_data-requires g c = ?
-
 pub print1-requires-clause-live : goal.print1-requires-clause-live
 print1-requires-clause-live g c = known_live c.pairs_are_data.ensures c.args.world.now c.args.v c.requires.known
 

@@ -3,9 +3,6 @@ use Rattle.rlisp.specs.World.{datum_in}
 use Rattle.rlisp.proofs.ReadForms.{read_running, read_output, read_shorter, read_known, read_more, end_known, end_read, refused_read}
 use Rattle.rlisp.proofs.reading.forms_in.Goals as goal
 
-pub what_is_read_is_the_datum-requires : goal.what_is_read_is_the_datum-requires
-what_is_read_is_the_datum-requires c = ?
-
 pub forms-smaller : goal.forms-smaller
 forms-smaller c = read_shorter c.what_is_read_is_the_datum.ensures c.forms.world c.read_form.new.w c.in-Ok.form (drop c.forms.text.at c.forms.text.bytes) (drop c.read_form.new.text.at c.read_form.new.text.bytes) c.forms.invariant.running c.in-Ok.ensures.ok
 
