@@ -1,9 +1,10 @@
--- What is kept from one memory to the next is kept over both.
+-- What is kept from one world to the next is kept over both.
 use Rattle.std.proofs.Common.{refl, ◌∙◌}
-use Rattle.rlisp.specs.World.{Memory, Keeps}
+use Rattle.rl_world.specs.declared.world.World.{World}
+use Rattle.rlisp.specs.World.{Keeps}
 
-pub keeps_refl : (m : Memory) → Keeps m m
-keeps_refl m = record { known = λ v h. h; tree = λ v h. refl }
+pub keeps_refl : (w : World) → Keeps w w
+keeps_refl w = record { known = λ v h. h; datum = λ v h. refl }
 
-pub keeps_trans : (a b c : Memory) → Keeps a b → Keeps b c → Keeps a c
-keeps_trans a b c j k = record { known = λ v h. k.known v (j.known v h); tree = λ v h. k.tree v (j.known v h) ∙ j.tree v h }
+pub keeps_trans : (a b c : World) → Keeps a b → Keeps b c → Keeps a c
+keeps_trans a b c j k = record { known = λ v h. k.known v (j.known v h); datum = λ v h. k.datum v (j.known v h) ∙ j.datum v h }

@@ -1,44 +1,97 @@
 -- What a form is seen to be.
-use Rattle.std.specs.Prelude.{◌≡◌, Bool, true, false}
-use Rattle.std.specs.Str.{bytes_eq}
-use Rattle.rl_tree.specs.Name.{Name, Tree, Int, Id, Pair, nil, nil_name, quoted, print_name, cons_name}
+use Rattle.std.specs.Prelude.{◌≡◌, ℕ, ◌+◌, ◌<◌, Bool, true, false, ◌&&◌, List, [], ◌∷◌, map, MatchBool}
+use Rattle.std.specs.List.{All, list_all}
+use Rattle.rl_tags.specs.Tagged.{Tagged}
+use Rattle.rl_tree.specs.Name.{Name, quote_name, print_name, cons_name}
 use Rattle.rl_tree.specs.Printing.{Page}
-use Rattle.rl_tree.specs.Evaluation.{is_built}
-use Rattle.rl_tree.specs.Shown.{shown}
-use Rattle.rlisp.specs.World.{Memory, is_known, tree_in}
-use Rattle.rlisp.specs.declared.evaluator.Arguments.{Arguments}
-use Rattle.rlisp.specs.declared.evaluator.Arguments.TheVariants as arguments
-use Rattle.rlisp.specs.declared.evaluator.Form.{Form}
-use Rattle.rlisp.specs.declared.evaluator.Form.TheVariants as form
+use Rattle.rl_text.specs.Datum.{Datum, Int, Id, Str, Pair, Vector, nil, quoted}
+use Rattle.rl_world.specs.declared.world.World.{World}
+use Rattle.rlisp.specs.Evaluation.{is_built, evaluated, prin1_name, prin2_name, terpri_name}
+use Rattle.rlisp.specs.World.{IsKnown, datum_in}
+use Rattle.rlisp.specs.declared.forms.Arguments.{Arguments}
+use Rattle.rlisp.specs.declared.forms.Arguments.TheVariants as arguments
+use Rattle.rlisp.specs.declared.forms.Printer.{Printer}
+use Rattle.rlisp.specs.declared.forms.Printer.TheVariants as printer
+use Rattle.rlisp.specs.declared.forms.Form.{Form}
+use Rattle.rlisp.specs.declared.forms.Form.TheVariants as form
 
-abbrev pub is_nil : Tree → Bool
-is_nil (Int z) = false
-is_nil (Id name) = bytes_eq name nil_name
-is_nil (Pair a d) = false
+abbrev pub is_name : Datum → Bool
+is_name (Int z) = false
+is_name (Id name) = true
+is_name (Str bytes) = false
+is_name (Pair a d) = false
+is_name (Vector es) = false
 
--- `(PRINT a)`
-abbrev pub print_call : Tree → Tree
-print_call a = Pair (Id print_name) (Pair a nil)
+-- neither a name nor a pair
+abbrev pub is_plain : Datum → Bool
+is_plain (Int z) = true
+is_plain (Id name) = false
+is_plain (Str bytes) = true
+is_plain (Pair a d) = false
+is_plain (Vector es) = true
+
+-- the call of this function with one argument
+abbrev pub call : Name → Datum → Datum
+call f a = Pair (Id f) (Pair a nil)
 
 -- `(CONS a b)`
-abbrev pub cons_call : Tree → Tree → Tree
+abbrev pub cons_call : Datum → Datum → Datum
 cons_call a b = Pair (Id cons_name) (Pair a (Pair b nil))
 
--- the form is built, and stands for itself
-pub record IsConstant (t : Tree) : Type 0 where
-  pub built : is_built t ≡ true
-  pub same : (page : Page) → shown t page ≡ record { tree = t; page = page }
+-- `(TERPRI)`
+abbrev pub terpri_call : Datum
+terpri_call = Pair (Id terpri_name) nil
 
--- the list is of these one or two known elements; or no built form has it behind a name
-abbrev pub IsListOf : Memory → Tree → Arguments → Type 0
-IsListOf m list (arguments.One a) = (is_known m a ≡ true) × (list ≡ Pair (tree_in m a) nil)
-IsListOf m list (arguments.Two a b) = (is_known m a ≡ true) × (is_known m b ≡ true) × (list ≡ Pair (tree_in m a) (Pair (tree_in m b) nil))
-IsListOf m list arguments.Other = (name : Name) → is_built (Pair (Id name) list) ≡ false
+abbrev pub printer_name : Printer → Name
+printer_name printer.Print = print_name
+printer_name printer.Prin1 = prin1_name
+printer_name printer.Prin2 = prin2_name
+
+-- the form is built, and stands for itself
+pub record IsConstant (d : Datum) : Type 0 where
+  pub built : is_built d ≡ true
+  pub same : (page : Page) → evaluated d page ≡ record { value = d; page = page }
+
+-- the list is of these known elements, at most two; or no pair of anything and it is a built form
+abbrev pub IsListOf : World → Datum → Arguments → Type 0
+IsListOf w list arguments.None = list ≡ nil
+IsListOf w list (arguments.One a) = IsKnown w a × (list ≡ Pair (datum_in w a) nil)
+IsListOf w list (arguments.Two a b) = IsKnown w a × IsKnown w b × (list ≡ Pair (datum_in w a) (Pair (datum_in w b) nil))
+IsListOf w list arguments.Other = (head : Datum) → is_built (Pair head list) ≡ false
 
 -- the form is that one, with known parts; or it is not built
-abbrev pub IsForm : Memory → Tree → Form → Type 0
-IsForm m t form.Constant = IsConstant t
-IsForm m t (form.Quoted x) = (is_known m x ≡ true) × (t ≡ quoted (tree_in m x))
-IsForm m t (form.Print a) = (is_known m a ≡ true) × (t ≡ print_call (tree_in m a))
-IsForm m t (form.Cons a b) = (is_known m a ≡ true) × (is_known m b ≡ true) × (t ≡ cons_call (tree_in m a) (tree_in m b))
-IsForm m t form.Unbuilt = is_built t ≡ false
+abbrev pub IsForm : World → Datum → Form → Type 0
+IsForm w d form.Constant = IsConstant d
+IsForm w d form.EndLine = d ≡ terpri_call
+IsForm w d (form.Quoted x) = IsKnown w x × (d ≡ quoted (datum_in w x))
+IsForm w d (form.Print f a) = IsKnown w a × (d ≡ call (printer_name f) (datum_in w a))
+IsForm w d (form.Cons a b) = IsKnown w a × IsKnown w b × (d ≡ cons_call (datum_in w a) (datum_in w b))
+IsForm w d form.Unbuilt = is_built d ≡ false
+
+-- ---- the test
+
+-- the pairs of a datum, but for those in its vectors
+abbrev pub pairs_of : Datum → ℕ
+pairs_of (Int z) = 0
+pairs_of (Id name) = 0
+pairs_of (Str bytes) = 0
+pairs_of (Vector es) = 0
+pairs_of (Pair a d) = pairs_of a + pairs_of d + 1
+
+-- more than the tests that are left
+abbrev pub tests_left : List Datum → ℕ
+tests_left [] = 0
+tests_left (d ∷ ds) = pairs_of d + 1 + tests_left ds
+
+abbrev pub are_built : World → List Tagged → Bool
+are_built w vs = list_all is_built (map (datum_in w) vs)
+
+-- the form is built where those are that were added to the ones that are left
+pub record IsTested (w : World) (d : Datum) (old new : List Tagged) : Type 0 where
+  pub same : (is_built d && are_built w old) ≡ are_built w new
+  pub known : All (IsKnown w) new
+  pub fewer : tests_left (map (datum_in w) new) < pairs_of d + 1 + tests_left (map (datum_in w) old)
+
+-- one test: there is more to be seen, or the form is not built
+abbrev pub IsTest : World → Datum → List Tagged → List Tagged → Bool → Type 0
+IsTest w d old new more = MatchBool more (IsTested w d old new) (is_built d ≡ false)

@@ -1,13 +1,15 @@
 -- What a value is seen to be.
 use Rattle.std.specs.Prelude.{◌≡◌, true}
 use Rattle.rl_tags.specs.Tagged.{Tagged}
-use Rattle.rl_tree.specs.Name.{Int, Id, Pair}
-use Rattle.rlisp.specs.World.{Memory, is_known, tree_in}
-use Rattle.rlisp.specs.declared.world.Look.{Look}
-use Rattle.rlisp.specs.declared.world.Look.TheVariants as look
+use Rattle.rl_text.specs.Datum.{Pair}
+use Rattle.rl_world.specs.declared.world.World.{World}
+use Rattle.rlisp.specs.World.{IsKnown, datum_in}
+use Rattle.rlisp.specs.Forms.{is_name, is_plain}
+use Rattle.rlisp.specs.declared.memory.Look.{Look}
+use Rattle.rlisp.specs.declared.memory.Look.TheVariants as look
 
--- the tree of the value is that integer, that identifier, or the pair of the trees of these two
-abbrev pub Sees : Memory → Tagged → Look → Type 0
-Sees m v (look.Integer z) = tree_in m v ≡ Int z
-Sees m v (look.Identifier name) = tree_in m v ≡ Id name
-Sees m v (look.Pair a d) = (tree_in m v ≡ Pair (tree_in m a) (tree_in m d)) × (is_known m a ≡ true) × (is_known m d ≡ true)
+-- it is an identifier; the pair of these two; or anything else
+abbrev pub Sees : World → Tagged → Look → Type 0
+Sees w v look.Other = is_plain (datum_in w v) ≡ true
+Sees w v look.Identifier = is_name (datum_in w v) ≡ true
+Sees w v (look.Pair a d) = (datum_in w v ≡ Pair (datum_in w a) (datum_in w d)) × IsKnown w a × IsKnown w d

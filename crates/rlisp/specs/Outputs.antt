@@ -1,9 +1,19 @@
--- What the program makes of a file, as the meaning of a run.
-use Rattle.std.specs.Prelude.{ℕ, Option, Some, None}
+-- What the program makes of a file, as data.
+use Rattle.std.specs.Prelude.{◌≡◌, map, List, Option, Some, None}
 use Rattle.std.specs.Global.{Vec}
-use Rattle.rl_tree.specs.Meaning.{Meaning, Finished, Unbuilt, nothing_printed}
+use Rattle.std.specs.List.{All}
+use Rattle.rl_tags.specs.Tagged.{Tagged}
+use Rattle.rl_text.specs.Datum.{Datum}
+use Rattle.rl_world.specs.declared.world.World.{World}
+use Rattle.rlisp.specs.World.{IsKnown, IsRunning, datum_in}
 
--- a text that was printed, or None where something is not built
-abbrev pub meaning_told : Option (Vec ℕ) → Meaning
-meaning_told None = nothing_printed Unbuilt
-meaning_told (Some text) = record { outcome = Finished; output = text.items }
+-- the forms that were read, or None where the text spells none
+abbrev pub data_told : World → Option (Vec Tagged) → Option (List Datum)
+data_told w None = None
+data_told w (Some forms) = Some (map (datum_in w) forms.items)
+
+-- they are data of the world, and nothing was printed
+pub record AreRead (old new : World) (forms : List Tagged) : Type 0 where
+  pub running : IsRunning new
+  pub known : All (IsKnown new) forms
+  pub output : new.output ≡ old.output

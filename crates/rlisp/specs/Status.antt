@@ -1,7 +1,7 @@
 -- How a run ends, as its status says it.
 use Rattle.std.specs.Prelude.{ℕ, zero, suc, List, [], ◌∷◌, ◌++◌, Option, Some, None, Bool, true, false, codes, decimal}
-use Rattle.rl_tree.specs.Meaning.{Outcome, Finished}
-use Rattle.rl_tree.specs.Meaning as meaning
+use Rattle.rlisp.specs.Meaning.{Outcome, Finished}
+use Rattle.rlisp.specs.Meaning as meaning
 use Rattle.rlisp.specs.declared.status.Status.{Status}
 use Rattle.rlisp.specs.declared.status.Status.TheVariants.{Done, Usage, Missing, WriteFault, FileFault, OutOfMemory, Unbuilt}
 
@@ -40,5 +40,5 @@ is_silent (Usage word) = true
 is_silent (Missing name) = true
 is_silent WriteFault = false
 is_silent FileFault = true
-is_silent OutOfMemory = true
+is_silent OutOfMemory = false
 is_silent Unbuilt = true

@@ -1,98 +1,117 @@
--- What the evaluator has still to do, told on trees.
-use Rattle.std.specs.Prelude.{◌≡◌, ℕ, ◌+◌, ◌<◌, Bool, true, if◌then◌else◌, List, [], ◌∷◌, map, Option, Some, None, MatchBool}
+-- What the evaluator has still to do, told on data.
+use Rattle.std.specs.Prelude.{◌≡◌, ℕ, ◌+◌, ◌*◌, ◌<◌, Bool, if◌then◌else◌, List, [], ◌∷◌, map, Option, Some, None, MatchBool}
 use Rattle.std.specs.List.{All}
 use Rattle.rl_tags.specs.Tagged.{Tagged}
-use Rattle.rl_tree.specs.Name.{Tree, Int, Id, Pair}
+use Rattle.rl_tree.specs.Atoms.{Style}
 use Rattle.rl_tree.specs.Printing.{Page}
-use Rattle.rl_tree.specs.Evaluation.{is_built}
-use Rattle.rl_tree.specs.Shown.{shown, with_line}
-use Rattle.rlisp.specs.World.{Memory, is_known, tree_in}
+use Rattle.rl_text.specs.Datum.{Datum, Pair}
+use Rattle.rl_text.specs.Printed.{with_datum}
+use Rattle.rl_print.specs.AtomText.{style_of}
+use Rattle.rl_world.specs.declared.world.World.{World}
+use Rattle.rlisp.specs.Evaluation.{line_length, is_built, evaluated, page_after, with_end_of_line}
+use Rattle.rlisp.specs.World.{IsKnown, datum_in}
+use Rattle.rlisp.specs.Forms.{pairs_of}
+use Rattle.rlisp.specs.Pages.{Prints, page_in}
+use Rattle.rl_print.specs.declared.atom.Style.TheVariants as style
+use Rattle.rlisp.specs.declared.forms.Printer.{Printer}
+use Rattle.rlisp.specs.declared.forms.Printer.TheVariants as printer
 use Rattle.rlisp.specs.declared.evaluator.Task.{Task}
 use Rattle.rlisp.specs.declared.evaluator.Task.TheVariants as task
 
--- evaluate a tree onto the values; make a pair of the newest two values, whose CDR is the newer; print the newest value
+-- evaluate a datum onto the values; make a pair of the newest two values, whose CDR is the newer; print the newest value; end the line
 pub data Step : Type 0 where
-  Evaluate : Tree → Step
+  Evaluate : Datum → Step
   Cons : Step
-  Print : Step
+  Print : Style → Step
+  EndLine : Step
 
 -- the page after these steps, from these values on, the newest first; None where a form is not built or a value is missing
-abbrev pub page_finished : List Step → List Tree → Page → Option Page
+abbrev pub page_finished : List Step → List Datum → Page → Option Page
 page_finished [] values page = Some page
-page_finished (Evaluate t ∷ steps) values page = if is_built t then page_finished steps ((shown t page).tree ∷ values) (shown t page).page else None
+page_finished (Evaluate d ∷ steps) values page = if is_built d then page_finished steps ((evaluated d page).value ∷ values) (evaluated d page).page else None
 page_finished (Cons ∷ steps) (d ∷ a ∷ values) page = page_finished steps (Pair a d ∷ values) page
-page_finished (Print ∷ steps) (v ∷ values) page = page_finished steps (v ∷ values) (with_line v page)
+page_finished (Print style ∷ steps) (v ∷ values) page = page_finished steps (v ∷ values) (with_datum style line_length v page)
+page_finished (EndLine ∷ steps) values page = page_finished steps values (with_end_of_line page)
 page_finished (Cons ∷ steps) _ page = None
-page_finished (Print ∷ steps) _ page = None
+page_finished (Print style ∷ steps) _ page = None
 
 -- the tasks and the values of an evaluation, each the newest first
 pub record Stacks : Type 0 where
   pub tasks : List Task
   pub values : List Tagged
 
--- an evaluation between two tasks
-pub record Situation : Type 0 where
-  pub memory : Memory
-  pub stacks : Stacks
-  pub page : Page
+abbrev pub step_in : World → Task → Step
+step_in w (task.Evaluate v) = Evaluate (datum_in w v)
+step_in w task.Cons = Cons
+step_in w (task.Print style) = Print (style_of style)
+step_in w task.EndLine = EndLine
 
-abbrev pub step_in : Memory → Task → Step
-step_in m (task.Evaluate v) = Evaluate (tree_in m v)
-step_in m task.Cons = Cons
-step_in m task.Print = Print
+abbrev pub steps_of : World → Stacks → List Step
+steps_of w k = map (step_in w) k.tasks
 
-abbrev pub steps_of : Situation → List Step
-steps_of s = map (step_in s.memory) s.stacks.tasks
+-- the page where the evaluation ends, or None, when this text was printed
+abbrev pub page_at_end : World → Stacks → List ℕ → Option Page
+page_at_end w k text = page_finished (steps_of w k) (map (datum_in w) k.values) (page_in w text)
 
--- the page where the evaluation ends, or None
-abbrev pub page_at_end : Situation → Option Page
-page_at_end s = page_finished (steps_of s) (map (tree_in s.memory) s.stacks.values) s.page
+abbrev pub KnowsTask : World → Task → Type 0
+KnowsTask w (task.Evaluate v) = IsKnown w v
+KnowsTask w task.Cons = Unit {0}
+KnowsTask w (task.Print style) = Unit {0}
+KnowsTask w task.EndLine = Unit {0}
 
-abbrev pub knows_task : Memory → Task → Bool
-knows_task m (task.Evaluate v) = is_known m v
-knows_task m task.Cons = true
-knows_task m task.Print = true
-
-pub record AreKnown (m : Memory) (stacks : Stacks) : Type 0 where
-  pub tasks : All (λ task. knows_task m task ≡ true) stacks.tasks
-  pub values : All (λ v. is_known m v ≡ true) stacks.values
-
--- the pairs of a tree
-abbrev pub pairs_of : Tree → ℕ
-pairs_of (Int z) = 0
-pairs_of (Id name) = 0
-pairs_of (Pair a d) = pairs_of a + pairs_of d + 1
+pub record AreKnown (w : World) (k : Stacks) : Type 0 where
+  pub tasks : All (KnowsTask w) k.tasks
+  pub values : All (IsKnown w) k.values
 
 -- more than the turns that are left
 abbrev pub weight_of : Step → ℕ
-weight_of (Evaluate t) = pairs_of t + 1
+weight_of (Evaluate d) = 2 * pairs_of d + 1
 weight_of Cons = 1
-weight_of Print = 1
+weight_of (Print style) = 1
+weight_of EndLine = 1
 
 abbrev pub weight : List Step → ℕ
 weight [] = 0
 weight (step ∷ steps) = weight_of step + weight steps
 
--- the second is a task further on
-pub record IsFurther (s t : Situation) : Type 0 where
-  pub same : page_at_end s ≡ page_at_end t
-  pub known : AreKnown t.memory t.stacks
-  pub lighter : weight (steps_of t) < weight (steps_of s)
+-- a task further on, with some bytes printed
+pub record IsFurther (before now : Option (List ℕ)) (old : World) (k : Stacks) (new : World) (l : Stacks) : Type 0 where
+  pub prints : Prints before now old.output.waiting new.output.waiting (page_at_end old k) (page_at_end new l)
+  pub known : AreKnown new l
+  pub lighter : weight (steps_of new l) < weight (steps_of old k)
 
--- one turn: there is more to be seen; or the evaluation can't end
-abbrev pub IsTurn : Situation → Situation → Bool → Type 0
-IsTurn s t more = MatchBool more (IsFurther s t) (page_at_end s ≡ None)
+-- the evaluation can't end
+abbrev pub IsStuck : World → Stacks → Type 0
+IsStuck w k = (text : List ℕ) → page_at_end w k text ≡ None
+
+-- one turn: there is more to be seen, or the evaluation can't end
+abbrev pub IsTurn : Option (List ℕ) → Option (List ℕ) → World → Stacks → World → Stacks → Bool → Type 0
+IsTurn before now old k new l more = MatchBool more (IsFurther before now old k new l) (IsStuck old k)
 
 -- one turn that prints nothing
-abbrev pub IsQuietTurn : Memory → Stacks → Memory → Stacks → Bool → Type 0
-IsQuietTurn m before n after more = (page : Page) → IsTurn (record { memory = m; stacks = before; page = page }) (record { memory = n; stacks = after; page = page }) more
+abbrev pub IsQuietTurn : World → Stacks → World → Stacks → Bool → Type 0
+IsQuietTurn old k new l more = (told : Option (List ℕ)) → IsTurn told told old k new l more
 
 abbrev pub with_task : Task → Stacks → Stacks
-with_task task stacks = record stacks { tasks = task ∷ stacks.tasks }
+with_task task k = record k { tasks = task ∷ k.tasks }
 
 abbrev pub with_value : Tagged → Stacks → Stacks
-with_value v stacks = record stacks { values = v ∷ stacks.values }
+with_value v k = record k { values = v ∷ k.values }
 
--- one form, and no values yet
-abbrev pub begun : Tagged → Stacks
-begun form = record { tasks = task.Evaluate form ∷ []; values = [] }
+-- the newest value
+abbrev pub IsNewest : Tagged → Stacks → Type 0
+IsNewest v k = (l : Stacks) × (k ≡ with_value v l)
+
+-- this is evaluated, and then printed as the function does
+abbrev pub with_print : Printer → Tagged → Stacks → Stacks
+with_print printer.Print a k = with_task (task.Evaluate a) (with_task (task.Print style.Prin1) (with_task task.EndLine k))
+with_print printer.Prin1 a k = with_task (task.Evaluate a) (with_task (task.Print style.Prin1) k)
+with_print printer.Prin2 a k = with_task (task.Evaluate a) (with_task (task.Print style.Prin2) k)
+
+-- the page after these forms, when this text was printed
+abbrev pub page_of_forms : World → List Tagged → List ℕ → Option Page
+page_of_forms w forms text = Some (page_after (map (datum_in w) forms) (page_in w text))
+
+-- forms, and no values yet
+abbrev pub begun : List Tagged → Stacks
+begun forms = record { tasks = map (λ v. task.Evaluate v) forms; values = [] }

@@ -1,84 +1,51 @@
--- What the program's memory stands for: the trees of its values.
-use Rattle.std.specs.Prelude.{◌≡◌, ℕ, ◌<◌, Bool, true, false, List, [], ◌∷◌, ◌++◌, slice_index_or, Option}
-use Rattle.rl_tags.specs.Tagged.{Tagged, Number, IdAt, StrAt, PairAt, VectorAt, BigAt, FunAt}
-use Rattle.rl_cells.specs.Cell.{Cell, PairCell, Store, cell_at, is_id_cell, is_pair_cell}
-use Rattle.rl_syms.specs.Table.{IsTable, name_at}
-use Rattle.rl_tree.specs.Name.{Name, Tree, Int, Id, Pair, nil, nil_name, quote_name}
+-- The world of a run, and the data that its values are.
+use Rattle.std.specs.Prelude.{◌≡◌, []}
+use Rattle.rl_tags.specs.Tagged.{Tagged}
+use Rattle.rl_tags.specs.Ids.{nil_id, t_id, quote_id, cons_id, prin1_id, prin2_id, print_id, terpri_id}
+use Rattle.rl_syms.specs.Table.{IsTable, IsNamed}
+use Rattle.rl_tree.specs.Name.{Name, nil_name, t_name, quote_name, cons_name, print_name}
+use Rattle.rl_text.specs.Datum.{Datum}
+use Rattle.rl_read.specs.Data.{IsDatum, datum_of}
+use Rattle.rl_world.specs.declared.world.World.{World}
+use Rattle.rlisp.specs.Evaluation.{line_length, prin1_name, prin2_name, terpri_name}
 
--- the store of objects, and where the chain of its identifiers begins
-pub record Memory : Type 0 where
-  pub store : Store
-  pub head : Option Tagged
+-- a value that is a datum
+pub record IsKnown (w : World) (v : Tagged) : Type 0 where
+  pub is : IsDatum w.cells.cells w.syms.head v
 
--- an integer, an identifier or a pair of these cells
-abbrev pub is_known_in : List Cell → Tagged → Bool
-is_known_in cells (Number z) = true
-is_known_in cells (IdAt k) = is_id_cell (cell_at cells k)
-is_known_in cells (StrAt k) = false
-is_known_in cells (PairAt k) = is_pair_cell (cell_at cells k)
-is_known_in cells (VectorAt k) = false
-is_known_in cells (BigAt k) = false
-is_known_in cells (FunAt k) = false
+-- the datum that it is
+unfoldable pub datum_in : World → Tagged → Datum
+datum_in w v = datum_of w.cells.cells v
 
--- a value that stands for a tree
-abbrev pub is_known : Memory → Tagged → Bool
-is_known m v = is_known_in m.store.cells v
+-- the value is the interned identifier of the name
+abbrev pub IsNameOf : World → Name → Tagged → Type 0
+IsNameOf w name id = IsNamed w.cells.cells w.syms.head name id
 
--- the tree of a value, by the names of identifiers and the trees of the cells before it
-abbrev pub tree_among : (ℕ → Name) → List Tree → Tagged → Tree
-tree_among names trees (Number z) = Int z
-tree_among names trees (IdAt k) = Id (names k)
-tree_among names trees (StrAt k) = nil
-tree_among names trees (PairAt k) = slice_index_or trees k nil
-tree_among names trees (VectorAt k) = nil
-tree_among names trees (BigAt k) = nil
-tree_among names trees (FunAt k) = nil
+-- names are a table, those that the evaluator knows are at the places of their constants, and lines are as long as at opening
+pub record IsRunning (w : World) : Type 0 where
+  pub table : IsTable w.cells.cells w.syms.head
+  pub nil : IsNameOf w nil_name nil_id
+  pub t : IsNameOf w t_name t_id
+  pub quote : IsNameOf w quote_name quote_id
+  pub cons : IsNameOf w cons_name cons_id
+  pub prin1 : IsNameOf w prin1_name prin1_id
+  pub prin2 : IsNameOf w prin2_name prin2_id
+  pub print : IsNameOf w print_name print_id
+  pub terpri : IsNameOf w terpri_name terpri_id
+  pub line : w.output.line_length ≡ line_length
 
--- the tree of the pair that begins at a cell
-abbrev pub cell_tree : (ℕ → Name) → List Tree → Cell → Tree
-cell_tree names trees (PairCell a d) = Pair (tree_among names trees a) (tree_among names trees d)
-cell_tree names trees _ = nil
+-- and nothing was printed
+pub record IsBeginning (w : World) : Type 0 where
+  pub running : IsRunning w
+  pub waiting : w.output.waiting ≡ []
+  pub column : w.output.column ≡ 0
 
--- the trees of cells, after those of the cells before them
-abbrev pub trees_after : (ℕ → Name) → List Tree → List Cell → List Tree
-trees_after names trees [] = trees
-trees_after names trees (c ∷ cs) = trees_after names (trees ++ cell_tree names trees c ∷ []) cs
+-- what was known is known, and is the same datum
+pub record Keeps (old new : World) : Type 0 where
+  pub known : (v : Tagged) → IsKnown old v → IsKnown new v
+  pub datum : (v : Tagged) → IsKnown old v → datum_in new v ≡ datum_in old v
 
--- the tree that a value of these cells stands for
-abbrev pub tree_of : List Cell → Tagged → Tree
-tree_of cells v = tree_among (name_at cells) (trees_after (name_at cells) [] cells) v
-
-unfoldable pub tree_in : Memory → Tagged → Tree
-tree_in m v = tree_of m.store.cells v
-
--- a pair begins before the place k
-abbrev pub IsBefore : ℕ → Tagged → Type 0
-IsBefore k (PairAt j) = j < k
-IsBefore k _ = Unit {0}
-
--- the parts of a pair at the place k are known, and older than it
-abbrev pub IsOlderCell : List Cell → ℕ → Cell → Type 0
-IsOlderCell cells k (PairCell a d) = (is_known_in cells a ≡ true) × (is_known_in cells d ≡ true) × IsBefore k a × IsBefore k d
-IsOlderCell cells k _ = Unit {0}
-
--- an identifier of this name stands at the place k
-pub record IsIdNamed (cells : List Cell) (k : ℕ) (name : Name) : Type 0 where
-  pub id : is_id_cell (cell_at cells k) ≡ true
-  pub name_is : name_at cells k ≡ name
-
--- names are a table, pairs are made of older values, and NIL and QUOTE are at the places of their constants
-pub record IsMemory (m : Memory) : Type 0 where
-  pub table : IsTable m.store.cells m.head
-  pub older : (k : ℕ) → IsOlderCell m.store.cells k (cell_at m.store.cells k)
-  pub nil : IsIdNamed m.store.cells 2 nil_name
-  pub quote : IsIdNamed m.store.cells 12 quote_name
-
--- what was known is known, and stands for the same tree
-pub record Keeps (old new : Memory) : Type 0 where
-  pub known : (v : Tagged) → is_known old v ≡ true → is_known new v ≡ true
-  pub tree : (v : Tagged) → is_known old v ≡ true → tree_in new v ≡ tree_in old v
-
--- a value of this memory that stands for the tree
-pub record Stands (m : Memory) (v : Tagged) (t : Tree) : Type 0 where
-  pub known : is_known m v ≡ true
-  pub tree : tree_in m v ≡ t
+-- a value of this world that is the datum
+pub record Stands (w : World) (v : Tagged) (d : Datum) : Type 0 where
+  pub known : IsKnown w v
+  pub datum : datum_in w v ≡ d

@@ -2,20 +2,17 @@
 #![tactic(auto)]
 
 mod evaluator;
-mod name;
-mod page;
-mod printer;
-mod reader;
+mod forms;
+mod memory;
+mod printing;
+mod reading;
 mod report;
 mod source;
 mod status;
 #[cfg(test)]
 mod tests;
-mod token;
 mod top;
 mod words;
-mod world;
-mod writing;
 
 pub use report::report;
 use rl_io::{DirFiles, OutOfMemory, StdSink, StdSource};

@@ -13,7 +13,7 @@ struct Row {
     status: u8,
 }
 
-const ROWS: [Row; 22] = [
+const ROWS: [Row; 21] = [
     Row {
         file: "(PRINT (CONS 1 2))",
         output: "(1 . 2)\n",
@@ -119,8 +119,77 @@ const ROWS: [Row; 22] = [
         output: "",
         status: 13,
     },
+];
+
+/// Rows of what is printed otherwise than by PRINT of lists, and of Lisp text whole.
+const TEXT_ROWS: [Row; 14] = [
     Row {
         file: "(PRINT +1)",
+        output: "1\n",
+        status: 0,
+    },
+    Row {
+        file: "(PRINT '[1 \"a\"\"b\" (x . !y)]) (PRIN2 \"a\"\"b\") (TERPRI)",
+        output: "[1 \"a\"\"b\" (X . !y)]\na\"b\n",
+        status: 0,
+    },
+    Row {
+        file: "(PRIN2 \"xxxxxxxxxxxxxxxxxxxxxxxxxxxxxxxxxxxxxxxxxxxxxxxxxxxxxxxxxxxxxxxxxxxxxxxxxxxxxxx\")\n(PRIN2 \"yy\") (TERPRI)",
+        output: "xxxxxxxxxxxxxxxxxxxxxxxxxxxxxxxxxxxxxxxxxxxxxxxxxxxxxxxxxxxxxxxxxxxxxxxxxxxxxxx\nyy\n",
+        status: 0,
+    },
+    Row {
+        file: "(PRINT (TERPRI))",
+        output: "\nNIL\n",
+        status: 0,
+    },
+    Row {
+        file: "[a (FOO) \"x\"] (PRINT [(FOO)])",
+        output: "[(FOO)]\n",
+        status: 0,
+    },
+    Row {
+        file: "(PRIN1 'a)(PRIN1 \"b\")(PRIN2 'c)(TERPRI)(PRINT 1) % to the end",
+        output: "A\"b\"C\n1\n",
+        status: 0,
+    },
+    Row {
+        file: "%x",
+        output: "",
+        status: 0,
+    },
+    Row {
+        file: "% (FOO)\n(PRINT '!1!a) (PRIN2 '!1!a)",
+        output: "!1!a\n1a",
+        status: 0,
+    },
+    Row {
+        file: "(PRINT '(QUOTE . a)) (PRINT '(a . [b]))",
+        output: "(QUOTE . A)\n(A . [B])\n",
+        status: 0,
+    },
+    Row {
+        file: "(PRINT 1) (TERPRI 1)",
+        output: "",
+        status: 13,
+    },
+    Row {
+        file: "(PRINT 1) (PRIN3 1)",
+        output: "",
+        status: 13,
+    },
+    Row {
+        file: "(PRINT 1) (QUOTE 1 2)",
+        output: "",
+        status: 13,
+    },
+    Row {
+        file: "(PRINT 1) (PRINT (PRINT . 1))",
+        output: "",
+        status: 13,
+    },
+    Row {
+        file: "(PRINT 1) \"open",
         output: "",
         status: 13,
     },
@@ -196,6 +265,16 @@ fn repeated(
 #[test]
 fn rows_print_and_end_as_they_say(rt: HostRuntime) -> Result<(), Fail> {
     for row in &ROWS {
+        let ran = run_over(&rt, row.file.as_bytes(), &[], &[])?;
+        assert_eq!(rt; ran.status.number(), row.status, "{}", row.file);
+        assert_eq!(rt; ran.out.bytes(), row.output.as_bytes(), "{}", row.file);
+    }
+    Ok(())
+}
+
+#[test]
+fn texts_are_read_and_printed_whole(rt: HostRuntime) -> Result<(), Fail> {
+    for row in &TEXT_ROWS {
         let ran = run_over(&rt, row.file.as_bytes(), &[], &[])?;
         assert_eq!(rt; ran.status.number(), row.status, "{}", row.file);
         assert_eq!(rt; ran.out.bytes(), row.output.as_bytes(), "{}", row.file);

@@ -1,32 +1,34 @@
 //! The one call of the program: from the words, the folder and the input to what is printed and the status.
-ghost use Rattle.std.specs.Prelude.{◌≡◌, ◌≢◌, ◌↔◌, ◌≤◌, ℕ, List, length, Some, None, IfSome, IfOk, IsTrue};
+ghost use Rattle.std.specs.Prelude.{◌≡◌, ◌≢◌, ◌↔◌, ◌≤◌, true, ℕ, List, length, Some, None, IfSome, IfOk, IsTrue};
+ghost use Rattle.std.specs.List.{All};
 ghost use Rattle.std.specs.Option.{IsSomeAnd};
 ghost use Rattle.rl_io.specs.Faults.{Rose};
 ghost use Rattle.rl_tree.specs.Command.{IsCommand, IsPath, StopsAt};
-ghost use Rattle.rl_tree.specs.Meaning.{meaning, IsUnbuilt};
+ghost use Rattle.rlisp.specs.Meaning.{meaning, IsUnbuilt};
 ghost use Rattle.rlisp.specs.Texts.{texts_of};
 ghost use Rattle.rlisp.specs.Status.{is_silent};
 ghost use Rattle.rlisp.specs.Appending.{AppendedFront};
-ghost use Rattle.rlisp.specs.Headline.{OfFile, Prints, Agrees, Ends};
-ghost use Rattle.rlisp.specs.Outputs.{meaning_told};
+ghost use Rattle.rlisp.specs.World.{IsBeginning, IsKnown};
+ghost use Rattle.rlisp.specs.Forms.{are_built};
+ghost use Rattle.rlisp.specs.Headline.{OfFile, Prints, Agrees, Ends, IsReady, PrintsForms, output_of};
 
 use crate::evaluator::evaluate_all;
-use crate::page::Page;
-use crate::reader::read;
+use crate::forms::all_built;
+use crate::memory::open;
+use crate::printing::Fault;
+use crate::reading::forms_in;
 use crate::source::{Loaded, load};
 use crate::status::{FileName, Status};
-use crate::token::tokens;
 use crate::words::path_of;
-use crate::world::World;
-use crate::writing::write_text;
-use rl_io::{Files, OutOfMemory, Sink, Source};
-use rl_tree::evaluation::runs_by_trees;
-use rl_tree::text::unbuilt_by_rule;
+use rl_io::{Files, Io, NullSink, OutOfMemory, Sink, Source};
+use rl_tags::Val;
+use rl_text::laws::{blank_text_has_none, what_is_found_is_spelled};
+use rl_world::World;
 use std::alloc::Global;
 
 /// Runs the command that the words are: `sl PATH` evaluates the forms of a file of Standard Lisp in turn.
 ///
-/// What PRINT prints goes to `out`. Nothing is read from `input`, nothing is written to `notes`, and no file is changed.
+/// What PRINT, PRIN1, PRIN2 and TERPRI print goes to `out`. Nothing is read from `input`, nothing is written to `notes`, and no file is changed.
 pub fn rlisp<I: Source, O: Sink, N: Sink, F: Files>(
     alloc: Global,
     words: &[Vec<u8>],
@@ -65,28 +67,88 @@ pub fn rlisp<I: Source, O: Sink, N: Sink, F: Files>(
     match path_of(words) {
         Err(word) => Status::Usage(word),
         Ok(path) => {
-            unbuilt_by_rule();
-            run_file(alloc, path, out, files)
+            let mut nowhere = NullSink::new();
+            let mut io = together(input, out, &mut nowhere, files);
+            run_path(alloc, path, &mut io)
         }
     }
 }
 
-/// Runs the file of this path.
-fn run_file<O: Sink, F: Files>(alloc: Global, path: &[u8], out: &mut O, files: &mut F) -> Status
-    requires { IsPath path.now }
-    ensures ends { IfSome (F.contents files.old)
-        (λ file_of. Ends (file_of path.now) (O.contents out.old) (O.contents out.new) result) }
-    ensures named { (name : List ℕ) → result ≡ Status.Missing name → name ≡ path.now }
-    ensures write_fault { result ≡ Status.WriteFault → Rose (O.faults out.old) (O.faults out.new) }
-    ensures file_fault { result ≡ Status.FileFault → Rose (F.faults files.old) (F.faults files.new) }
-    ensures steady_out { result ≢ Status.WriteFault → O.faults out.new ≡ O.faults out.old }
-    ensures steady_files { result ≢ Status.FileFault → F.faults files.new ≡ F.faults files.old }
-    ensures silent { IsTrue (is_silent result) → out.new ≡ out.old }
-    ensures no_usage { (k : ℕ) → result ≢ Status.Usage k }
-    ensures files_stay { F.contents files.new ≡ F.contents files.old }
+/// All that a run reads and writes, together.
+fn together<'a, I: Source, O: Sink, N: Sink, F: Files>(
+    input: &'a mut I,
+    out: &'a mut O,
+    notes: &'a mut N,
+    files: &'a mut F,
+) -> Io<'a, I, O, N, F>
+    ensures input { result.input ≡ input.entry }
+    ensures out { result.out ≡ out.entry }
+    ensures notes { result.notes ≡ notes.entry }
+    ensures files { result.files ≡ files.entry }
 {
-    match load(alloc, files, path) {
-        Loaded::File(file) => print_file(alloc, &file, out),
+    Io {
+        input,
+        out,
+        notes,
+        files,
+    }
+}
+
+/// Runs the file of this path. However the run ends, it has printed a front of what the file prints.
+fn run_path<I: Source, O: Sink, F: Files>(
+    alloc: Global,
+    path: &[u8],
+    io: &mut Io<'_, I, O, NullSink, F>,
+) -> Status
+    requires { IsPath path.now }
+    ensures ends { IfSome (F.contents io.old.files.now)
+        (λ file_of. Ends (file_of path.now) (O.contents io.old.out.now) (O.contents io.new.out.now) result) }
+    ensures front { IfSome (F.contents io.old.files.now)
+        (λ file_of. AppendedFront (O.contents io.old.out.now) (O.contents io.new.out.now) (meaning (file_of path.now)).output) }
+    ensures unbuilt { result ≡ Status.Unbuilt → IfSome (F.contents io.old.files.now)
+        (λ file_of. IsSomeAnd (file_of path.now) IsUnbuilt) }
+    ensures named { (name : List ℕ) → result ≡ Status.Missing name → name ≡ path.now }
+    ensures write_fault { result ≡ Status.WriteFault → Rose (O.faults io.old.out.now) (O.faults io.new.out.now) }
+    ensures file_fault { result ≡ Status.FileFault → Rose (F.faults io.old.files.now) (F.faults io.new.files.now) }
+    ensures steady_out { result ≢ Status.WriteFault → O.faults io.new.out.now ≡ O.faults io.old.out.now }
+    ensures steady_files { result ≢ Status.FileFault → F.faults io.new.files.now ≡ F.faults io.old.files.now }
+    ensures silent { IsTrue (is_silent result) → io.new.out.now ≡ io.old.out.now }
+    ensures no_usage { (k : ℕ) → result ≢ Status.Usage k }
+    ensures files_stay { F.contents io.new.files.now ≡ F.contents io.old.files.now }
+    ensures same_out { io.new.out.ghost_name ≡ io.old.out.ghost_name }
+    ensures same_files { io.new.files.ghost_name ≡ io.old.files.ghost_name }
+    ensures same_notes { io.new.notes.ghost_name ≡ io.old.notes.ghost_name }
+    ensures rest { io.new ≡ record io.old { out = io.new.out; notes = io.new.notes; files = io.new.files } }
+{
+    blank_text_has_none();
+    what_is_found_is_spelled();
+    run_file(alloc, path, io)
+}
+
+/// Loads the file of this path, and runs it.
+fn run_file<I: Source, O: Sink, F: Files>(
+    alloc: Global,
+    path: &[u8],
+    io: &mut Io<'_, I, O, NullSink, F>,
+) -> Status
+    requires { IsPath path.now }
+    ensures ends { IfSome (F.contents io.old.files.now)
+        (λ file_of. Ends (file_of path.now) (O.contents io.old.out.now) (O.contents io.new.out.now) result) }
+    ensures named { (name : List ℕ) → result ≡ Status.Missing name → name ≡ path.now }
+    ensures write_fault { result ≡ Status.WriteFault → Rose (O.faults io.old.out.now) (O.faults io.new.out.now) }
+    ensures file_fault { result ≡ Status.FileFault → Rose (F.faults io.old.files.now) (F.faults io.new.files.now) }
+    ensures steady_out { result ≢ Status.WriteFault → O.faults io.new.out.now ≡ O.faults io.old.out.now }
+    ensures steady_files { result ≢ Status.FileFault → F.faults io.new.files.now ≡ F.faults io.old.files.now }
+    ensures silent { IsTrue (is_silent result) → io.new.out.now ≡ io.old.out.now }
+    ensures no_usage { (k : ℕ) → result ≢ Status.Usage k }
+    ensures files_stay { F.contents io.new.files.now ≡ F.contents io.old.files.now }
+    ensures same_out { io.new.out.ghost_name ≡ io.old.out.ghost_name }
+    ensures same_files { io.new.files.ghost_name ≡ io.old.files.ghost_name }
+    ensures same_notes { io.new.notes.ghost_name ≡ io.old.notes.ghost_name }
+    ensures rest { io.new ≡ record io.old { out = io.new.out; notes = io.new.notes; files = io.new.files } }
+{
+    match load(alloc, io.files, path) {
+        Loaded::File(file) => run_bytes(alloc, &file, io),
         Loaded::Long => Status::Unbuilt,
         Loaded::Missing => Status::Missing(FileName::new(path)),
         Loaded::Fault => Status::FileFault,
@@ -94,43 +156,80 @@ fn run_file<O: Sink, F: Files>(alloc: Global, path: &[u8], out: &mut O, files: &
     }
 }
 
-/// Evaluates the forms of a file, and writes what they print.
-fn print_file<O: Sink>(alloc: Global, file: &[u8], out: &mut O) -> Status
+/// Runs the bytes of a file.
+fn run_bytes<I: Source, O: Sink, F: Files>(
+    alloc: Global,
+    file: &[u8],
+    io: &mut Io<'_, I, O, NullSink, F>,
+) -> Status
     requires { length file.now ≤ 4096 }
-    ensures ends { Ends (Some file.now) (O.contents out.old) (O.contents out.new) result }
-    ensures write_fault { result ≡ Status.WriteFault → Rose (O.faults out.old) (O.faults out.new) }
-    ensures steady_out { result ≢ Status.WriteFault → O.faults out.new ≡ O.faults out.old }
-    ensures silent { IsTrue (is_silent result) → out.new ≡ out.old }
+    ensures ends { Ends (Some file.now) (O.contents io.old.out.now) (O.contents io.new.out.now) result }
+    ensures write_fault { result ≡ Status.WriteFault → Rose (O.faults io.old.out.now) (O.faults io.new.out.now) }
+    ensures steady_out { result ≢ Status.WriteFault → O.faults io.new.out.now ≡ O.faults io.old.out.now }
+    ensures silent { IsTrue (is_silent result) → io.new.out.now ≡ io.old.out.now }
     ensures no_usage { (k : ℕ) → result ≢ Status.Usage k }
     ensures no_missing { (name : List ℕ) → result ≢ Status.Missing name }
     ensures no_file_fault { result ≢ Status.FileFault }
+    ensures same_out { io.new.out.ghost_name ≡ io.old.out.ghost_name }
+    ensures same_notes { io.new.notes.ghost_name ≡ io.old.notes.ghost_name }
+    ensures rest { io.new ≡ record io.old { out = io.new.out; notes = io.new.notes } }
 {
-    match output_of(alloc, file) {
+    let mut world = match open(alloc) {
+        Ok(world) => world,
+        Err(_) => return Status::OutOfMemory,
+    };
+    match built_forms(alloc, &mut world, file) {
         Err(_) => Status::OutOfMemory,
         Ok(None) => Status::Unbuilt,
-        Ok(Some(text)) => match write_text(out, &text) {
-            Ok(()) => Status::Done,
-            Err(_) => Status::WriteFault,
-        },
+        Ok(Some(forms)) => print_forms(alloc, &mut world, &forms, io),
     }
 }
 
-/// What the forms of a file print; None where something in it is not built.
-fn output_of(alloc: Global, file: &[u8]) -> Result<Option<Vec<u8>>, OutOfMemory>
-    requires { length file.now ≤ 4096 }
-    ensures { IfOk result (λ text. meaning (Some file.now) ≡ meaning_told text) }
+/// The forms of a file; None where something in it is not built.
+fn built_forms(
+    alloc: Global,
+    world: &mut World,
+    file: &[u8],
+) -> Result<Option<Vec<Val>>, OutOfMemory>
+    requires short { length file.now ≤ 4096 }
+    requires beginning { IsBeginning world.old }
+    ensures { IfOk result (λ forms. IsReady file.now world.new forms) }
 {
-    let Some(tokens) = tokens(alloc, file)? else {
+    let Some(forms) = forms_in(alloc, world, file)? else {
         return Ok(None);
     };
-    let mut world = World::open(alloc)?;
-    let Some(forms) = read(alloc, &mut world, &tokens)? else {
-        return Ok(None);
-    };
-    let mut page = Page::new(alloc);
-    if !evaluate_all(alloc, &mut world, &mut page, &forms)? {
+    if !all_built(alloc, world, &forms)? {
         return Ok(None);
     }
-    runs_by_trees();
-    Ok(Some(page.into_text()))
+    Ok(Some(forms))
+}
+
+/// Evaluates built forms, and writes what they print.
+fn print_forms<I: Source, O: Sink, F: Files>(
+    alloc: Global,
+    world: &mut World,
+    forms: &[Val],
+    io: &mut Io<'_, I, O, NullSink, F>,
+) -> Status
+    requires beginning { IsBeginning world.old }
+    requires known { All (IsKnown world.old) forms.now }
+    requires built { are_built world.old forms.now ≡ true }
+    ensures ends { PrintsForms (output_of world.old forms.now) (O.contents io.old.out.now) (O.contents io.new.out.now) result }
+    ensures write_fault { result ≡ Status.WriteFault → Rose (O.faults io.old.out.now) (O.faults io.new.out.now) }
+    ensures steady_out { result ≢ Status.WriteFault → O.faults io.new.out.now ≡ O.faults io.old.out.now }
+    ensures same_out { io.new.out.ghost_name ≡ io.old.out.ghost_name }
+    ensures same_notes { io.new.notes.ghost_name ≡ io.old.notes.ghost_name }
+    ensures rest { io.new ≡ record io.old { out = io.new.out; notes = io.new.notes } }
+{
+    match evaluate_all(alloc, world, forms, io) {
+        Ok(()) => match world.flush(io) {
+            Ok(()) => Status::Done,
+            Err(_) => Status::WriteFault,
+        },
+        Err(Fault::NoMemory) => match world.flush(io) {
+            Ok(()) => Status::OutOfMemory,
+            Err(_) => Status::WriteFault,
+        },
+        Err(Fault::Write) => Status::WriteFault,
+    }
 }
