@@ -1,21 +1,21 @@
 -- The rank of a job is fuel enough, and no job leaves more turns than it was given.
 use Rattle.std.proofs.Common.{◌≡◌, ◌≤◌, ◌<◌, ◌+◌, ◌==◌, ℕ, zero, suc, Bool, true, false, List, [], ◌∷◌, ◌++◌, ◌/◌, length, Option, Some, None, refl, subst, arith}
 use Rattle.rl_tree.specs.Value.{Value, Id, Fun}
-use Rattle.rl_tree.specs.declared.held.Kind.{Kind}
 use Rattle.rl_tree.specs.declared.held.Kind.TheVariants.{Expr, Fexpr, Macro}
 use Rattle.rl_meaning.specs.Names.{Native, Special, arguments_of, Quote, Cond, Progn, And, Or, Setq, Prog, Go, Return, List_, Plus, Times, Max, Min, De, Df, Dm, Eval, Errorset, Apply, Compile, Faslout, Load}
 use Rattle.rl_meaning.specs.Names as names
 use Rattle.rl_meaning.specs.State.{State, Counts, Tree, Atom, Quoted, Pair, Literal, Held, Definition, Function, SpecialForm, NativeFunction, HeldFunction}
-use Rattle.rl_meaning.specs.Outcome.{Outcome, Done, Failed, Went, Returned, Stopped, Levels, choose}
+use Rattle.rl_meaning.specs.Outcome.{Outcome, Done, Failed, Went, Returned, Stopped, Levels}
 use Rattle.rl_meaning.specs.Symbols.{nil, is_nil, truth, lambda_id, return_id, pair_at, symbol_at}
 use Rattle.rl_meaning.specs.Holding.{function_id, is_list}
 use Rattle.rl_meaning.specs.Variables.{with_mark}
 use Rattle.rl_meaning.specs.Definitions.{function_at}
-use Rattle.rl_meaning.specs.Forms.{Head, Form, Call, Applied, Bad, head_of, count_of, call_levels, fits, lambda_parameters, after_label}
+use Rattle.rl_meaning.specs.Forms.{Form, Call, Applied, Bad, head_of, count_of, call_levels, fits, lambda_parameters, after_label}
 use Rattle.rl_meaning.specs.Errors.{fail, undefined, wrong_count, wrong_type, misplaced, badly_formed}
 use Rattle.rl_meaning.specs.Atoms.{proper}
 use Rattle.rl_meaning.specs.Natives.{argument}
 use Rattle.rl_meaning.specs.Evaluation.{Position, Statement, Inside, Here, Job, Body, Call_, From, In, Rec, bad_form, misplaced_at, deeper_here, with_expansion, Target, Function_, Lambda, Undefined, WrongType, target_of, with_arguments, operation_of, of_none, held_body, held_applied, form_evaluated, evaluated, errorset, list_applied, applied_to, apply_target, apply, native_applied, counted, called_as, function_applied, applied, name_applied, called, fexpr_called, expansion_of, expanded_body, macro_called, in_chain, jumped, in_prog, define_function, going, quoted, function_named, atom_in, identifiers_in, eval, arguments, applied_lambda, progn, clauses, clause, conjunction, disjunction, setq, returning, prog, statements, listed, combined, combined_rest, job_done, rank, chain_of, job_at, job}
+use Rattle.rl_meaning.proofs.Heads.{lambda_form, call_form, special_form, list_form}
 use Rattle.rl_meaning.proofs.Spending.{Falls, falls_refl, Spends, done_with, stopped_spends}
 use Rattle.rl_meaning.proofs.SpendingObjects.{spending, fail_spends, pair_spends}
 use Rattle.rl_meaning.proofs.SpendingHolding.{hold_form_spends, hold_expansion_spends, elements_spend, copied_spends, hold_part_spends}
@@ -204,52 +204,6 @@ module _ (rec rec' : Rec) (n : ℕ) (agree : Agree n rec rec') where
       at (Stopped why t) f = alike_refl c _ (record { leaves = f.leaves })
 
   -- ---- forms
-
-  -- the cases of the head of a list, as they stand in `eval`
-  abbrev lambda_form : Rec → Here → Tree → Tree → Tree → State → Head → Outcome Value
-  lambda_form rec here h lambda args s head = elim head [
-    | Applied ↦ applied_lambda rec here (lambda_parameters lambda args) (count_of args) (λ here next s. arguments rec here [] next args s) lambda s
-    | Bad culprit ↦ deeper_here 1 here s (λ here. bad_form culprit s)
-    | Form form ↦ Done nil s
-    | Call kind i ↦ Done nil s
-  ]
-
-  abbrev call_form : Rec → Here → Position → Tree → Tree → State → ℕ → Kind → Outcome Value
-  call_form rec here position head args s i kind = elim kind [
-    | Expr ↦ deeper_here (call_levels (count_of args)) here s (λ here. arguments rec here [] (λ vs s. called rec i here.levels vs s) args s)
-    | Fexpr ↦ deeper_here (call_levels (count_of args)) here s (λ here. fexpr_called rec i here args s)
-    | Macro ↦ in_chain rec here.chain i s (λ n s. deeper_here (call_levels (count_of args)) (record here { chain = n }) s (λ here. macro_called rec i here position (Pair head args) s))
-  ]
-
-  abbrev special_form : Rec → Here → Position → Tree → State → Special → Outcome Value
-  special_form rec here position args s form = elim form [
-    | Quote ↦ quoted rec args s
-    | names.Function ↦ function_named rec args s
-    | Cond ↦ clauses rec here position args s
-    | Progn ↦ progn rec here position nil args s
-    | And ↦ conjunction rec here (truth true) args s
-    | Or ↦ disjunction rec here args s
-    | Setq ↦ setq rec here args s
-    | Prog ↦ prog rec here args s
-    | Go ↦ going rec position args s
-    | Return ↦ returning rec here position args s
-    | List_ ↦ listed rec here args s
-    | Plus ↦ combined rec Plus here args s
-    | Times ↦ combined rec Times here args s
-    | Max ↦ combined rec Max here args s
-    | Min ↦ combined rec Min here args s
-    | De ↦ define_function rec De here args s
-    | Df ↦ define_function rec Df here args s
-    | Dm ↦ define_function rec Dm here args s
-  ]
-
-  abbrev list_form : Rec → Here → Position → Tree → Tree → State → Head → Outcome Value
-  list_form rec here position head args s h = elim h [
-    | Applied ↦ Done nil s
-    | Bad culprit ↦ deeper_here 1 here s (λ here. bad_form culprit s)
-    | Call kind i ↦ choose (is_list args) s (λ s. call_form rec here position head args s i kind) (λ s. deeper_here 1 here s (λ here. bad_form (Id i) s))
-    | Form form ↦ deeper_here 1 here s (λ here. choose (fits form args) s (λ s. special_form rec here position args s form) (λ s. bad_form (atom_in rec head) s))
-  ]
 
   bad_alike : (culprit : Value) (here : Here) (s : State) → Alike {A = Value} s.counts (deeper_here 1 here s (λ here. bad_form culprit s)) (deeper_here 1 here s (λ here. bad_form culprit s))
   bad_alike culprit here s = deeper_alike 1 here.levels s _ _ (λ l. fail_alike badly_formed culprit s)
