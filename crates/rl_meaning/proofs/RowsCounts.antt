@@ -134,6 +134,23 @@ turns_of_reading : seen (run 13 100 (codes "ab (c) d") (codes "(READ) (PRINT (RE
 unfolding bare_state opening_rows byte_names special_rows native_rows digits error_texts job
 turns_of_reading = refl
 
+-- one byte of a special, and one past a string and past a sign
+turns_of_bytes_looked_at : seen (run 12 100 (codes "= \"s\" + ") (codes "(READ) (READ) (READ)"))
+    ≡ record { ending = Finished; output = []; notes = []; left = 0 }
+unfolding bare_state opening_rows byte_names special_rows native_rows digits error_texts job
+turns_of_bytes_looked_at = refl
+
+-- the byte takes a turn, and the end of the input takes none
+turns_of_a_refused_byte : seen (run 5 100 (codes ")") (codes "(READ) (READ)"))
+    ≡ record { ending = Finished; output = lines (codes "***** 0 is the byte where the text is unreadable" ∷ []); notes = []; left = 0 }
+unfolding bare_state opening_rows byte_names special_rows native_rows digits error_texts job
+turns_of_a_refused_byte = refl
+
+-- its own turn comes before its tests
+turns_of_an_apply_that_fails : bounds_of_turns (codes "(APPLY 5 NIL)") 6 ≡ (Finished, Stops Turns)
+unfolding bare_state opening_rows byte_names special_rows native_rows digits error_texts job
+turns_of_an_apply_that_fails = refl
+
 -- ---- levels
 
 levels_of_a_call : bounds_of_levels (codes "(PRINT 1)") 1 ≡ (Finished, Stops Depth)
@@ -231,6 +248,10 @@ levels_of_a_fexpr_call = refl
 levels_of_an_expansion : bounds_of_levels (codes "(DM M (U) '(NOT (NOT (NOT 5)))) (M 1 2 3 4 5 6 7 8)") 5 ≡ (Finished, Stops Depth)
 unfolding bare_state opening_rows byte_names special_rows native_rows digits error_texts job
 levels_of_an_expansion = refl
+
+levels_of_a_bad_form : bounds_of_levels (codes "(QUOTE)") 1 ≡ (Finished, Stops Depth)
+unfolding bare_state opening_rows byte_names special_rows native_rows digits error_texts job
+levels_of_a_bad_form = refl
 
 -- each list that is an element of another
 levels_of_reading : bounds_of_levels (codes "(QUOTE ((((A)))))") 4 ≡ (Finished, Stops Depth)
@@ -346,6 +367,19 @@ cells_of_errorset = refl
 cells_of_a_copy : bounds_of_cells (codes "(DF F (X) 1) (F A (B))") 56 ≡ (Finished, Stops Cells)
 unfolding bare_state opening_rows byte_names special_rows native_rows digits error_texts job
 cells_of_a_copy = refl
+
+-- the copy, the list and the held value
+cells_of_an_expansion : bounds_of_cells (codes "(DM M (U) (LIST 'QUOTE U)) (M)") 84 ≡ (Finished, Stops Cells)
+unfolding bare_state opening_rows byte_names special_rows native_rows digits error_texts job
+cells_of_an_expansion = refl
+
+cells_of_an_applied_list : bounds_of_cells (codes "(APPLY '(LAMBDA (X) 1) '(2))") 44 ≡ (Finished, Stops Cells)
+unfolding bare_state opening_rows byte_names special_rows native_rows digits error_texts job
+cells_of_an_applied_list = refl
+
+cells_of_a_pointer_that_defines : bounds_of_cells (codes "(PUTD 'F 'EXPR (CDR (GETD 'CAR)))") 51 ≡ (Finished, Stops Cells)
+unfolding bare_state opening_rows byte_names special_rows native_rows digits error_texts job
+cells_of_a_pointer_that_defines = refl
 
 cells_of_append : bounds_of_cells (codes "(APPEND '(A B) 5)") 27 ≡ (Finished, Stops Cells)
 unfolding bare_state opening_rows byte_names special_rows native_rows digits error_texts job

@@ -261,6 +261,12 @@ an_expansion_has_functions_of_its_own : printed (codes "(DM M (U) '(FUNCTION (LA
 unfolding bare_state opening_rows byte_names special_rows native_rows digits error_texts job
 an_expansion_has_functions_of_its_own = refl
 
+-- and a message goes below all bindings
+an_expansion_may_bind_what_its_holder_lacks : printed (codes "(DM M (U) '(PROG (EMSG!*) (ERRORSET '(CAR 5) NIL NIL) (RETURN EMSG!*))) (PRINT (M)) (PRINT EMSG!*) (DE F NIL EMSG!* (M)) (F)")
+    ≡ lines (codes "NIL" ∷ codes "(5 \"is of a wrong type\")" ∷ codes "***** EMSG* may not be bound or set" ∷ [])
+unfolding bare_state opening_rows byte_names special_rows native_rows digits error_texts job
+an_expansion_may_bind_what_its_holder_lacks = refl
+
 -- its own turns are none of the run, and those behind it are
 an_expansion_ends_with_its_error : seen (run 29 100 [] (codes "(DM M (U) (CAR 'A)) (ERRORSET '(M) NIL NIL) (LENGTH '(A B C))"))
     ≡ record { ending = Finished; output = []; notes = line (codes "errorset 13"); left = 0 }
@@ -362,3 +368,21 @@ an_expansion_without_its_holders_kinds : (run 100000000 50000 [] (codes "(FLUID 
     ≡ Some (record { event = Stray 254; printed = 0; noted = 0 })
 unfolding bare_state opening_rows byte_names special_rows native_rows digits error_texts job
 an_expansion_without_its_holders_kinds = refl
+
+a_parameter_is_not_reached : (run 100000000 50000 [] (codes "(DM M (U) 1) (DE F (M X Y) (PUTD X 'MACRO Y)) (F 1 'M '(LAMBDA (U) 2))")).state.event ≡ None
+unfolding bare_state opening_rows byte_names special_rows native_rows digits error_texts job
+a_parameter_is_not_reached = refl
+
+a_body_reaches_through_exprs_of_macros : (run 100000000 50000 [] (codes "(DE H NIL 1) (DE G NIL (H)) (DM M (U) (G)) (DE F (X) (REMD X) '(M)) (F 'H)")).state.event
+    ≡ Some (record { event = Turned 239; printed = 0; noted = 0 })
+unfolding bare_state opening_rows byte_names special_rows native_rows digits error_texts job
+a_body_reaches_through_exprs_of_macros = refl
+
+a_body_does_not_reach_through_exprs : (run 100000000 50000 [] (codes "(DM M (U) 1) (DE G NIL '(M)) (DE F (X) (REMD X) (G)) (F 'M)")).state.event ≡ None
+unfolding bare_state opening_rows byte_names special_rows native_rows digits error_texts job
+a_body_does_not_reach_through_exprs = refl
+
+a_macro_that_runs_is_a_body : (run 100000000 50000 [] (codes "(DM N (U) 1) (DM M (U) (REMD (CADR '(M N))) 5) (M)")).state.event
+    ≡ Some (record { event = Turned 245; printed = 0; noted = 0 })
+unfolding bare_state opening_rows byte_names special_rows native_rows digits error_texts job
+a_macro_that_runs_is_a_body = refl
