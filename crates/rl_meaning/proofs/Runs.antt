@@ -32,22 +32,27 @@ pub record Seen : Type 0 where
 abbrev pub seen : Ran → Seen
 seen r = record { ending = r.ending; output = r.state.outside.output; notes = r.state.outside.notes; left = r.state.counts.turns }
 
--- how runs end, at a bound on turns, on levels or on cells and at the bound below
+-- how runs from a state end, within so many turns, cells and levels
+abbrev pub ends : State → List ℕ → ℕ → ℕ → ℕ → Ending
+ends s source turns cells levels = (run_from s turns cells levels [] source).ending
+
+-- how they end at a bound on turns, on levels or on cells and at the bound below
 abbrev pub bounds_of_turns : List ℕ → ℕ → Ending × Ending
-bounds_of_turns source n = ((run n 50000 [] source).ending, (run (n - 1) 50000 [] source).ending)
+bounds_of_turns source n = let s = bare_state in (ends s source n 4000000 50000, ends s source (n - 1) 4000000 50000)
 
 abbrev pub bounds_of_levels : List ℕ → ℕ → Ending × Ending
-bounds_of_levels source n = ((run 100000000 n [] source).ending, (run 100000000 (n - 1) [] source).ending)
-
-abbrev pub ends_in_cells : List ℕ → ℕ → Ending
-ends_in_cells source cells = (run_from bare_state 100000000 cells 50000 [] source).ending
+bounds_of_levels source n = let s = bare_state in (ends s source 100000000 4000000 n, ends s source 100000000 4000000 (n - 1))
 
 abbrev pub bounds_of_cells : List ℕ → ℕ → Ending × Ending
-bounds_of_cells source n = (ends_in_cells source n, ends_in_cells source (n - 1))
+bounds_of_cells source n = let s = bare_state in (ends s source 100000000 n 50000, ends s source 100000000 (n - 1) 50000)
 
--- how a run from the state at opening ends within such bounds
-abbrev pub opened_ending : ℕ → ℕ → ℕ → List ℕ → Ending
-opened_ending turns cells levels source = (run_from opened_state turns cells levels [] source).ending
+abbrev pub ends_in_cells : List ℕ → ℕ → Ending
+ends_in_cells source cells = ends bare_state source 100000000 cells 50000
+
+-- from the state at opening: at these bounds, and one turn, one cell and one level below them
+abbrev pub opened_bounds : List ℕ → ℕ → ℕ → ℕ → List Ending
+opened_bounds source turns cells levels =
+    let s = opened_state in ends s source turns cells levels ∷ ends s source (turns - 1) cells levels ∷ ends s source turns (cells - 1) levels ∷ ends s source turns cells (levels - 1) ∷ []
 
 -- how a run ends, and what it printed until then
 abbrev pub printed_until : ℕ → ℕ → List ℕ → Ending × List ℕ
