@@ -130,9 +130,7 @@ pub struct InputBytes<'a, 'b, I: Source, O: Sink, N: Sink, F: Files> {
 
 impl<'a, 'b, I: Source, O: Sink, N: Sink, F: Files> InputBytes<'a, 'b, I, O, N, F> {
     /// The bytes that are left of the input.
-    pub fn new(io: &'a mut Io<'b, I, O, N, F>) -> InputBytes<'a, 'b, I, O, N, F>
-        ensures { result.io ≡ io.entry }
-    {
+    pub fn new(io: &'a mut Io<'b, I, O, N, F>) -> InputBytes<'a, 'b, I, O, N, F> {
         InputBytes { io }
     }
 }
