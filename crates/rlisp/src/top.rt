@@ -53,7 +53,7 @@ pub fn rlisp<I: Source, O: Sink, N: Sink, F: Files>(
     ensures file_fault { result ≡ Status.FileFault → Rose (F.faults files.old) (F.faults files.new) }
     ensures steady_out { result ≢ Status.WriteFault → O.faults out.new ≡ O.faults out.old }
     ensures steady_files { result ≢ Status.FileFault → F.faults files.new ≡ F.faults files.old }
-    // However the run ends, it printed a front of what the forms print, and nothing but after Done and WriteFault.
+    // However the run ends, it printed a front of what the forms print, and nothing but with Done, WriteFault and OutOfMemory.
     ensures front { OfFile (texts_of words.now) (F.contents files.old)
         (λ file. AppendedFront (O.contents out.old) (O.contents out.new) (meaning file).output) }
     ensures silent { IsTrue (is_silent result) → out.new ≡ out.old }
