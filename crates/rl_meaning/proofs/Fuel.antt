@@ -3,6 +3,7 @@ use Rattle.std.proofs.Common.{◌≡◌, ◌≤◌, ◌<◌, ◌+◌, ◌==◌, 
 use Rattle.rl_tree.specs.Value.{Value, Id, Fun}
 use Rattle.rl_tree.specs.declared.held.Kind.TheVariants.{Expr, Fexpr, Macro}
 use Rattle.rl_meaning.specs.Names.{Native, Special, arguments_of, Quote, Cond, Progn, And, Or, Setq, Prog, Go, Return, List_, Plus, Times, Max, Min, De, Df, Dm, Eval, Errorset, Apply, Compile, Faslout, Load}
+use Rattle.rl_meaning.specs.Constants.{reading}
 use Rattle.rl_meaning.specs.Names as names
 use Rattle.rl_meaning.specs.State.{State, Counts, Tree, Atom, Quoted, Pair, Literal, Held, Definition, Function, SpecialForm, NativeFunction, HeldFunction}
 use Rattle.rl_meaning.specs.Outcome.{Outcome, Done, Failed, Went, Returned, Stopped, Levels}
@@ -117,7 +118,7 @@ module _ (rec rec' : Rec) (n : ℕ) (agree : Agree n rec rec') where
   applied_to_alike : (levels : Levels) (target : Target) (vs : List Value) (s : State) → base s.counts + 100 < n → Alike s.counts (applied_to rec levels target vs s) (applied_to rec' levels target vs s)
   applied_to_alike levels (Function_ name f) vs s lt = agree (Call_ name levels f vs) s lt
   applied_to_alike levels (Lambda rest) vs s lt =
-      then_alike s.counts _ _ _ _ (alike_refl s.counts _ (hold_lambda_spends Expr levels (pair_at s rest) s)) (λ f t fell.
+      then_alike s.counts _ _ _ _ (alike_refl s.counts _ (hold_lambda_spends Expr levels (pair_at s rest) (reading rest s))) (λ f t fell.
       let b : base t.counts ≤ base s.counts = base_falls t.counts s.counts fell in list_applied_alike levels f (function_at t f) vs t (omega (arith, b, lt)))
   applied_to_alike levels Undefined vs s lt = done_alike nil s
   applied_to_alike levels WrongType vs s lt = done_alike nil s
@@ -134,7 +135,7 @@ module _ (rec rec' : Rec) (n : ℕ) (agree : Agree n rec rec') where
       applied_to_alike levels target vs r (omega (arith, b, c, lt)))))
 
   apply_alike : (levels : Levels) (f l : Value) (s : State) → base s.counts ≤ n → Alike s.counts (apply rec levels f l s) (apply rec' levels f l s)
-  apply_alike levels f l s le = turn_alike s _ _ (λ t turned. target_alike levels (target_of f t) f l t (omega (arith, turned.less, le)))
+  apply_alike levels f l s le = turn_alike s _ _ (λ t turned. target_alike levels (target_of f t) f l (reading f t) (omega (arith, turned.less, le)))
 
   native_alike : (native : Native) (levels : Levels) (vs : List Value) (s : State) → base s.counts ≤ n → Alike s.counts (native_applied rec native levels vs s) (native_applied rec' native levels vs s)
   native_alike Eval levels vs s le = evaluated_alike levels (argument vs 0) s le

@@ -2,9 +2,11 @@ mod Runs
 mod Rows
 mod RowsNatives
 mod RowsForms
+mod RowsConstants
 mod RowsCounts
 mod RowsPrinting
 mod RowsPrelude
+mod RowsExamples
 mod Spending
 mod SpendingObjects
 mod SpendingWalks

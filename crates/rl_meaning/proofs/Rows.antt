@@ -10,7 +10,7 @@ use Rattle.rl_meaning.specs.Outcome.{Turns, Depth, Expands}
 use Rattle.rl_meaning.specs.Evaluation.{job}
 use Rattle.rl_meaning.specs.Opening.{bare_state}
 use Rattle.rl_meaning.specs.Run.{Finished, Stops}
-use Rattle.rl_meaning.proofs.Runs.{run, printed, seen, line}
+use Rattle.rl_meaning.proofs.Runs.{run, printed, printed_until, seen, line}
 
 a_pair : printed (codes "(PRINT (CONS 1 2))") ≡ line (codes "(1 . 2)")
 unfolding bare_state opening_rows byte_names special_rows native_rows digits error_texts job
@@ -48,18 +48,36 @@ a_macro_cut : seen (run 12 50000 [] (codes "(DM K1 (U) (QUOTE 7)) (PRINT (K1))")
 unfolding bare_state opening_rows byte_names special_rows native_rows digits error_texts job
 a_macro_cut = refl
 
--- a chain of 101 expansions is too long
+-- a chain of 100 expansions is not too long, and one of 101 is
+a_chain_of_100 : printed_until 100000000 50000 (codes "(DM CH (U) (COND ((EQ (CADR U) 0) 7) (T (LIST 'CH (SUB1 (CADR U)))))) (PRINT (CH 99))") ≡ (Finished, line (codes "7"))
+unfolding bare_state opening_rows byte_names special_rows native_rows digits error_texts job
+a_chain_of_100 = refl
+
 long_chain : (run 100000000 50000 [] (codes "(DM CH (U) (COND ((EQ (CADR U) 0) 7) (T (LIST 'CH (SUB1 (CADR U)))))) (PRINT (CH 100))")).ending ≡ Stops (Expands 422)
 unfolding bare_state opening_rows byte_names special_rows native_rows digits error_texts job
 long_chain = refl
 
+-- an expansion has 100,000 turns of its own
+endless_expansion : (run 100000000 50000 [] (codes "(DM M (U) (PROG NIL L (GO L))) (M)")).ending ≡ Stops (Expands 244)
+unfolding bare_state opening_rows byte_names special_rows native_rows digits error_texts job
+endless_expansion = refl
+
+-- and 1,000,000 cells: 1 for the copy of its form, 999,991 for a vector of 1,999,980 places, and 8 for its value
+expansion_with_all_cells : printed (codes "(DM M (U) (MKVECT 1999979) 5) (PRINT (M))") ≡ line (codes "5")
+unfolding bare_state opening_rows byte_names special_rows native_rows digits error_texts job
+expansion_with_all_cells = refl
+
+expansion_without_cells : (run 100000000 50000 [] (codes "(DM M (U) (MKVECT 1999980) 5) (PRINT (M))")).ending ≡ Stops (Expands 244)
+unfolding bare_state opening_rows byte_names special_rows native_rows digits error_texts job
+expansion_without_cells = refl
+
 -- X is bound in the caller alone: the use strays, and the run goes on
-a_stray : (run 100000000 50000 [] (codes "(DE K NIL X) (DE J (X) (K)) (PRINT (J 3))")).state.event ≡ Some (record { event = Stray 254; printed = 0; noted = 0 })
+a_stray : (run 100000000 50000 [] (codes "(DE K NIL X) (DE J (X) (K)) (PRINT (J 3))")).state.watched.event ≡ Some (record { event = Stray 254; printed = 0; noted = 0 })
 unfolding bare_state opening_rows byte_names special_rows native_rows digits error_texts job
 a_stray = refl
 
 -- a macro that a running function uses is defined anew
-a_turn : (run 100000000 50000 [] (codes "(DM M1 (U) 1) (DE F1 NIL (PROG2 (DM M1 (U) 2) (M1))) (F1)")).state.event ≡ Some (record { event = Turned 422; printed = 0; noted = 0 })
+a_turn : (run 100000000 50000 [] (codes "(DM M1 (U) 1) (DE F1 NIL (PROG2 (DM M1 (U) 2) (M1))) (F1)")).state.watched.event ≡ Some (record { event = Turned 422; printed = 0; noted = 0 })
 unfolding bare_state opening_rows byte_names special_rows native_rows digits error_texts job
 a_turn = refl
 

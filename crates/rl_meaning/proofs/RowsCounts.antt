@@ -9,7 +9,7 @@ use Rattle.rl_meaning.specs.Errors.{error_texts}
 use Rattle.rl_meaning.specs.Evaluation.{job}
 use Rattle.rl_meaning.specs.Opening.{bare_state}
 use Rattle.rl_meaning.specs.Run.{Finished, Stops}
-use Rattle.rl_meaning.proofs.Runs.{run, seen, bounds_of_turns, bounds_of_levels, bounds_of_cells, lines}
+use Rattle.rl_meaning.proofs.Runs.{turn_then_level, run, seen, bounds_of_turns, bounds_of_levels, bounds_of_cells, lines}
 
 -- ---- turns
 
@@ -281,6 +281,23 @@ levels_of_a_copy = refl
 turns_before_levels_in_printing : (run 22 2 [] (codes "(SETQ X (CONS 1 2)) (SETQ X (CONS X 3)) (SETQ X (CONS X 4)) (PRIN1 X)")).ending ≡ Stops Turns
 unfolding bare_state opening_rows byte_names special_rows native_rows digits error_texts job
 turns_before_levels_in_printing = refl
+
+-- EQUAL, holding, copies and definitions in a body: what the last turn is for wants a level too, and the turn comes first
+a_turn_before_its_level_in_equal : turn_then_level (codes "(SETQ X (CONS 1 2)) (SETQ X (CONS X 3)) (SETQ X (CONS X 4)) (SETQ Y (CONS 1 2)) (SETQ Y (CONS Y 3)) (SETQ Y (CONS Y 4)) (EQUAL X Y)") 42 2 ≡ (Stops Depth, Stops Turns)
+unfolding bare_state opening_rows byte_names special_rows native_rows digits error_texts job
+a_turn_before_its_level_in_equal = refl
+
+a_turn_before_its_level_in_holding : turn_then_level (codes "(SETQ X (CONS 1 2)) (SETQ X (CONS X 3)) (SETQ X (CONS X 4)) (EVAL X)") 24 2 ≡ (Stops Depth, Stops Turns)
+unfolding bare_state opening_rows byte_names special_rows native_rows digits error_texts job
+a_turn_before_its_level_in_holding = refl
+
+a_turn_before_its_level_in_a_copy : turn_then_level (codes "(DF F (X) 1) (SETQ X (CONS 1 NIL)) (SETQ X (CONS X NIL)) (SETQ X (CONS X NIL)) (SETQ X (CONS 'F X)) (EVAL X)") 42 3 ≡ (Stops Depth, Stops Turns)
+unfolding bare_state opening_rows byte_names special_rows native_rows digits error_texts job
+a_turn_before_its_level_in_a_copy = refl
+
+a_turn_before_its_level_in_a_definition : turn_then_level (codes "(SETQ X (CONS 1 NIL)) (SETQ X (CONS X NIL)) (SETQ X (CONS X NIL)) (SETQ X (CONS 5 X)) (SETQ X (CONS NIL X)) (SETQ X (CONS 'G X)) (SETQ X (CONS 'DE X)) (EVAL X)") 61 3 ≡ (Stops Depth, Stops Turns)
+unfolding bare_state opening_rows byte_names special_rows native_rows digits error_texts job
+a_turn_before_its_level_in_a_definition = refl
 
 -- ---- cells
 

@@ -275,114 +275,114 @@ an_expansion_ends_with_its_error = refl
 
 -- ---- events
 
-a_set_of_a_local_strays : (run 100000000 50000 [] (codes "(DE F (X) (SET 'X 1)) (F 2)")).state.event
+a_set_of_a_local_strays : (run 100000000 50000 [] (codes "(DE F (X) (SET 'X 1)) (F 2)")).state.watched.event
     ≡ Some (record { event = Stray 254; printed = 0; noted = 0 })
 unfolding bare_state opening_rows byte_names special_rows native_rows digits error_texts job
 a_set_of_a_local_strays = refl
 
-a_setq_of_its_own_does_not_stray : (run 100000000 50000 [] (codes "(DE F (X) (SETQ X 1) ((LAMBDA (Y) X) 1)) (F 2) (SET 'X 1) (SETQ X 2)")).state.event
+a_setq_of_its_own_does_not_stray : (run 100000000 50000 [] (codes "(DE F (X) (SETQ X 1) ((LAMBDA (Y) X) 1)) (F 2) (SET 'X 1) (SETQ X 2)")).state.watched.event
     ≡ None
 unfolding bare_state opening_rows byte_names special_rows native_rows digits error_texts job
 a_setq_of_its_own_does_not_stray = refl
 
-a_setq_of_the_callers_strays : (run 100000000 50000 [] (codes "(DE K NIL (SETQ X 1)) (DE F (X) (K)) (PRINT 1) (F 2)")).state.event
+a_setq_of_the_callers_strays : (run 100000000 50000 [] (codes "(DE K NIL (SETQ X 1)) (DE F (X) (K)) (PRINT 1) (F 2)")).state.watched.event
     ≡ Some (record { event = Stray 254; printed = 2; noted = 0 })
 unfolding bare_state opening_rows byte_names special_rows native_rows digits error_texts job
 a_setq_of_the_callers_strays = refl
 
-eval_begins_anew : (run 100000000 50000 [] (codes "(DE F (X) (EVAL 'X)) (F 2)")).state.event
+eval_begins_anew : (run 100000000 50000 [] (codes "(DE F (X) (EVAL 'X)) (F 2)")).state.watched.event
     ≡ Some (record { event = Stray 254; printed = 0; noted = 0 })
 unfolding bare_state opening_rows byte_names special_rows native_rows digits error_texts job
 eval_begins_anew = refl
 
-errorset_begins_anew : (run 100000000 50000 [] (codes "(DE F (X) (ERRORSET 'X NIL NIL)) (ERRORSET 1 NIL NIL) (F 2)")).state.event
+errorset_begins_anew : (run 100000000 50000 [] (codes "(DE F (X) (ERRORSET 'X NIL NIL)) (ERRORSET 1 NIL NIL) (F 2)")).state.watched.event
     ≡ Some (record { event = Stray 254; printed = 0; noted = 15 })
 unfolding bare_state opening_rows byte_names special_rows native_rows digits error_texts job
 errorset_begins_anew = refl
 
-an_applied_list_begins_anew : (run 100000000 50000 [] (codes "((LAMBDA (X) (APPLY '(LAMBDA NIL X) NIL)) 5)")).state.event
+an_applied_list_begins_anew : (run 100000000 50000 [] (codes "((LAMBDA (X) (APPLY '(LAMBDA NIL X) NIL)) 5)")).state.watched.event
     ≡ Some (record { event = Stray 254; printed = 0; noted = 0 })
 unfolding bare_state opening_rows byte_names special_rows native_rows digits error_texts job
 an_applied_list_begins_anew = refl
 
-a_fluid_binding_does_not_stray : (run 100000000 50000 [] (codes "(FLUID '(X)) (DE K NIL (SETQ X 3)) (DE F (X) (EVAL 'X) (SET 'X 2) (K)) (F 2)")).state.event
+a_fluid_binding_does_not_stray : (run 100000000 50000 [] (codes "(FLUID '(X)) (DE K NIL (SETQ X 3)) (DE F (X) (EVAL 'X) (SET 'X 2) (K)) (F 2)")).state.watched.event
     ≡ None
 unfolding bare_state opening_rows byte_names special_rows native_rows digits error_texts job
 a_fluid_binding_does_not_stray = refl
 
-a_binding_is_what_was_kept : (run 100000000 50000 [] (codes "(DE K NIL X) (DE F (X) (K)) (FLUID '(X)) (F 2)")).state.event
+a_binding_is_what_was_kept : (run 100000000 50000 [] (codes "(DE K NIL X) (DE F (X) (K)) (FLUID '(X)) (F 2)")).state.watched.event
     ≡ Some (record { event = Stray 254; printed = 0; noted = 0 })
 unfolding bare_state opening_rows byte_names special_rows native_rows digits error_texts job
 a_binding_is_what_was_kept = refl
 
-the_first_event_is_kept : (run 100000000 50000 [] (codes "(DE K NIL Y X) (DE F (X) (PROG (Y) (PRINT 1) (K))) (F 2)")).state.event
+the_first_event_is_kept : (run 100000000 50000 [] (codes "(DE K NIL Y X) (DE F (X) (PROG (Y) (PRINT 1) (K))) (F 2)")).state.watched.event
     ≡ Some (record { event = Stray 255; printed = 2; noted = 0 })
 unfolding bare_state opening_rows byte_names special_rows native_rows digits error_texts job
 the_first_event_is_kept = refl
 
-an_equal_definition_does_not_turn : (run 100000000 50000 [] (codes "(DM M (U) (LIST 'CAR ''(A))) (DE F NIL (DM M (U) (LIST 'CAR U)) 1) (DM N (U) 5) (DE G NIL (DM N (U) 5) (N)) (G)")).state.event
+an_equal_definition_does_not_turn : (run 100000000 50000 [] (codes "(DM M (U) (LIST 'CAR ''(A))) (DE F NIL (DM M (U) (LIST 'CAR U)) 1) (DM N (U) 5) (DE G NIL (DM N (U) 5) (N)) (G)")).state.watched.event
     ≡ None
 unfolding bare_state opening_rows byte_names special_rows native_rows digits error_texts job
 an_equal_definition_does_not_turn = refl
 
-a_fexpr_turns : (run 100000000 50000 [] (codes "(DE F NIL (DF G (X) 1) (G)) (F)")).state.event
+a_fexpr_turns : (run 100000000 50000 [] (codes "(DE F NIL (DF G (X) 1) (G)) (F)")).state.watched.event
     ≡ Some (record { event = Turned 238; printed = 0; noted = 0 })
 unfolding bare_state opening_rows byte_names special_rows native_rows digits error_texts job
 a_fexpr_turns = refl
 
-an_expr_does_not_turn : (run 100000000 50000 [] (codes "(DE G NIL 1) (DE F NIL (DE G NIL 2) (G)) (F) (REMD 'G)")).state.event ≡ None
+an_expr_does_not_turn : (run 100000000 50000 [] (codes "(DE G NIL 1) (DE F NIL (DE G NIL 2) (G)) (F) (REMD 'G)")).state.watched.event ≡ None
 unfolding bare_state opening_rows byte_names special_rows native_rows digits error_texts job
 an_expr_does_not_turn = refl
 
-an_expr_that_a_macro_reaches_turns : (run 100000000 50000 [] (codes "(DE H NIL 1) (DM M (U) (H)) (DE F NIL (DE H NIL 2) (M)) (F)")).state.event
+an_expr_that_a_macro_reaches_turns : (run 100000000 50000 [] (codes "(DE H NIL 1) (DM M (U) (H)) (DE F NIL (DE H NIL 2) (M)) (F)")).state.watched.event
     ≡ Some (record { event = Turned 239; printed = 0; noted = 0 })
 unfolding bare_state opening_rows byte_names special_rows native_rows digits error_texts job
 an_expr_that_a_macro_reaches_turns = refl
 
-a_name_in_a_quoted_part_is_reached : (run 100000000 50000 [] (codes "(DM M (U) 1) (DE F (X Y) 'M (PUTD X 'MACRO Y)) (F 'M '(LAMBDA (U) 2))")).state.event
+a_name_in_a_quoted_part_is_reached : (run 100000000 50000 [] (codes "(DM M (U) 1) (DE F (X Y) 'M (PUTD X 'MACRO Y)) (F 'M '(LAMBDA (U) 2))")).state.watched.event
     ≡ Some (record { event = Turned 244; printed = 0; noted = 0 })
 unfolding bare_state opening_rows byte_names special_rows native_rows digits error_texts job
 a_name_in_a_quoted_part_is_reached = refl
 
-a_statement_is_no_body : (run 100000000 50000 [] (codes "(DM M (U) 1) (PROGN (DM M (U) 2) (M)) (EVAL '(DM M (U) 3)) (DE F (X Y) (PUTD X 'MACRO Y)) (F 'M '(LAMBDA (U) 2))")).state.event
+a_statement_is_no_body : (run 100000000 50000 [] (codes "(DM M (U) 1) (PROGN (DM M (U) 2) (M)) (EVAL '(DM M (U) 3)) (DE F (X Y) (PUTD X 'MACRO Y)) (F 'M '(LAMBDA (U) 2))")).state.watched.event
     ≡ None
 unfolding bare_state opening_rows byte_names special_rows native_rows digits error_texts job
 a_statement_is_no_body = refl
 
-a_removed_macro_turns : (run 100000000 50000 [] (codes "(DM M (U) 1) (DE F (X) (REMD X) 'M) (F 'M)")).state.event
+a_removed_macro_turns : (run 100000000 50000 [] (codes "(DM M (U) 1) (DE F (X) (REMD X) 'M) (F 'M)")).state.watched.event
     ≡ Some (record { event = Turned 244; printed = 0; noted = 0 })
 unfolding bare_state opening_rows byte_names special_rows native_rows digits error_texts job
 a_removed_macro_turns = refl
 
-an_applied_list_is_no_body : (run 100000000 50000 [] (codes "(DM M (U) 1) (APPLY '(LAMBDA NIL (DM M (U) 2)) NIL)")).state.event ≡ None
+an_applied_list_is_no_body : (run 100000000 50000 [] (codes "(DM M (U) 1) (APPLY '(LAMBDA NIL (DM M (U) 2)) NIL)")).state.watched.event ≡ None
 unfolding bare_state opening_rows byte_names special_rows native_rows digits error_texts job
 an_applied_list_is_no_body = refl
 
-an_expansion_has_its_holders_kinds : (run 100000000 50000 [] (codes "(FLUID '(X)) (DM N (U) '((LAMBDA (X) (EVAL 'X)) 5)) (DM M (U) '(N)) (DE F NIL X (M)) (F)")).state.event
+an_expansion_has_its_holders_kinds : (run 100000000 50000 [] (codes "(FLUID '(X)) (DM N (U) '((LAMBDA (X) (EVAL 'X)) 5)) (DM M (U) '(N)) (DE F NIL X (M)) (F)")).state.watched.event
     ≡ None
 unfolding bare_state opening_rows byte_names special_rows native_rows digits error_texts job
 an_expansion_has_its_holders_kinds = refl
 
 -- a name that the holder lacks is plain there
-an_expansion_without_its_holders_kinds : (run 100000000 50000 [] (codes "(FLUID '(X)) (DM N (U) '((LAMBDA (X) (EVAL 'X)) 5)) (DM M (U) '(N)) (DE F NIL (M)) (F)")).state.event
+an_expansion_without_its_holders_kinds : (run 100000000 50000 [] (codes "(FLUID '(X)) (DM N (U) '((LAMBDA (X) (EVAL 'X)) 5)) (DM M (U) '(N)) (DE F NIL (M)) (F)")).state.watched.event
     ≡ Some (record { event = Stray 254; printed = 0; noted = 0 })
 unfolding bare_state opening_rows byte_names special_rows native_rows digits error_texts job
 an_expansion_without_its_holders_kinds = refl
 
-a_parameter_is_not_reached : (run 100000000 50000 [] (codes "(DM M (U) 1) (DE F (M X Y) (PUTD X 'MACRO Y)) (F 1 'M '(LAMBDA (U) 2))")).state.event ≡ None
+a_parameter_is_not_reached : (run 100000000 50000 [] (codes "(DM M (U) 1) (DE F (M X Y) (PUTD X 'MACRO Y)) (F 1 'M '(LAMBDA (U) 2))")).state.watched.event ≡ None
 unfolding bare_state opening_rows byte_names special_rows native_rows digits error_texts job
 a_parameter_is_not_reached = refl
 
-a_body_reaches_through_exprs_of_macros : (run 100000000 50000 [] (codes "(DE H NIL 1) (DE G NIL (H)) (DM M (U) (G)) (DE F (X) (REMD X) '(M)) (F 'H)")).state.event
+a_body_reaches_through_exprs_of_macros : (run 100000000 50000 [] (codes "(DE H NIL 1) (DE G NIL (H)) (DM M (U) (G)) (DE F (X) (REMD X) '(M)) (F 'H)")).state.watched.event
     ≡ Some (record { event = Turned 239; printed = 0; noted = 0 })
 unfolding bare_state opening_rows byte_names special_rows native_rows digits error_texts job
 a_body_reaches_through_exprs_of_macros = refl
 
-a_body_does_not_reach_through_exprs : (run 100000000 50000 [] (codes "(DM M (U) 1) (DE G NIL '(M)) (DE F (X) (REMD X) (G)) (F 'M)")).state.event ≡ None
+a_body_does_not_reach_through_exprs : (run 100000000 50000 [] (codes "(DM M (U) 1) (DE G NIL '(M)) (DE F (X) (REMD X) (G)) (F 'M)")).state.watched.event ≡ None
 unfolding bare_state opening_rows byte_names special_rows native_rows digits error_texts job
 a_body_does_not_reach_through_exprs = refl
 
-a_macro_that_runs_is_a_body : (run 100000000 50000 [] (codes "(DM N (U) 1) (DM M (U) (REMD (CADR '(M N))) 5) (M)")).state.event
+a_macro_that_runs_is_a_body : (run 100000000 50000 [] (codes "(DM N (U) 1) (DM M (U) (REMD (CADR '(M N))) 5) (M)")).state.watched.event
     ≡ Some (record { event = Turned 245; printed = 0; noted = 0 })
 unfolding bare_state opening_rows byte_names special_rows native_rows digits error_texts job
 a_macro_that_runs_is_a_body = refl

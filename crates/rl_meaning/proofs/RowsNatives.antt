@@ -315,3 +315,9 @@ natives_of_three_or_no_arguments : printed (codes "(PUTV 1 2) (PUT 1 2) (PUTD 1 
     ≡ lines (codes "***** PUTV has a wrong number of arguments" ∷ codes "***** PUT has a wrong number of arguments" ∷ codes "***** PUTD has a wrong number of arguments" ∷ codes "***** ERRORSET has a wrong number of arguments" ∷ codes "***** GENSYM has a wrong number of arguments" ∷ codes "***** TERPRI has a wrong number of arguments" ∷ codes "***** POSN has a wrong number of arguments" ∷ codes "***** READ has a wrong number of arguments" ∷ codes "***** READCH has a wrong number of arguments" ∷ [])
 unfolding bare_state opening_rows byte_names special_rows native_rows digits error_texts job
 natives_of_three_or_no_arguments = refl
+
+-- of two wrong arguments the first is the culprit
+a_wrong_list_comes_before_a_wrong_flag : printed (codes "(FLAG 'A 5) (FLAG '(A) 5) (FLAG '(A 7) 5) (REMFLAG '(A . B) 5) (REMFLAG NIL \"F\") (PRINT (FLAGP 'A 5))")
+    ≡ lines (codes "***** A is of a wrong type" ∷ codes "***** 5 is of a wrong type" ∷ codes "***** (A 7) is of a wrong type" ∷ codes "***** (A . B) is of a wrong type" ∷ codes "***** F is of a wrong type" ∷ codes "NIL" ∷ [])
+unfolding bare_state opening_rows byte_names special_rows native_rows digits error_texts job
+a_wrong_list_comes_before_a_wrong_flag = refl

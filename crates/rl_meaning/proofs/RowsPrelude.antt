@@ -1,14 +1,16 @@
 -- The functions of the prelude, from the state at opening.
-use Rattle.std.proofs.Common.{◌≡◌, [], ◌∷◌, refl}
+use Rattle.std.proofs.Common.{◌≡◌, [], ◌∷◌, Some, None, if◌then◌else◌, refl}
 use Rattle.std.specs.Prelude.{codes}
 use Rattle.std.specs.Fmt.{digits}
+use Rattle.std.specs.Str.{bytes_eq}
 use Rattle.rl_tags.specs.Opening.{opening_rows, byte_names}
 use Rattle.rl_meaning.specs.Names.{special_rows, native_rows}
-use Rattle.rl_meaning.specs.Outcome.{Turns, Cells, Depth}
+use Rattle.rl_meaning.specs.State.{Files}
+use Rattle.rl_meaning.specs.Outcome.{Turns, Cells, Depth, Missing}
 use Rattle.rl_meaning.specs.Errors.{error_texts}
 use Rattle.rl_meaning.specs.Evaluation.{job}
 use Rattle.rl_meaning.specs.Opening.{bare_state, opened_state, prelude_texts}
-use Rattle.rl_meaning.specs.Run.{Finished, Stops}
+use Rattle.rl_meaning.specs.Run.{Finished, Stops, Limits, meaning}
 use Rattle.rl_meaning.proofs.Runs.{opened_printed, opened_bounds, lines}
 
 functions_mapped : opened_printed (codes "(PRINT (MAPCAR '(1 2 3) 'ADD1)) (PRINT (MAP '(1 2) 'PRINT)) (PRINT (MAPC '(1 2) 'PRINT)) (PRINT (MAPLIST '(1 2) (FUNCTION (LAMBDA (X) X)))) (PRINT (MAPCAN '(1 2) '(LAMBDA (X) (LIST X X)))) (PRINT (MAPCON '(1 2) (FUNCTION (LAMBDA (X) (LIST (LENGTH X)))))) (PRINT (MAPCAR NIL 'NN)) (PRINT (MAPCAR '(A . B) 'PRINT)) (MAPCAR '(A) 'LIST) (MAPCAR '(A) 'NN) (MAPCAR '(A))")
@@ -31,3 +33,18 @@ the_state_at_opening_and_its_names = refl
 counts_of_a_call : opened_bounds (codes "(PROG2 1 2)") 4 17 3 ≡ Finished ∷ Stops Turns ∷ Stops Cells ∷ Stops Depth ∷ []
 unfolding opened_state prelude_texts bare_state opening_rows byte_names special_rows native_rows digits error_texts job
 counts_of_a_call = refl
+
+-- the file of a name is run, and no other
+abbrev one_file : Files
+one_file name = if bytes_eq name (codes "a.sl") then Some (codes "(PRINT (READ)) (PRINT (MAPCAR '(1 2) 'ADD1))") else None
+
+abbrev default_limits : Limits
+default_limits = record { turns = 100000000; cells = Some 4000000; levels = Some 50000 }
+
+a_file_is_run : (meaning default_limits (codes "a.sl") one_file (codes "b")).state.outside.output ≡ lines (codes "B" ∷ codes "(2 3)" ∷ [])
+unfolding opened_state prelude_texts bare_state opening_rows byte_names special_rows native_rows digits error_texts job
+a_file_is_run = refl
+
+a_file_is_missing : (meaning default_limits (codes "b.sl") one_file []).ending ≡ Stops (Missing (codes "b.sl"))
+unfolding opened_state prelude_texts bare_state opening_rows byte_names special_rows native_rows digits error_texts job
+a_file_is_missing = refl

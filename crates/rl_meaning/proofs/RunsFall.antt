@@ -2,13 +2,13 @@
 use Rattle.std.proofs.Common.{◌≤◌, ℕ, zero, suc, false, List, length, Option, Some, None, ap, arith}
 use Rattle.rl_tree.specs.Value.{Value}
 use Rattle.rl_tree.specs.Name.{Name}
-use Rattle.rl_meaning.specs.State.{State, Counts, Function, SpecialForm, NativeFunction, HeldFunction}
+use Rattle.rl_meaning.specs.State.{State, Counts, Files, Function, SpecialForm, NativeFunction, HeldFunction}
 use Rattle.rl_meaning.specs.Outcome.{Outcome, Done, Failed, Went, Returned, Stopped, Levels}
 use Rattle.rl_meaning.specs.Definitions.{function_at}
 use Rattle.rl_meaning.specs.Input.{Reading, Form, End, Unreadable}
 use Rattle.rl_meaning.specs.Evaluation.{longest_chain, Inside, Job, job}
 use Rattle.rl_meaning.specs.Opening.{state_of, opened_state}
-use Rattle.rl_meaning.specs.Run.{Limits, Ran, held_evaluated, statement, after_statement, behind_line, goes_on, read_and_run, run_within, started, meaning}
+use Rattle.rl_meaning.specs.Run.{Limits, Ran, held_evaluated, statement, after_statement, behind_line, goes_on, read_and_run, run_within, started, source_of, run_file, meaning}
 use Rattle.rl_meaning.proofs.Spending.{Falls, Spends, spends_from, then_spends}
 use Rattle.rl_meaning.proofs.SpendingObjects.{spending}
 use Rattle.rl_meaning.proofs.SpendingHolding.{hold_form_spends}
@@ -70,6 +70,9 @@ run_ends n zero levels size bytes s le = record { turns = le }
 run_ends n (suc k) levels size bytes s le =
     goes_on_ends n s.counts _ _ le (read_bytes_spends false levels bytes s) (λ reading t le. read_and_run_ends n levels size _ (λ rest t le. run_ends n k levels size rest t le) reading t le)
 
-pub run_turns : (limits : Limits) (name : Name) (source : Option (List ℕ)) (input : List ℕ) → (meaning limits name source input).state.counts.turns ≤ limits.turns
-run_turns limits name (Some source) input = (run_ends limits.turns (suc (length source)) limits.levels (length source) source (started limits input opened_state) (omega arith)).turns
-run_turns limits name None input = omega arith
+file_ends : (n : ℕ) (levels : Levels) (name : Name) (file : Option (List ℕ)) (s : State) → s.counts.turns ≤ n → Ends n (run_file levels name file s)
+file_ends n levels name (Some file) s le = let source : List ℕ = source_of file in run_ends n (suc (length source)) levels (length source) source s le
+file_ends n levels name None s le = record { turns = le }
+
+pub run_turns : (limits : Limits) (name : Name) (files : Files) (input : List ℕ) → (meaning limits name files input).state.counts.turns ≤ limits.turns
+run_turns limits name files input = (file_ends limits.turns limits.levels name (files name) (started limits files input opened_state) (omega arith)).turns

@@ -4,14 +4,15 @@ use Rattle.rl_tree.specs.Value.{Value, Int, Id, Str, Ref, Fun}
 use Rattle.rl_tree.specs.declared.held.Kind.{Kind}
 use Rattle.rl_tree.specs.declared.held.VarKind.{VarKind}
 use Rattle.rl_meaning.specs.State.{State, Definition, Turned}
-use Rattle.rl_meaning.specs.Outcome.{Outcome, Levels}
-use Rattle.rl_meaning.specs.Symbols.{pair_at}
+use Rattle.rl_meaning.specs.Constants.{reading}
+use Rattle.rl_meaning.specs.Outcome.{Outcome, Done, Levels}
+use Rattle.rl_meaning.specs.Symbols.{pair_at, cdr_at}
 use Rattle.rl_meaning.specs.Atoms.{made_places, mkvect, place_at, place_of, with_vector, getv, putv, upbv, gensym, intern, explode, Spelled, InName, InNumber, AtZero, AfterQuote, Compressed, Spells, Stops, atom_of, compressed_atom, compress_bytes, compress}
-use Rattle.rl_meaning.specs.Properties.{Place, look_for, of_identifier, get, flagp, add_first, put_at, with_identifier, put, taken_out, without, remprop, or_list, at_list_end, for_each, flag_at, flag, remflag, cdr_at}
+use Rattle.rl_meaning.specs.Properties.{Place, look_for, of_identifier, get, flagp, add_first, put_at, with_identifier, put, taken_out, without, remprop, or_list, at_list_end, for_each, flag_at, for_flag, flag, remflag}
 use Rattle.rl_meaning.specs.Reach.{turns, with_change}
-use Rattle.rl_meaning.specs.Definitions.{with_definition, define, definition_pair, getd, Body, Pointer, Lambda, with_kind, with_body, own_name, hold_lambda, function_of, putd, remd, declare, fluid, global, undeclare, unfluid, set}
+use Rattle.rl_meaning.specs.Definitions.{with_definition, define, definition_pair, getd, Body, Pointer, Lambda, kind_of, with_kind, body_in, with_body, own_name, hold_lambda, function_of, putd, remd, declare, fluid, global, undeclare, unfluid, set}
 use Rattle.rl_meaning.specs.Events.{with_event}
-use Rattle.rl_meaning.proofs.Spending.{Spends}
+use Rattle.rl_meaning.proofs.Spending.{Spends, then_spends}
 use Rattle.rl_meaning.proofs.SpendingObjects.{spending}
 use Rattle.rl_meaning.proofs.SpendingWalks.{walk_spends}
 use Rattle.rl_meaning.proofs.SpendingHolding.{hold_function_spends}
@@ -142,11 +143,15 @@ flag_at_spends : (i : ℕ) (p : Value) (o : Option Value) (s : State) → Spends
 flag_at_spends i p (Some pair) s = search spending
 flag_at_spends i p None s = add_first_spends i p s
 
+for_flag_spends : (p : Value) (act : ℕ → State → Outcome (Unit {0})) → ((i : ℕ) (s : State) → Spends s.counts (act i s)) → (l : Value) (s : State) → Spends s.counts (for_flag p act l s)
+for_flag_spends (Id j) act h l s = for_each_spends act h l s
+for_flag_spends p act h l s = then_spends s.counts _ _ (for_each_spends (λ i s. Done tt s) (λ i s. search spending) l s) (λ done s. search spending)
+
 pub flag_spends : (l p : Value) (s : State) → Spends s.counts (flag l p s)
-flag_spends l p s = search (spending, with_identifier_spends, for_each_spends, look_for_spends, flag_at_spends)
+flag_spends l p s = search (spending, for_flag_spends, look_for_spends, flag_at_spends)
 
 pub remflag_spends : (l p : Value) (s : State) → Spends s.counts (remflag l p s)
-remflag_spends l p s = search (spending, with_identifier_spends, for_each_spends, look_for_spends, without_counts)
+remflag_spends l p s = search (spending, for_flag_spends, look_for_spends, without_counts)
 
 -- ---- definitions
 
@@ -187,10 +192,13 @@ hold_lambda_spends kind levels None s = search spending
 
 function_of_spends : (kind : Kind) (levels : Levels) (body : Body) (s : State) → Spends s.counts (function_of kind levels body s)
 function_of_spends kind levels (Pointer f) s = search spending
-function_of_spends kind levels (Lambda rest) s = hold_lambda_spends kind levels (pair_at s rest) s
+function_of_spends kind levels (Lambda rest) s = hold_lambda_spends kind levels (pair_at s rest) (reading rest s)
 
 pub putd_spends : (levels : Levels) (f t b : Value) (s : State) → Spends s.counts (putd levels f t b s)
-putd_spends levels f t b s = search (spending, with_identifier_spends, with_kind_spends, with_body_spends, own_name_spends, function_of_spends, define_counts) depth 9
+putd_spends levels f t b s =
+    with_identifier_spends f s _ (λ i s.
+    with_kind_spends (kind_of t) t s _ (λ kind s.
+    with_body_spends (body_in s kind b) b (reading b s) _ (λ body s. search (spending, own_name_spends, function_of_spends, define_counts))))
 
 pub remd_spends : (f : Value) (s : State) → Spends s.counts (remd f s)
 remd_spends f s = search (spending, with_identifier_spends, own_name_spends, definition_pair_spends, with_definition_counts)

@@ -3,6 +3,7 @@ use Rattle.std.proofs.Common.{sym, ◌==◌, ℕ, zero, suc, Bool, true, false, 
 use Rattle.rl_tree.specs.Value.{Value, Id, Fun}
 use Rattle.rl_tree.specs.declared.held.Kind.TheVariants.{Expr, Fexpr, Macro}
 use Rattle.rl_meaning.specs.Names.{Native, Special, arguments_of, Quote, Cond, Progn, And, Or, Setq, Prog, Go, Return, List_, Plus, Times, Max, Min, De, Df, Dm, Eval, Errorset, Apply, Compile, Faslout, Load}
+use Rattle.rl_meaning.specs.Constants.{reading}
 use Rattle.rl_meaning.specs.Names as names
 use Rattle.rl_meaning.specs.State.{State, Counts, Tree, Atom, Quoted, Pair, Literal, Held, Definition, Function, SpecialForm, NativeFunction, HeldFunction}
 use Rattle.rl_meaning.specs.Outcome.{then_do, Outcome, Done, Levels}
@@ -10,7 +11,7 @@ use Rattle.rl_meaning.specs.Symbols.{nil, is_nil, truth, lambda_id, return_id, p
 use Rattle.rl_meaning.specs.Holding.{function_id, hold_expansion, is_list}
 use Rattle.rl_meaning.specs.Copying.{copied}
 use Rattle.rl_meaning.specs.Variables.{with_mark}
-use Rattle.rl_meaning.specs.Definitions.{function_at}
+use Rattle.rl_meaning.specs.Definitions.{function_at, hold_lambda}
 use Rattle.rl_meaning.specs.Forms.{Form, Call, Applied, Bad, head_of, count_of, call_levels, fits, lambda_parameters, after_label}
 use Rattle.rl_meaning.specs.Errors.{undefined, wrong_count, wrong_type, misplaced, badly_formed}
 use Rattle.rl_meaning.specs.Atoms.{proper}
@@ -18,7 +19,7 @@ use Rattle.rl_meaning.specs.Natives.{argument}
 use Rattle.rl_meaning.specs.Evaluation.{Position, Statement, Inside, Here, longest_chain, Job, Body, Call_, From, In, Rec, bad_form, misplaced_at, deeper_here, Target, Function_, Lambda, Undefined, WrongType, target_of, with_arguments, operation_of, of_none, held_body, held_applied, form_evaluated, evaluated, errorset, list_applied, applied_to, apply_target, apply, native_applied, counted, called_as, function_applied, applied, name_applied, called, fexpr_called, expansion_of, expanded_body, macro_called, in_chain, jumped, in_prog, define_function, going, quoted, function_named, atom_in, identifiers_in, eval, arguments, applied_lambda, progn, clauses, clause, conjunction, disjunction, setq, returning, prog, statements, listed, combined, combined_rest, rank, job_at, job}
 use Rattle.rl_meaning.proofs.Heads.{lambda_form, call_form, special_form, list_form}
 use Rattle.rl_meaning.proofs.Widening.{Wider, with_counts, same, Widens, done, failed, went, returned, stopped, Roomier, from_same, then_widens, choose_widens, turn_widens, deeper_widens}
-use Rattle.rl_meaning.proofs.WideningObjects.{widening, fail_widens, pair_widens}
+use Rattle.rl_meaning.proofs.WideningObjects.{widening, fail_widens, pair_widens, reading_widens}
 use Rattle.rl_meaning.proofs.WideningHolding.{hold_form_widens, hold_expansion_widens, elements_widen, copied_widens, hold_part_widens}
 use Rattle.rl_meaning.proofs.WideningVariables.{variable_widens, assigned_widens, operated_widens}
 use Rattle.rl_meaning.proofs.WideningReach.{define_same}
@@ -100,7 +101,9 @@ module _ (rec rec' : Rec) (agrees : Agrees rec rec') where
 
   applied_to_widens : (l m : Levels) (r : Roomier l m) (target : Target) (vs : List Value) (s : State) (d : Counts) → Wider s.counts d → Widens (applied_to rec l target vs s) (applied_to rec' m target vs (with_counts d s))
   applied_to_widens l m r (Function_ name f) vs s d w = agrees.call name l m r f vs s d w
-  applied_to_widens l m r (Lambda rest) vs s d w = then_widens _ _ _ _ (hold_lambda_widens Expr l m r (pair_at s rest) s d w) (λ f s d w. list_applied_widens l m r f (function_at s f) vs s d w)
+  applied_to_widens l m r (Lambda rest) vs s d w =
+      let o : Option (Value × Value) = pair_at s rest in
+      then_widens _ _ _ _ (reading_widens rest (λ s. hold_lambda Expr l o s) (λ s. hold_lambda Expr m o s) (λ s d w. hold_lambda_widens Expr l m r o s d w) s d w) (λ f s d w. list_applied_widens l m r f (function_at s f) vs s d w)
   applied_to_widens l m r Undefined vs s d w = done_widens nil s d w
   applied_to_widens l m r WrongType vs s d w = done_widens nil s d w
 
@@ -114,7 +117,9 @@ module _ (rec rec' : Rec) (agrees : Agrees rec rec') where
 
   apply_widens : (l m : Levels) (r : Roomier l m) (f list : Value) (s : State) (d : Counts) → Wider s.counts d → Widens (apply rec l f list s) (apply rec' m f list (with_counts d s))
   apply_widens l m r f list s d w = turn_widens s d _ _ w (λ s d w.
-      subst (λ target. Widens (apply_target rec l (target_of f s) f list s) (apply_target rec' m target f list (with_counts d s))) (sym (target_same f s d)) (target_widens l m r (target_of f s) f list s d w))
+      subst (λ target. Widens (apply_target rec l (target_of f s) f list (reading f s)) (apply_target rec' m target f list (reading f (with_counts d s)))) (sym (target_same f s d)) (
+      let target : Target = target_of f s in
+      reading_widens f (λ s. apply_target rec l target f list s) (λ s. apply_target rec' m target f list s) (λ s d w. target_widens l m r target f list s d w) s d w))
 
   native_applied_widens : (native : Native) (l m : Levels) (r : Roomier l m) (vs : List Value) (s : State) (d : Counts) → Wider s.counts d → Widens (native_applied rec native l vs s) (native_applied rec' native m vs (with_counts d s))
   native_applied_widens Eval l m r vs s d w = evaluated_widens l m r (argument vs 0) s d w

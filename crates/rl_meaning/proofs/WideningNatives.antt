@@ -4,13 +4,15 @@ use Rattle.rl_tree.specs.Value.{Value, Int, Id, Str, Ref, Fun}
 use Rattle.rl_tree.specs.declared.held.Kind.{Kind}
 use Rattle.rl_tree.specs.declared.held.VarKind.{VarKind}
 use Rattle.rl_meaning.specs.State.{State, Counts, Definition}
-use Rattle.rl_meaning.specs.Outcome.{Outcome, Done, Levels}
-use Rattle.rl_meaning.specs.Symbols.{pair_at}
+use Rattle.rl_meaning.specs.Outcome.{Outcome, Done, Levels, then_do}
+use Rattle.rl_meaning.specs.Outcome as outcome
+use Rattle.rl_meaning.specs.Compiling.{defined}
+use Rattle.rl_meaning.specs.Symbols.{pair_at, cdr_at}
 use Rattle.rl_meaning.specs.Atoms.{made_places, mkvect, place_at, place_of, with_vector, getv, putv, upbv, gensym, intern, explode, Spelled, InName, InNumber, AtZero, AfterQuote, Compressed, Spells, Stops, atom_of, compressed_atom, compress_bytes, compress}
-use Rattle.rl_meaning.specs.Properties.{nowhere, looked_at, is_property, is_flag, Place, look_for, of_identifier, get, flagp, add_first, put_at, with_identifier, put, taken_out, without, remprop, or_list, at_list_end, for_each, flag_at, flag, remflag, cdr_at}
-use Rattle.rl_meaning.specs.Definitions.{definition_pair, getd, Body, Pointer, Lambda, with_kind, with_body, own_name, hold_lambda, function_of, putd, remd, declare, fluid, global, undeclare, unfluid, set}
+use Rattle.rl_meaning.specs.Properties.{nowhere, looked_at, is_property, is_flag, Place, look_for, of_identifier, get, flagp, add_first, put_at, with_identifier, put, taken_out, without, remprop, or_list, at_list_end, for_each, flag_at, for_flag, flag, remflag}
+use Rattle.rl_meaning.specs.Definitions.{definition_pair, getd, Body, Pointer, Lambda, kind_of, with_kind, body_in, with_body, own_name, define, hold_lambda, function_of, putd, remd, declare, fluid, global, undeclare, unfluid, set}
 use Rattle.rl_meaning.proofs.Widening.{Wider, with_counts, Same, same, Widens, done, Roomier, then_widens}
-use Rattle.rl_meaning.proofs.WideningObjects.{widening}
+use Rattle.rl_meaning.proofs.WideningObjects.{widening, reading_widens}
 use Rattle.rl_meaning.proofs.WideningWalks.{walk_widens}
 use Rattle.rl_meaning.proofs.WideningReach.{definition_same, define_same}
 use Rattle.rl_meaning.proofs.WideningHolding.{hold_function_widens}
@@ -44,7 +46,7 @@ pub getv_widens : (v i : Value) (s : State) (d : Counts) → Wider s.counts d �
 getv_widens v i s d w = search (widening, with_vector_widens, place_of_widens)
 
 pub putv_widens : (v i y : Value) (s : State) (d : Counts) → Wider s.counts d → Widens (putv v i y s) (putv v i y (with_counts d s))
-putv_widens v i y s d w = search (widening, with_vector_widens, place_of_widens)
+putv_widens v i y s d w = search (widening, with_vector_widens, place_of_widens) depth 9
 
 pub upbv_widens : (v : Value) (s : State) (d : Counts) → Wider s.counts d → Widens (upbv v s) (upbv v (with_counts d s))
 upbv_widens v s d w = search widening
@@ -100,8 +102,8 @@ look_for_widens test h list s d w =
 for_property : (p : Value) (list : Value) (s : State) (d : Counts) → Wider s.counts d → Widens (look_for (is_property p) list s) (look_for (is_property p) list (with_counts d s))
 for_property p list s d w = look_for_widens (is_property p) (λ s d x. refl) list s d w
 
-for_flag : (p : Value) (list : Value) (s : State) (d : Counts) → Wider s.counts d → Widens (look_for (is_flag p) list s) (look_for (is_flag p) list (with_counts d s))
-for_flag p list s d w = look_for_widens (is_flag p) (λ s d x. refl) list s d w
+flag_looked : (p : Value) (list : Value) (s : State) (d : Counts) → Wider s.counts d → Widens (look_for (is_flag p) list s) (look_for (is_flag p) list (with_counts d s))
+flag_looked p list s d w = look_for_widens (is_flag p) (λ s d x. refl) list s d w
 
 of_identifier_widens : {A : Type 0} (v : Value) (a : A) (s : State) (d : Counts) (next next' : ℕ → State → Outcome A) → ((i : ℕ) (s : State) (d : Counts) → Wider s.counts d → Widens (next i s) (next' i (with_counts d s))) → Wider s.counts d → Widens (of_identifier v a s next) (of_identifier v a (with_counts d s) next')
 of_identifier_widens (Id i) a s d next next' h w = h i s d w
@@ -119,7 +121,7 @@ pub get_widens : (u p : Value) (s : State) (d : Counts) → Wider s.counts d →
 get_widens u p s d w = search (widening, of_identifier_widens, for_property)
 
 pub flagp_widens : (u p : Value) (s : State) (d : Counts) → Wider s.counts d → Widens (flagp u p s) (flagp u p (with_counts d s))
-flagp_widens u p s d w = search (widening, of_identifier_widens, for_flag)
+flagp_widens u p s d w = search (widening, of_identifier_widens, flag_looked)
 
 add_first_widens : (i : ℕ) (element : Value) (s : State) (d : Counts) → Wider s.counts d → Widens (add_first i element s) (add_first i element (with_counts d s))
 add_first_widens i element s d w = search widening
@@ -156,11 +158,16 @@ flag_at_widens : (i : ℕ) (p : Value) (o : Option Value) (s : State) (d : Count
 flag_at_widens i p (Some pair) s d w = search widening
 flag_at_widens i p None s d w = add_first_widens i p s d w
 
+for_flag_widens : (p : Value) (act : ℕ → State → Outcome (Unit {0})) → ((i : ℕ) (s : State) (d : Counts) → Wider s.counts d → Widens (act i s) (act i (with_counts d s))) → (l : Value) (s : State) (d : Counts) → Wider s.counts d → Widens (for_flag p act l s) (for_flag p act l (with_counts d s))
+for_flag_widens (Id j) act h l s d w = for_each_widens act h l s d w
+for_flag_widens p act h l s d w =
+    then_widens _ _ _ _ (for_each_widens (λ i s. outcome.Done tt s) (λ i s d w. search widening) l s d w) (λ x s d w. search widening)
+
 pub flag_widens : (l p : Value) (s : State) (d : Counts) → Wider s.counts d → Widens (flag l p s) (flag l p (with_counts d s))
-flag_widens l p s d w = search (widening, with_identifier_widens, for_each_widens, for_flag, flag_at_widens) depth 9
+flag_widens l p s d w = search (widening, for_flag_widens, flag_looked, flag_at_widens) depth 9
 
 pub remflag_widens : (l p : Value) (s : State) (d : Counts) → Wider s.counts d → Widens (remflag l p s) (remflag l p (with_counts d s))
-remflag_widens l p s d w = search (widening, with_identifier_widens, for_each_widens, for_flag, without_same) depth 9
+remflag_widens l p s d w = search (widening, for_flag_widens, flag_looked, without_same) depth 9
 
 -- ---- definitions
 
@@ -188,10 +195,20 @@ hold_lambda_widens kind levels levels' r None s d w = search widening
 
 function_of_widens : (kind : Kind) (levels levels' : Levels) (r : Roomier levels levels') (body : Body) (s : State) (d : Counts) → Wider s.counts d → Widens (function_of kind levels body s) (function_of kind levels' body (with_counts d s))
 function_of_widens kind levels levels' r (Pointer f) s d w = search widening
-function_of_widens kind levels levels' r (Lambda rest) s d w = hold_lambda_widens kind levels levels' r (pair_at s rest) s d w
+function_of_widens kind levels levels' r (Lambda rest) s d w =
+    let o : Option (Value × Value) = pair_at s rest in
+    reading_widens rest (λ s. hold_lambda kind levels o s) (λ s. hold_lambda kind levels' o s) (λ s d w. hold_lambda_widens kind levels levels' r o s d w) s d w
 
 pub putd_widens : (levels levels' : Levels) (r : Roomier levels levels') (f t b : Value) (s : State) (d : Counts) → Wider s.counts d → Widens (putd levels f t b s) (putd levels' f t b (with_counts d s))
-putd_widens levels levels' r f t b s d w = search (widening, with_identifier_widens, with_kind_widens, with_body_widens, own_name_widens, function_of_widens, define_same) depth 9
+putd_widens levels levels' r f t b s d w =
+    with_identifier_widens f s d _ _ (λ i s d w.
+    with_kind_widens (kind_of t) t s d _ _ (λ kind s d w.
+    let o : Option Body = body_in s kind b in
+    reading_widens b (λ s. with_body o b s (λ body s. held levels i kind body s)) (λ s. with_body o b s (λ body s. held levels' i kind body s))
+    (λ s d w. with_body_widens o b s d _ _ (λ body s d w. search (widening, own_name_widens, function_of_widens, define_same) depth 9) w) s d w) w) w
+  where
+    held : Levels → ℕ → Kind → Body → State → Outcome Value
+    held l i kind body s = own_name i s (λ s. then_do (function_of kind l body s) (λ g s. outcome.Done f (defined i (define i kind g s))))
 
 pub remd_widens : (f : Value) (s : State) (d : Counts) → Wider s.counts d → Widens (remd f s) (remd f (with_counts d s))
 remd_widens f s d w = search (widening, with_identifier_widens, own_name_widens, definition_pair_widens, definition_same) depth 9

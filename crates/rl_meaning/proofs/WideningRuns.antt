@@ -3,7 +3,7 @@ use Rattle.std.proofs.Common.{◌≡◌, ◌-◌, ◌^◌, ℕ, zero, suc, false
 use Rattle.std.specs.Prelude.{codes, decimal, min}
 use Rattle.rl_tree.specs.Value.{Value}
 use Rattle.rl_tree.specs.Name.{Name}
-use Rattle.rl_meaning.specs.State.{State, Counts, Function, SpecialForm, NativeFunction, HeldFunction}
+use Rattle.rl_meaning.specs.State.{State, Counts, Files, Function, SpecialForm, NativeFunction, HeldFunction}
 use Rattle.rl_meaning.specs.Outcome.{Outcome, Stop, Levels, Missing}
 use Rattle.rl_meaning.specs.Errors.{error_text, unreadable}
 use Rattle.rl_meaning.specs.Definitions.{function_at}
@@ -11,7 +11,7 @@ use Rattle.rl_meaning.specs.Printing.{print_error}
 use Rattle.rl_meaning.specs.Input.{Reading, Form, End, Unreadable}
 use Rattle.rl_meaning.specs.Evaluation.{longest_chain}
 use Rattle.rl_meaning.specs.Opening.{opened_state}
-use Rattle.rl_meaning.specs.Run.{Limits, Finished, Stops, Ran, held_evaluated, statement, after_statement, print_atom, print_unreadable, behind_line, goes_on, read_and_run, run_within, started, meaning}
+use Rattle.rl_meaning.specs.Run.{Limits, Finished, Stops, Ran, held_evaluated, statement, after_statement, print_atom, print_unreadable, behind_line, goes_on, read_and_run, run_within, started, source_of, run_file, meaning}
 use Rattle.rl_meaning.specs.Laws.{IsWider, SameButCounts}
 use Rattle.rl_meaning.proofs.Widening.{Wider, with_counts, Same, same, Widens, done, failed, went, returned, stopped, Roomier, from_same, then_widens}
 use Rattle.rl_meaning.proofs.WideningObjects.{widening}
@@ -75,10 +75,13 @@ run_onward (suc n) l m r size bytes s d w =
     goes_onward _ _ _ _ (read_bytes_widens false l m r bytes s d w) (λ reading s d w.
     reading_onward l m r size (λ rest s. run_within n l size rest s) (λ rest s. run_within n m size rest s) (λ rest s d w. run_onward n l m r size rest s d w) reading s d w)
 
-meaning_onward : (narrow wide : Limits) (name : Name) (source : Option (List ℕ)) (input : List ℕ) → IsWider narrow wide → Onward (meaning narrow name source input) (meaning wide name source input)
-meaning_onward narrow wide name None input w = stops (Missing name) _ _
-meaning_onward narrow wide name (Some source) input w =
-    run_onward (suc (length source)) narrow.levels wide.levels (record { is = w.levels }) (length source) source (started narrow input opened_state) (record { turns = wide.turns; cells = wide.cells; expansion = None })
+file_onward : (l m : Levels) (r : Roomier l m) (name : Name) (file : Option (List ℕ)) (s : State) (d : Counts) → Wider s.counts d → Onward (run_file l name file s) (run_file m name file (with_counts d s))
+file_onward l m r name None s d w = stops (Missing name) _ _
+file_onward l m r name (Some file) s d w = let source : List ℕ = source_of file in run_onward (suc (length source)) l m r (length source) source s d w
+
+meaning_onward : (narrow wide : Limits) (name : Name) (files : Files) (input : List ℕ) → IsWider narrow wide → Onward (meaning narrow name files input) (meaning wide name files input)
+meaning_onward narrow wide name files input w =
+    file_onward narrow.levels wide.levels (record { is = w.levels }) name (files name) (started narrow files input opened_state) (record { turns = wide.turns; cells = wide.cells; expansion = None })
     (record { turns = w.turns; cells = w.cells; inner = tt })
 
 onward_ending : (x y : Ran) → Onward x y → x.ending ≡ Finished → y.ending ≡ Finished
@@ -92,8 +95,8 @@ onward_state : (x y : Ran) → Onward x y → x.ending ≡ Finished → SameButC
 onward_state x y (finished s t e) h = same_state s t e
 onward_state x y (stops why s z) h = absurd (cc)
 
-pub wider_ending : (narrow wide : Limits) (name : Name) (source : Option (List ℕ)) (input : List ℕ) → IsWider narrow wide → (meaning narrow name source input).ending ≡ Finished → (meaning wide name source input).ending ≡ Finished
-wider_ending narrow wide name source input w h = onward_ending _ _ (meaning_onward narrow wide name source input w) h
+pub wider_ending : (narrow wide : Limits) (name : Name) (files : Files) (input : List ℕ) → IsWider narrow wide → (meaning narrow name files input).ending ≡ Finished → (meaning wide name files input).ending ≡ Finished
+wider_ending narrow wide name files input w h = onward_ending _ _ (meaning_onward narrow wide name files input w) h
 
-pub wider_state : (narrow wide : Limits) (name : Name) (source : Option (List ℕ)) (input : List ℕ) → IsWider narrow wide → (meaning narrow name source input).ending ≡ Finished → SameButCounts (meaning narrow name source input).state (meaning wide name source input).state
-wider_state narrow wide name source input w h = onward_state _ _ (meaning_onward narrow wide name source input w) h
+pub wider_state : (narrow wide : Limits) (name : Name) (files : Files) (input : List ℕ) → IsWider narrow wide → (meaning narrow name files input).ending ≡ Finished → SameButCounts (meaning narrow name files input).state (meaning wide name files input).state
+wider_state narrow wide name files input w h = onward_state _ _ (meaning_onward narrow wide name files input w) h

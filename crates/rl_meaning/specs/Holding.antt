@@ -1,14 +1,15 @@
 -- Holding: a form is read whole before it is evaluated, and later changes of its list change nothing (this project's). Each pair of the parameter list, and then of the form outside quoted parts, takes a turn as it is reached; the cells of the held function are taken at the end.
-use Rattle.std.specs.Prelude.{ℕ, zero, suc, ◌+◌, ◌*◌, Bool, true, false, ◌&&◌, ◌||◌, ◌==◌, not, is_some, unwrap_or, if◌then◌else◌, List, [], ◌∷◌, ◌++◌, length, map, Option, Some, None}
+use Rattle.std.specs.Prelude.{ℕ, zero, suc, ◌+◌, ◌*◌, Bool, true, false, ◌&&◌, ◌==◌, not, is_some, unwrap_or, if◌then◌else◌, List, [], ◌∷◌, ◌++◌, length, map, Option, Some, None}
 use Rattle.rl_tree.specs.Value.{Value, Int, Id}
 use Rattle.rl_tree.specs.declared.held.Kind.{Kind}
 use Rattle.rl_tree.specs.declared.held.Kind.TheVariants.{Expr, Fexpr, Macro}
 use Rattle.rl_tree.specs.declared.held.VarKind.{VarKind}
 use Rattle.rl_tree.specs.declared.held.VarKind.TheVariants.{Plain}
 use Rattle.rl_meaning.specs.State.{State, Tree, Atom, Quoted, Pair, Literal, Kept, Function, HeldFunction}
-use Rattle.rl_meaning.specs.Outcome.{Outcome, Done, Stopped, Turns, then_do, choose, turn, turns_left, Levels, descends, room}
-use Rattle.rl_meaning.specs.Symbols.{nil, nil_id, quote_id, progn_id, lambda_id, is_nil, pair_at, symbol_at}
+use Rattle.rl_meaning.specs.Outcome.{Outcome, Done, Stopped, Turns, then_do, choose, turn, turns_left, Levels, pair_turn, room}
+use Rattle.rl_meaning.specs.Symbols.{nil, nil_id, quote_id, progn_id, lambda_id, is_nil, pair_at, cdr_at, symbol_at}
 use Rattle.rl_meaning.specs.Errors.{fail, badly_formed}
+use Rattle.rl_meaning.specs.Constants.{is_among, object_named, objects_read, reading}
 use Rattle.rl_meaning.specs.Walks.{Goes, Walked, walk}
 
 -- ---- trees
@@ -22,10 +23,6 @@ abbrev pub leaf : Value → Tree
 leaf (Id i) = Atom (Id i)
 leaf (Int z) = Atom (Int z)
 leaf v = Quoted v
-
-abbrev pub is_pair : Option (Value × Value) → Bool
-is_pair (Some parts) = true
-is_pair None = false
 
 -- the x of a list (QUOTE x)
 abbrev pub quoted_in : Value → Option (Value × Value) → Option Value
@@ -44,32 +41,35 @@ quote_tree x = Pair (Atom (Id quote_id)) (Pair (Quoted x) (Atom nil))
 
 -- ---- reading a form
 
+-- the tree of a value; and whether a descent into a CAR came to it
 abbrev pub Reader : Type 0
-Reader = Levels → Value → State → Outcome Tree
+Reader = Bool → Levels → Value → State → Outcome Tree
 
 -- an element of a list, or the whole form: here (QUOTE x) is a quoted part
 abbrev pub read_quoted : Option Value → Reader → Reader
-read_quoted (Some x) list levels v s = turn s (λ s. turn s (λ s. Done (quote_tree x) s))
-read_quoted None list levels v s = list levels v s
+read_quoted (Some x) list descent levels v s = pair_turn descent levels s (λ levels s. turn (reading v s) (λ s. Done (quote_tree x) (reading (cdr_at s v) s)))
+read_quoted None list descent levels v s = list descent levels v s
 
 abbrev pub read_parts : Reader → Reader → Option (Value × Value) → Reader
-read_parts element list None levels v s = Done (leaf v) s
-read_parts element list (Some parts) levels v s =
-    turn s (λ s.
-    then_do (descends (is_pair (pair_at s parts.0)) levels s (λ levels. element levels parts.0 s)) (λ a s.
-    then_do (list levels parts.1 s) (λ d s. Done (Pair a d) s)))
+read_parts element list None descent levels v s = Done (leaf v) s
+read_parts element list (Some parts) descent levels v s =
+    pair_turn descent levels s (λ levels s.
+    then_do (element true levels parts.0 (reading v s)) (λ a s.
+    then_do (list false levels parts.1 s) (λ d s. Done (Pair a d) s)))
 
 -- with at most so many pairs
 abbrev pub list_within : ℕ → Reader
-list_within zero levels v s = Stopped Turns s
-list_within (suc n) levels v s =
-    read_parts (λ levels v s. read_quoted (quoted_part s v) (λ levels v s. list_within n levels v s) levels v s) (λ levels v s. list_within n levels v s) (pair_at s v) levels v s
+list_within zero descent levels v s = Stopped Turns s
+list_within (suc n) descent levels v s =
+    read_parts (λ descent levels v s. read_quoted (quoted_part s v) (λ descent levels v s. list_within n descent levels v s) descent levels v s)
+    (λ descent levels v s. list_within n descent levels v s) (pair_at s v) descent levels v s
 
 abbrev pub read_list : Reader
-read_list levels v s = list_within (suc (suc (turns_left s))) levels v s
+read_list descent levels v s = list_within (suc (suc (turns_left s))) descent levels v s
 
-abbrev pub read_form : Reader
-read_form levels v s = read_quoted (quoted_part s v) read_list levels v s
+-- a whole form
+abbrev pub read_form : Levels → Value → State → Outcome Tree
+read_form levels v s = read_quoted (quoted_part s v) read_list false levels v s
 
 -- ---- lists of identifiers
 
@@ -87,10 +87,6 @@ abbrev pub tree_identifiers : Tree → Option (List ℕ)
 tree_identifiers (Pair (Atom (Id x)) rest) = in_front x (tree_identifiers rest)
 tree_identifiers (Atom (Id x)) = if x == nil_id then Some [] else None
 tree_identifiers _ = None
-
-abbrev pub is_among : ℕ → List ℕ → Bool
-is_among x [] = false
-is_among x (y ∷ ys) = x == y || is_among x ys
 
 abbrev pub are_distinct : List ℕ → Bool
 are_distinct [] = true
@@ -236,7 +232,7 @@ hold_expansion levels kept form s = then_do (read_form levels form s) (λ body s
 -- the forms of a body
 abbrev pub read_forms : Levels → Value → Option (Value × Value) → State → Outcome Tree
 read_forms levels forms (Some parts) s =
-    choose (is_nil parts.1) s (λ s. read_form levels parts.0 s) (λ s. turn s (λ s. then_do (read_list levels forms s) (λ t s. Done (Pair (Atom (Id progn_id)) t) s)))
+    choose (is_nil parts.1) s (λ s. read_form levels parts.0 s) (λ s. turn s (λ s. then_do (read_list false levels forms s) (λ t s. Done (Pair (Atom (Id progn_id)) t) s)))
 read_forms levels forms None s = Done (Atom nil) s
 
 -- a list that ends in another atom than NIL; one that goes round is none
@@ -246,6 +242,14 @@ is_improper_within (suc n) s v = elim (pair_at s v) [ None ↦ not (is_nil v) | 
 
 abbrev pub is_improper : State → Value → Bool
 is_improper s v = is_improper_within (suc (length s.store)) s v
+
+-- the pairs of a list
+abbrev pub spine_within : ℕ → State → Value → List ℕ
+spine_within zero s v = []
+spine_within (suc n) s v = elim (pair_at s v) [ None ↦ [] | Some parts ↦ object_named v ++ spine_within n s parts.1 ]
+
+abbrev pub spine : State → Value → List ℕ
+spine s v = spine_within (suc (length s.store)) s v
 
 abbrev pub with_parameters : {A : Type 0} → Option (List ℕ) → State → (List ℕ → State → Outcome A) → Outcome A
 with_parameters (Some xs) s next = next xs s
@@ -261,7 +265,7 @@ elements_of list s = walk (λ vs pair v s. Done (Goes (vs ++ v ∷ [])) s) [] li
 -- a function of these parameters and body forms
 abbrev pub hold_function : Kind → Levels → Value → Value → State → Outcome ℕ
 hold_function kind levels parameters forms s =
-    choose (is_improper s forms) s (λ s. fail badly_formed (Id lambda_id) s) (λ s.
+    choose (is_improper s forms) (objects_read (spine s forms) s) (λ s. fail badly_formed (Id lambda_id) s) (λ s.
     then_do (elements_of parameters s) (λ walked s.
     with_parameters (parameter_list kind walked) s (λ xs s.
     then_do (read_forms levels forms (pair_at s forms) s) (λ body s.

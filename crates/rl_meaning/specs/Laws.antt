@@ -1,7 +1,7 @@
 -- Laws of runs: fuel changes nothing, turns never rise, and bounds that are not met change nothing.
 use Rattle.std.specs.Prelude.{◌≡◌, ◌≤◌, ◌<◌, ℕ, List, Option, Some, None}
 use Rattle.rl_tree.specs.Name.{Name}
-use Rattle.rl_meaning.specs.State.{State}
+use Rattle.rl_meaning.specs.State.{State, Files}
 use Rattle.rl_meaning.specs.Evaluation.{Job, rank, job_at, job_done, job}
 use Rattle.rl_meaning.specs.Opening.{state_of}
 use Rattle.rl_meaning.specs.Run.{Limits, Finished, meaning}
@@ -14,7 +14,7 @@ pub record IsFuelEnough : Type 0 where
 -- no job, and no run, leaves more turns than it was given
 pub record TurnsFall : Type 0 where
   pub job_ : (j : Job) (s : State) → (state_of (job j s)).counts.turns ≤ s.counts.turns
-  pub run : (limits : Limits) (name : Name) (source : Option (List ℕ)) (input : List ℕ) → (meaning limits name source input).state.counts.turns ≤ limits.turns
+  pub run : (limits : Limits) (name : Name) (files : Files) (input : List ℕ) → (meaning limits name files input).state.counts.turns ≤ limits.turns
 
 -- a bound that is as wide, or none
 abbrev pub IsWiderBound : Option ℕ → Option ℕ → Type 0
@@ -33,7 +33,7 @@ SameButCounts s t = t ≡ record s { counts = t.counts }
 
 -- a run that comes to its end does so under wider bounds, in the same state
 pub record BoundsMeetNothing : Type 0 where
-  pub ending : (narrow wide : Limits) (name : Name) (source : Option (List ℕ)) (input : List ℕ) → IsWider narrow wide
-      → (meaning narrow name source input).ending ≡ Finished → (meaning wide name source input).ending ≡ Finished
-  pub state : (narrow wide : Limits) (name : Name) (source : Option (List ℕ)) (input : List ℕ) → IsWider narrow wide
-      → (meaning narrow name source input).ending ≡ Finished → SameButCounts (meaning narrow name source input).state (meaning wide name source input).state
+  pub ending : (narrow wide : Limits) (name : Name) (files : Files) (input : List ℕ) → IsWider narrow wide
+      → (meaning narrow name files input).ending ≡ Finished → (meaning wide name files input).ending ≡ Finished
+  pub state : (narrow wide : Limits) (name : Name) (files : Files) (input : List ℕ) → IsWider narrow wide
+      → (meaning narrow name files input).ending ≡ Finished → SameButCounts (meaning narrow name files input).state (meaning wide name files input).state

@@ -4,6 +4,7 @@ pub mod Outcome
 pub mod Symbols
 pub mod Errors
 pub mod Events
+pub mod Constants
 pub mod Walks
 pub mod Holding
 pub mod Copying

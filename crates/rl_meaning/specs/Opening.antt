@@ -10,10 +10,9 @@ use Rattle.rl_tree.specs.declared.held.VarKind.TheVariants.{Plain, Global}
 use Rattle.rl_meaning.specs.Names.{Special, special_named, native_named}
 use Rattle.rl_meaning.specs.State.{State, Symbol, Definition, Function, SpecialForm, NativeFunction}
 use Rattle.rl_meaning.specs.Outcome.{Outcome, Done, Failed, Went, Returned, Stopped, then_do}
-use Rattle.rl_meaning.specs.Symbols.{nil, message_id, is_constant, symbol_at, with_symbol, new_symbol}
+use Rattle.rl_meaning.specs.Symbols.{nil, message_id, is_constant, symbol_at, with_symbol, new_symbol, car_at, cdr_at}
 use Rattle.rl_meaning.specs.Holding.{hold_function}
 use Rattle.rl_meaning.specs.Definitions.{define}
-use Rattle.rl_meaning.specs.Properties.{car_at, cdr_at}
 use Rattle.rl_meaning.specs.Input.{Reading, Form, read_bytes}
 
 -- ---- the system's functions
@@ -72,9 +71,9 @@ bare_state = record {
   functions = filter_map system_function opening_names;
   bindings = [];
   counts = record { turns = opening_turns; cells = None; expansion = None };
-  outside = record { input = []; taken = 0; output = []; column = 0; line_length = 80; notes = [] };
+  outside = record { files = λ name. None; input = []; taken = 0; output = []; column = 0; line_length = 80; notes = [] };
   gensyms = 0;
-  event = None;
+  watched = record { changes = []; event = None };
 }
 
 -- ---- the prelude

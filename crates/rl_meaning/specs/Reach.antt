@@ -1,7 +1,6 @@
 -- Which identifiers the body of a function reaches, and when a change of a definition turns under a running function (this project's).
-use Rattle.std.specs.Prelude.{ℕ, zero, suc, ◌+◌, ◌*◌, ◌==◌, Bool, true, false, ◌&&◌, ◌||◌, not, if◌then◌else◌, List, [], ◌∷◌, ◌++◌, length, map, sum_by, slice_get, Option, Some, None}
-use Rattle.rl_tree.specs.Value.{Value, Int, Id, Str, Ref, Fun, Object, Store}
-use Rattle.rl_tree.specs.Value as object
+use Rattle.std.specs.Prelude.{ℕ, zero, suc, ◌+◌, ◌*◌, ◌==◌, Bool, true, false, ◌&&◌, ◌||◌, not, if◌then◌else◌, List, [], ◌∷◌, ◌++◌, length, map, filter_map, flat_map, sum_by, slice_get, Option, Some, None}
+use Rattle.rl_tree.specs.Value.{Value, Id, Store}
 use Rattle.rl_tree.specs.declared.held.Kind.{Kind}
 use Rattle.rl_tree.specs.declared.held.Kind.TheVariants.{Expr, Fexpr, Macro}
 use Rattle.rl_tree.specs.declared.held.VarKind.{VarKind}
@@ -9,29 +8,18 @@ use Rattle.rl_tree.specs.declared.held.VarKind.TheVariants.{Plain, Fluid, Global
 use Rattle.rl_meaning.specs.State.{State, Tree, Atom, Quoted, Pair, Literal, Kept, Held, Definition, Function, HeldFunction, Entry, Binding, Mark, Turned}
 use Rattle.rl_meaning.specs.Symbols.{t_id, same, symbol_at}
 use Rattle.rl_meaning.specs.Events.{with_event}
-use Rattle.rl_meaning.specs.Holding.{function_id, is_among}
+use Rattle.rl_meaning.specs.Constants.{values_in, objects_of}
+use Rattle.rl_meaning.specs.Holding.{function_id}
 
 -- ---- identifiers in values and trees
 
-abbrev pub values_in : Option Object → List Value
-values_in (Some (object.Pair a d)) = a ∷ d ∷ []
-values_in (Some (object.Vector elements)) = elements
-values_in None = []
+abbrev pub identifier_in : Value → Option ℕ
+identifier_in (Id i) = Some i
+identifier_in v = None
 
--- more than the values that a store holds
-abbrev pub size_of : Store → ℕ
-size_of store = sum_by (λ o. suc (length (values_in (Some o)))) store
-
--- the identifiers in these values, down their objects, of which some were seen
-abbrev pub identifiers_within : ℕ → Store → List ℕ → List Value → List ℕ
-identifiers_within (suc n) store seen (Id i ∷ vs) = i ∷ identifiers_within n store seen vs
-identifiers_within (suc n) store seen (Ref r ∷ vs) =
-    if is_among r seen then identifiers_within n store seen vs else identifiers_within n store (r ∷ seen) (values_in (slice_get store r) ++ vs)
-identifiers_within (suc n) store seen (v ∷ vs) = identifiers_within n store seen vs
-identifiers_within n store seen vs = []
-
+-- the identifiers in a value, down its objects
 abbrev pub value_identifiers : Store → Value → List ℕ
-value_identifiers store v = identifiers_within (suc (suc (size_of store))) store [] (v ∷ [])
+value_identifiers store v = filter_map identifier_in (v ∷ flat_map (λ r. values_in (slice_get store r)) (objects_of store (v ∷ [])))
 
 -- those in a tree, its quoted parts included
 abbrev pub tree_mentions : Store → Tree → List ℕ

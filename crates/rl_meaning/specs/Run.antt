@@ -1,9 +1,9 @@
 -- The meaning of a run of `sl`: the forms of the source are read and evaluated in turn (this project's skipping behind an unreadable text).
-use Rattle.std.specs.Prelude.{ℕ, zero, suc, ◌-◌, ◌==◌, min, ◌^◌, decimal, codes, false, if◌then◌else◌, List, [], ◌∷◌, length, Option, Some, None}
+use Rattle.std.specs.Prelude.{ℕ, zero, suc, ◌-◌, ◌==◌, min, ◌^◌, decimal, codes, false, if◌then◌else◌, List, [], ◌∷◌, length, take, Option, Some, None}
 use Rattle.rl_tree.specs.Value.{Value}
 use Rattle.rl_tree.specs.Name.{Name}
 use Rattle.rl_tree.specs.Printing.{with_atom}
-use Rattle.rl_meaning.specs.State.{State, Function, HeldFunction}
+use Rattle.rl_meaning.specs.State.{State, Function, HeldFunction, Files}
 use Rattle.rl_meaning.specs.Outcome.{Outcome, Done, Failed, Went, Returned, Stopped, Stop, Missing, then_do, Levels}
 use Rattle.rl_meaning.specs.Symbols.{nil}
 use Rattle.rl_meaning.specs.Errors.{error_text, unreadable}
@@ -85,14 +85,22 @@ run_within (suc n) levels size bytes s =
 abbrev pub run_bytes : Levels → List ℕ → State → Ran
 run_bytes levels bytes s = run_within (suc (length bytes)) levels (length bytes) bytes s
 
--- the state in which a run with these bounds and this input begins
-abbrev pub started : Limits → List ℕ → State → State
-started limits input s = record s {
+-- the state in which a run with these bounds, over these files and this input, begins
+abbrev pub started : Limits → Files → List ℕ → State → State
+started limits files input s = record s {
   counts = record { turns = limits.turns; cells = limits.cells; expansion = None };
-  outside = record s.outside { input = input };
+  outside = record s.outside { files = files; input = input };
 }
 
--- a run over the bytes of its source, or over none
-abbrev pub meaning : Limits → Name → Option (List ℕ) → List ℕ → Ran
-meaning limits name (Some source) input = run_bytes limits.levels source (started limits input opened_state)
-meaning limits name None input = record { ending = Stops (Missing name); state = started limits input opened_state }
+-- the bytes of a file that are its source: no more are read
+abbrev pub source_of : List ℕ → List ℕ
+source_of file = take (2 ^ 32) file
+
+-- a run over a file, or over none
+abbrev pub run_file : Levels → Name → Option (List ℕ) → State → Ran
+run_file levels name (Some file) s = run_bytes levels (source_of file) s
+run_file levels name None s = record { ending = Stops (Missing name); state = s }
+
+-- what a run over the file of this name comes to
+abbrev pub meaning : Limits → Name → Files → List ℕ → Ran
+meaning limits name files input = run_file limits.levels name (files name) (started limits files input opened_state)

@@ -77,8 +77,13 @@ pub record Counts : Type 0 where
 
 -- ---- the outside
 
--- what is left of the input, and how many of its bytes were taken; what was printed, how far its line has come, and how long a line may be; and the notes
+-- the files by name, with their bytes
+abbrev pub Files : Type 0
+Files = Name → Option (List ℕ)
+
+-- the files; what is left of the input, and how many of its bytes were taken; what was printed, how far its line has come, and how long a line may be; and the notes
 pub record Outside : Type 0 where
+  pub files : Files
   pub input : List ℕ
   pub taken : ℕ
   pub output : List ℕ
@@ -86,7 +91,9 @@ pub record Outside : Type 0 where
   pub line_length : ℕ
   pub notes : List ℕ
 
--- what compiled code may see otherwise: a use of a variable that strays, or a definition that turns under a running function; each by its name
+-- ---- what is watched: nothing of it shows in what a program computes, and no equality of states speaks of it
+
+-- what compiled code may see otherwise, each by its name: a use of a variable that strays; or what turns, a definition that changes under a running function, or a macro whose expansion meets a changed constant
 pub data Event : Type 0 where
   Stray : ℕ → Event
   Turned : ℕ → Event
@@ -97,9 +104,19 @@ pub record Recorded : Type 0 where
   pub printed : ℕ
   pub noted : ℕ
 
+-- a pair or a vector, by its number, that was changed when so many functions were there
+pub record Change : Type 0 where
+  pub object : ℕ
+  pub functions : ℕ
+
+-- the changes of pairs and vectors by RPLACA, RPLACD, NCONC and PUTV, the newest first; and the first event, behind which the run goes on
+pub record Watched : Type 0 where
+  pub changes : List Change
+  pub event : Option Recorded
+
 -- ---- the state
 
--- bindings stand the newest first; of events the first is kept, and the run goes on
+-- bindings stand the newest first
 pub record State : Type 0 where
   pub store : Store
   pub symbols : List Symbol
@@ -108,4 +125,4 @@ pub record State : Type 0 where
   pub counts : Counts
   pub outside : Outside
   pub gensyms : ℕ
-  pub event : Option Recorded
+  pub watched : Watched
