@@ -1,4 +1,5 @@
 //! Texts, byte by byte.
+ghost use Rattle.std.specs.Borrow.{GName, MutBor};
 ghost use Rattle.std.specs.Prelude.{◌≡◌, ◌≢◌, ◌<◌, ◌≤◌, ◌-◌, ◌+◌, ◌∷◌, ◌++◌, ◌⊎◌, ℕ, Bool, true, false, List, [], Option, Some, None, Err, length, drop, slice_get, option_map, IfOk, IfErr, OnErr, IsSome, IsErr};
 ghost use Rattle.rl_io.specs.Faults.{Rose};
 ghost use Rattle.rl_io.specs.Told.{WhereTold};
@@ -35,6 +36,12 @@ pub trait Bytes {
     /// The count of failed writes.
     ghost writes: { Self → ℕ };
 
+    /// The type of what reading leaves as it is.
+    ghost Kept: { Type 0 };
+
+    /// What reading leaves as it is.
+    ghost kept: { Self → Self.Kept };
+
     /// This byte may be put back.
     ghost may_put: { Self → Input → ℕ → Type 0 };
 
@@ -51,6 +58,7 @@ pub trait Bytes {
         ensures steady_reads { result ≢ Err stop.Read → reads self.new ≡ reads self.old }
         ensures steady_writes { result ≢ Err stop.Write → writes self.new ≡ writes self.old }
         ensures same { takes_turns self.new ≡ takes_turns self.old }
+        ensures kept { kept self.new ≡ kept self.old }
         ensures world { w.new ≡ record w.old { counts = w.new.counts; output = record w.old.output { waiting = w.new.output.waiting }; input = w.new.input } }
         ensures leaves { takes_turns self.old ≡ false → w.new ≡ w.old };
 
@@ -62,6 +70,7 @@ pub trait Bytes {
         ensures steady_reads { reads self.new ≡ reads self.old }
         ensures steady_writes { writes self.new ≡ writes self.old }
         ensures same { takes_turns self.new ≡ takes_turns self.old }
+        ensures kept { kept self.new ≡ kept self.old }
         ensures world { w.new ≡ record w.old { input = w.new.input } }
         ensures leaves { takes_turns self.old ≡ false → w.new ≡ w.old };
 }
@@ -106,6 +115,10 @@ impl Bytes for SliceBytes<'_> {
 
     ghost writes = { λ _. 0 };
 
+    ghost Kept = { List ℕ };
+
+    ghost kept = { λ s. s.bytes };
+
     ghost may_put = { λ s _ b. (1 ≤ s.at) × (slice_get s.bytes (s.at - 1) ≡ Some b) };
 
     fn next(&mut self, _w: &mut World) -> Result<Option<u8>, Stop> {
@@ -122,36 +135,28 @@ impl Bytes for SliceBytes<'_> {
     }
 }
 
-/// The bytes of the input. Each that is given takes a turn.
-#[derive(Drop)]
-pub struct InputBytes<'a, 'b, I: Source, O: Sink, N: Sink, F: Files> {
-    io: &'a mut Io<'b, I, O, N, F>,
-}
-
-impl<'a, 'b, I: Source, O: Sink, N: Sink, F: Files> InputBytes<'a, 'b, I, O, N, F> {
-    /// The bytes that are left of the input.
-    pub fn new(io: &'a mut Io<'b, I, O, N, F>) -> InputBytes<'a, 'b, I, O, N, F> {
-        InputBytes { io }
-    }
-}
-
-impl<I: Source, O: Sink, N: Sink, F: Files> Bytes for InputBytes<'_, '_, I, O, N, F> {
+/// The bytes of the input. Each that is given takes a turn. The notes, the files, and the references to all four objects stay.
+impl<I: Source, O: Sink, N: Sink, F: Files> Bytes for Io<'_, I, O, N, F> {
     ghost takes_turns = { λ _. true };
 
-    ghost left = { λ t input. option_map (with_back input.back) (I.left t.io.now.input.now) };
+    ghost left = { λ io input. option_map (with_back input.back) (I.left io.input.now) };
 
     ghost number = { λ _ _. 0 };
 
-    ghost printed = { λ t waiting. option_map (λ bytes. bytes ++ waiting) (O.contents t.io.now.out.now) };
+    ghost printed = { λ io waiting. option_map (λ bytes. bytes ++ waiting) (O.contents io.out.now) };
 
-    ghost reads = { λ t. I.faults t.io.now.input.now };
+    ghost reads = { λ io. I.faults io.input.now };
 
-    ghost writes = { λ t. O.faults t.io.now.out.now };
+    ghost writes = { λ io. O.faults io.out.now };
+
+    ghost Kept = { GName × GName × MutBor N × MutBor F };
+
+    ghost kept = { λ io. (io.input.ghost_name, io.out.ghost_name, io.notes, io.files) };
 
     ghost may_put = { λ _ input b. (input.back ≡ None) × (1 ≤ input.given) };
 
     fn next(&mut self, w: &mut World) -> Result<Option<u8>, Stop> {
-        let b = match w.input_byte(self.io) {
+        let b = match w.input_byte(self) {
             Ok(b) => b,
             Err(s) => return Err(s),
         };

@@ -9,7 +9,7 @@ mod read;
 mod step;
 mod word;
 
-pub use bytes::{Bytes, InputBytes, SliceBytes};
+pub use bytes::{Bytes, SliceBytes};
 pub use read::{ReadFault, read_form};
 
 #[cfg(test)]

@@ -56,6 +56,7 @@ pub fn read_form<T: Bytes>(w: &mut World, text: &mut T) -> Result<Val, ReadFault
     ensures write_failed { result ≡ Err (fault.Stop stop.Write) → Rose (T.writes text.old) (T.writes text.new) }
     ensures steady_reads { result ≢ Err (fault.Stop stop.Read) → T.reads text.new ≡ T.reads text.old }
     ensures steady_writes { result ≢ Err (fault.Stop stop.Write) → T.writes text.new ≡ T.writes text.old }
+    ensures kept { T.kept text.new ≡ T.kept text.old }
     ensures live { IfOk result (λ v. IsTrue (is_live w.new.cells.cells v)) }
     ensures table { IsTable w.new.cells.cells w.new.syms.head }
     ensures levels { NotStopped result → w.new.levels ≡ w.old.levels }

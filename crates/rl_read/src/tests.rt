@@ -4,7 +4,7 @@ ghost use Rattle.std.specs.Option.{ForSome};
 ghost use Rattle.rl_cells.specs.Cell.{bytes_of, is_live, is_pair, is_str, is_vector};
 ghost use Rattle.rl_syms.specs.Table.{IsTable};
 
-use crate::{Bytes, InputBytes, ReadFault, SliceBytes, read_form};
+use crate::{Bytes, ReadFault, SliceBytes, read_form};
 use rl_io::{Io, MemFiles, MemSink, MemSource};
 use rl_tags::{Tag, Val};
 use rl_world::{Limits, Stop, World};
@@ -492,15 +492,16 @@ impl Run {
         requires { IsTable self.old.world.cells.cells self.old.world.syms.head }
         ensures table { IsTable self.new.world.cells.cells self.new.world.syms.head }
         ensures live { IfOk result (λ v. IsTrue (is_live self.new.world.cells.cells v)) }
+        ensures notes { self.new.notes ≡ self.old.notes }
+        ensures files { self.new.files ≡ self.old.files }
     {
-        let io = &mut Io {
+        let mut io = Io {
             input: &mut self.input,
             out: &mut self.out,
             notes: &mut self.notes,
             files: &mut self.files,
         };
-        let mut text = InputBytes::new(io);
-        read_form(&mut self.world, &mut text)
+        read_form(&mut self.world, &mut io)
     }
 }
 

@@ -42,6 +42,7 @@ loop-b-init g c = record {
   printed = told_first (g.T.Bytes.printed c.args.text.now c.args.w.now.output.waiting) (λ before now. now ≡ before) (λ x. refl);
   reads = refl;
   writes = refl;
+  kept = refl;
   keeps = keeps_refl c.args.w.now;
   steady = steady_refl c.walk_len-base.result c.args.w.now.levels;
 }
@@ -138,6 +139,12 @@ returns-in-Done-clause-steady_writes g c = elim c.if-not-used.branch [
   | else-not-used w ↦ λ not. ap (λ (t : g.row.T.Denot). g.T.Bytes.writes t) w.text-is ∙ (c.in-Ok-Some.ensures.steady_writes (λ e. cc) ∙ c.loop-b.invariant.writes)
 ]
 
+pub returns-in-Done-clause-kept : goal.returns-in-Done-clause-kept
+returns-in-Done-clause-kept g c = elim c.if-not-used.branch [
+  | then-not-used w ↦ ap (λ (t : g.row.T.Denot). g.T.Bytes.kept t) w.text-is ∙ (w.back.ensures.kept ∙ (c.next.ensures.kept ∙ c.loop-b.invariant.kept))
+  | else-not-used w ↦ ap (λ (t : g.row.T.Denot). g.T.Bytes.kept t) w.text-is ∙ (c.next.ensures.kept ∙ c.loop-b.invariant.kept)
+]
+
 pub returns-in-Done-clause-live : goal.returns-in-Done-clause-live
 returns-in-Done-clause-live g c = let whole = (subst (λ x. IsStep c.walk_len-base.result c.read_byte.new.w c.read_byte.new.word.items x) c.in-Done.is c.in-Ok.ensures.step) in subst (λ (x : World). IsTrue (is_live x.cells.cells c.in-Done.v)) (sym (done_world g c)) whole.live
 
@@ -178,6 +185,7 @@ loop-b-preserved g c = let is = subst (λ x. IsStep c.walk_len-base.result c.rea
   printed = told_waits (λ waiting. g.T.Bytes.printed c.next.new.self waiting) (g.T.Bytes.printed c.args.text.now c.args.w.now.output.waiting) (g.T.Bytes.printed c.loop-b.text c.loop-b.w.output.waiting) c.next.new.w.output.waiting c.read_byte.new.w.output.waiting (read_waiting c.walk_len-base.result c.next.new.w c.read_byte.new.w c.read_byte.ensures.reading) c.loop-b.invariant.printed (c.in-Ok-Some.ensures.printed (λ e. cc));
   reads = c.in-Ok-Some.ensures.steady_reads (λ e. cc) ∙ c.loop-b.invariant.reads;
   writes = c.in-Ok-Some.ensures.steady_writes (λ e. cc) ∙ c.loop-b.invariant.writes;
+  kept = c.next.ensures.kept ∙ c.loop-b.invariant.kept;
   keeps = (keeps_trans c.args.w.now c.next.new.w c.read_byte.new.w (keeps_trans c.args.w.now c.loop-b.w c.next.new.w c.loop-b.invariant.keeps (keeps_given c.loop-b.w c.next.new.w c.next.ensures.world)) (keeps_read c.walk_len-base.result c.next.new.w c.read_byte.new.w c.read_byte.ensures.reading));
   steady = (steady_trans c.walk_len-base.result c.args.w.now.levels c.next.new.w.levels c.read_byte.new.w.levels (steady_as c.walk_len-base.result c.args.w.now.levels c.loop-b.w c.next.new.w (sym (passed_levels c.loop-b.w c.next.new.w c.next.ensures.world)) c.loop-b.invariant.steady) c.read_byte.ensures.reading.steady);
 }

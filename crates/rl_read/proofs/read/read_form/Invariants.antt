@@ -20,6 +20,7 @@ invariant-loop-b g l = record {
   printed : WhereTold (g.T.Bytes.printed l.fn.text l.fn.w.output.waiting) (g.T.Bytes.printed l.text l.w.output.waiting) (λ before now. now ≡ before);
   reads : g.T.Bytes.reads l.text ≡ g.T.Bytes.reads l.fn.text;
   writes : g.T.Bytes.writes l.text ≡ g.T.Bytes.writes l.fn.text;
+  kept : g.T.Bytes.kept l.text ≡ g.T.Bytes.kept l.fn.text;
   keeps : Keeps l.fn.w l.w;
   steady : IsSteady l.base l.fn.w.levels l.w.levels;
 }

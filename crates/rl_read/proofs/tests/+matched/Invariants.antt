@@ -1,7 +1,4 @@
-use Rattle.std.proofs.Common.{◌≡◌, ◌≤◌, length, IsTrue, IfOk, ℕ, ◌+◌, ◌-◌, ◌*◌, ◌<◌}
-use Rattle.std.specs.Option.{ForSome}
-use Rattle.rl_cells.specs.Cell.{bytes_of, is_live, is_pair, is_str, is_vector}
-use Rattle.rl_syms.specs.Table.{IsTable}
+use Rattle.std.proofs.Common.{◌≤◌, length}
 use Rattle.rl_read.proofs.tests.+matched.Given as goal
 
 -- proposed from what the function passes where it calls itself

@@ -1,6 +1,3 @@
-use Rattle.std.proofs.Common.{◌≡◌, ◌≤◌, length, IsTrue, IfOk, ℕ, ◌+◌, ◌-◌, ◌*◌, ◌<◌}
-use Rattle.std.specs.Option.{ForSome}
-use Rattle.rl_cells.specs.Cell.{bytes_of, is_live, is_pair, is_str, is_vector}
 use Rattle.rl_syms.specs.Table.{IsTable}
 use Rattle.rl_read.proofs.tests.trees.Given as goal
 
