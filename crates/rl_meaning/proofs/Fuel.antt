@@ -3,7 +3,7 @@ use Rattle.std.proofs.Common.{◌≡◌, ◌≤◌, ◌<◌, ◌+◌, ◌==◌, 
 use Rattle.rl_tree.specs.Value.{Value, Id, Fun}
 use Rattle.rl_tree.specs.declared.held.Kind.TheVariants.{Expr, Fexpr, Macro}
 use Rattle.rl_meaning.specs.Names.{Native, Special, arguments_of, Quote, Cond, Progn, And, Or, Setq, Prog, Go, Return, List_, Plus, Times, Max, Min, De, Df, Dm, Eval, Errorset, Apply, Compile, Faslout, Load}
-use Rattle.rl_meaning.specs.Constants.{reading}
+use Rattle.rl_meaning.specs.Constants.{reading, reading_pair}
 use Rattle.rl_meaning.specs.Names as names
 use Rattle.rl_meaning.specs.State.{State, Counts, Tree, Atom, Quoted, Pair, Literal, Held, Definition, Function, SpecialForm, NativeFunction, HeldFunction}
 use Rattle.rl_meaning.specs.Outcome.{Outcome, Done, Failed, Went, Returned, Stopped, Levels}
@@ -135,7 +135,7 @@ module _ (rec rec' : Rec) (n : ℕ) (agree : Agree n rec rec') where
       applied_to_alike levels target vs r (omega (arith, b, c, lt)))))
 
   apply_alike : (levels : Levels) (f l : Value) (s : State) → base s.counts ≤ n → Alike s.counts (apply rec levels f l s) (apply rec' levels f l s)
-  apply_alike levels f l s le = turn_alike s _ _ (λ t turned. target_alike levels (target_of f t) f l (reading f t) (omega (arith, turned.less, le)))
+  apply_alike levels f l s le = turn_alike s _ _ (λ t turned. target_alike levels (target_of f t) f l (reading_pair f t) (omega (arith, turned.less, le)))
 
   native_alike : (native : Native) (levels : Levels) (vs : List Value) (s : State) → base s.counts ≤ n → Alike s.counts (native_applied rec native levels vs s) (native_applied rec' native levels vs s)
   native_alike Eval levels vs s le = evaluated_alike levels (argument vs 0) s le

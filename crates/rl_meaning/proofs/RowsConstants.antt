@@ -99,3 +99,15 @@ printing_reads_the_whole_value = refl
 evaluation_in_an_expansion_reads_its_form : event_of (codes "(DE K NIL '(CAR 'A)) (DM M (U) (EVAL (LIST 'PROGN (K)))) (RPLACA (K) 'NULL) (M)") ≡ met 0
 unfolding bare_state opening_rows byte_names special_rows native_rows digits error_texts job
 evaluation_in_an_expansion_reads_its_form = refl
+
+apply_of_a_vector_reads_no_place : event_of (codes "(DE K NIL [1]) (DM M (U) (ERRORSET '(APPLY (K) NIL) NIL NIL) 5) (PUTV (K) 0 2) (M)") ≡ None
+unfolding bare_state opening_rows byte_names special_rows native_rows digits error_texts job
+apply_of_a_vector_reads_no_place = refl
+
+putd_of_a_vector_reads_no_place : event_of (codes "(DE K NIL [1]) (DM M (U) (ERRORSET '(PUTD 'G 'EXPR (K)) NIL NIL) 5) (PUTV (K) 0 2) (M)") ≡ None
+unfolding bare_state opening_rows byte_names special_rows native_rows digits error_texts job
+putd_of_a_vector_reads_no_place = refl
+
+apply_reads_its_list : event_of (codes "(DE K NIL '(LAMBDA NIL 1)) (DM M (U) (APPLY (K) NIL)) (RPLACD (K) '(NIL 2)) (M)") ≡ met 0
+unfolding bare_state opening_rows byte_names special_rows native_rows digits error_texts job
+apply_reads_its_list = refl

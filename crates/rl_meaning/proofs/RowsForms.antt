@@ -386,3 +386,30 @@ a_macro_that_runs_is_a_body : (run 100000000 50000 [] (codes "(DM N (U) 1) (DM M
     ≡ Some (record { event = Turned 245; printed = 0; noted = 0 })
 unfolding bare_state opening_rows byte_names special_rows native_rows digits error_texts job
 a_macro_that_runs_is_a_body = refl
+
+an_equal_literal_of_another_holder_does_not_turn : (run 100000000 50000 [] (codes "(DE G NIL (FUNCTION (LAMBDA (U) 1))) (DE H NIL 5 (FUNCTION (LAMBDA (U) 1))) (PUTD 'M 'MACRO (G)) (DE F (X) (PUTD X 'MACRO (H)) '(M)) (F 'M)")).state.watched.event
+    ≡ None
+unfolding bare_state opening_rows byte_names special_rows native_rows digits error_texts job
+an_equal_literal_of_another_holder_does_not_turn = refl
+
+a_literal_equals_a_definition : (run 100000000 50000 [] (codes "(DM M (U) 1) (DE H NIL (FUNCTION (LAMBDA (U) 1))) (DE F (X) (PUTD X 'MACRO (H)) '(M)) (F 'M)")).state.watched.event
+    ≡ None
+unfolding bare_state opening_rows byte_names special_rows native_rows digits error_texts job
+a_literal_equals_a_definition = refl
+
+a_literal_of_another_kind_turns : (run 100000000 50000 [] (codes "(DM M (U) U) (FLUID '(U)) (DE H NIL (FUNCTION (LAMBDA (U) U))) (DE F (X) (PUTD X 'MACRO (H)) '(M)) (F 'M)")).state.watched.event
+    ≡ Some (record { event = Turned 244; printed = 0; noted = 0 })
+unfolding bare_state opening_rows byte_names special_rows native_rows digits error_texts job
+a_literal_of_another_kind_turns = refl
+
+-- the FUNCTION form of the expansion does not mention Z, which its holder does
+an_expansion_keeps_what_it_mentions : (run 100000000 50000 [] (codes "(FLUID '(Z)) (DM N (U) '((LAMBDA (Z) (EVAL 'Z)) 5)) (DM M (U) '(FUNCTION (LAMBDA NIL (N)))) (DE F NIL Z (APPLY (M) NIL)) (F)")).state.watched.event
+    ≡ Some (record { event = Stray 256; printed = 0; noted = 0 })
+unfolding bare_state opening_rows byte_names special_rows native_rows digits error_texts job
+an_expansion_keeps_what_it_mentions = refl
+
+-- X is a quoted part there, also in a list that is held
+a_quoted_part_is_no_parameter : printed (codes "(PUTD 'F 'EXPR '(LAMBDA (QUOTE X) 5)) (DE G (QUOTE X) 5) (APPLY '(LAMBDA (QUOTE X) 5) '(1 2)) ((LAMBDA (QUOTE X) 5) 1 2) (FUNCTION (LAMBDA (QUOTE X) 5))")
+    ≡ lines (codes "***** LAMBDA is badly formed" ∷ codes "***** LAMBDA is badly formed" ∷ codes "***** LAMBDA is badly formed" ∷ codes "***** LAMBDA is badly formed" ∷ codes "***** FUNCTION is badly formed" ∷ [])
+unfolding bare_state opening_rows byte_names special_rows native_rows digits error_texts job
+a_quoted_part_is_no_parameter = refl

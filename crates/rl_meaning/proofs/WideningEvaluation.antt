@@ -3,7 +3,7 @@ use Rattle.std.proofs.Common.{sym, ◌==◌, ℕ, zero, suc, Bool, true, false, 
 use Rattle.rl_tree.specs.Value.{Value, Id, Fun}
 use Rattle.rl_tree.specs.declared.held.Kind.TheVariants.{Expr, Fexpr, Macro}
 use Rattle.rl_meaning.specs.Names.{Native, Special, arguments_of, Quote, Cond, Progn, And, Or, Setq, Prog, Go, Return, List_, Plus, Times, Max, Min, De, Df, Dm, Eval, Errorset, Apply, Compile, Faslout, Load}
-use Rattle.rl_meaning.specs.Constants.{reading}
+use Rattle.rl_meaning.specs.Constants.{reading_pair}
 use Rattle.rl_meaning.specs.Names as names
 use Rattle.rl_meaning.specs.State.{State, Counts, Tree, Atom, Quoted, Pair, Literal, Held, Definition, Function, SpecialForm, NativeFunction, HeldFunction}
 use Rattle.rl_meaning.specs.Outcome.{then_do, Outcome, Done, Levels}
@@ -19,7 +19,7 @@ use Rattle.rl_meaning.specs.Natives.{argument}
 use Rattle.rl_meaning.specs.Evaluation.{Position, Statement, Inside, Here, longest_chain, Job, Body, Call_, From, In, Rec, bad_form, misplaced_at, deeper_here, Target, Function_, Lambda, Undefined, WrongType, target_of, with_arguments, operation_of, of_none, held_body, held_applied, form_evaluated, evaluated, errorset, list_applied, applied_to, apply_target, apply, native_applied, counted, called_as, function_applied, applied, name_applied, called, fexpr_called, expansion_of, expanded_body, macro_called, in_chain, jumped, in_prog, define_function, going, quoted, function_named, atom_in, identifiers_in, eval, arguments, applied_lambda, progn, clauses, clause, conjunction, disjunction, setq, returning, prog, statements, listed, combined, combined_rest, rank, job_at, job}
 use Rattle.rl_meaning.proofs.Heads.{lambda_form, call_form, special_form, list_form}
 use Rattle.rl_meaning.proofs.Widening.{Wider, with_counts, same, Widens, done, failed, went, returned, stopped, Roomier, from_same, then_widens, choose_widens, turn_widens, deeper_widens}
-use Rattle.rl_meaning.proofs.WideningObjects.{widening, fail_widens, pair_widens, reading_widens}
+use Rattle.rl_meaning.proofs.WideningObjects.{widening, fail_widens, pair_widens, reading_widens, pair_read_widens}
 use Rattle.rl_meaning.proofs.WideningHolding.{hold_form_widens, hold_expansion_widens, elements_widen, copied_widens, hold_part_widens}
 use Rattle.rl_meaning.proofs.WideningVariables.{variable_widens, assigned_widens, operated_widens}
 use Rattle.rl_meaning.proofs.WideningReach.{define_same}
@@ -117,9 +117,9 @@ module _ (rec rec' : Rec) (agrees : Agrees rec rec') where
 
   apply_widens : (l m : Levels) (r : Roomier l m) (f list : Value) (s : State) (d : Counts) → Wider s.counts d → Widens (apply rec l f list s) (apply rec' m f list (with_counts d s))
   apply_widens l m r f list s d w = turn_widens s d _ _ w (λ s d w.
-      subst (λ target. Widens (apply_target rec l (target_of f s) f list (reading f s)) (apply_target rec' m target f list (reading f (with_counts d s)))) (sym (target_same f s d)) (
+      subst (λ target. Widens (apply_target rec l (target_of f s) f list (reading_pair f s)) (apply_target rec' m target f list (reading_pair f (with_counts d s)))) (sym (target_same f s d)) (
       let target : Target = target_of f s in
-      reading_widens f (λ s. apply_target rec l target f list s) (λ s. apply_target rec' m target f list s) (λ s d w. target_widens l m r target f list s d w) s d w))
+      pair_read_widens f (λ s. apply_target rec l target f list s) (λ s. apply_target rec' m target f list s) (λ s d w. target_widens l m r target f list s d w) s d w))
 
   native_applied_widens : (native : Native) (l m : Levels) (r : Roomier l m) (vs : List Value) (s : State) (d : Counts) → Wider s.counts d → Widens (native_applied rec native l vs s) (native_applied rec' native m vs (with_counts d s))
   native_applied_widens Eval l m r vs s d w = evaluated_widens l m r (argument vs 0) s d w

@@ -12,7 +12,7 @@ use Rattle.rl_meaning.specs.Atoms.{made_places, mkvect, place_at, place_of, with
 use Rattle.rl_meaning.specs.Properties.{nowhere, looked_at, is_property, is_flag, Place, look_for, of_identifier, get, flagp, add_first, put_at, with_identifier, put, taken_out, without, remprop, or_list, at_list_end, for_each, flag_at, for_flag, flag, remflag}
 use Rattle.rl_meaning.specs.Definitions.{definition_pair, getd, Body, Pointer, Lambda, kind_of, with_kind, body_in, with_body, own_name, define, hold_lambda, function_of, putd, remd, declare, fluid, global, undeclare, unfluid, set}
 use Rattle.rl_meaning.proofs.Widening.{Wider, with_counts, Same, same, Widens, done, Roomier, then_widens}
-use Rattle.rl_meaning.proofs.WideningObjects.{widening, reading_widens}
+use Rattle.rl_meaning.proofs.WideningObjects.{widening, reading_widens, pair_read_widens}
 use Rattle.rl_meaning.proofs.WideningWalks.{walk_widens}
 use Rattle.rl_meaning.proofs.WideningReach.{definition_same, define_same}
 use Rattle.rl_meaning.proofs.WideningHolding.{hold_function_widens}
@@ -204,7 +204,7 @@ putd_widens levels levels' r f t b s d w =
     with_identifier_widens f s d _ _ (λ i s d w.
     with_kind_widens (kind_of t) t s d _ _ (λ kind s d w.
     let o : Option Body = body_in s kind b in
-    reading_widens b (λ s. with_body o b s (λ body s. held levels i kind body s)) (λ s. with_body o b s (λ body s. held levels' i kind body s))
+    pair_read_widens b (λ s. with_body o b s (λ body s. held levels i kind body s)) (λ s. with_body o b s (λ body s. held levels' i kind body s))
     (λ s d w. with_body_widens o b s d _ _ (λ body s d w. search (widening, own_name_widens, function_of_widens, define_same) depth 9) w) s d w) w) w
   where
     held : Levels → ℕ → Kind → Body → State → Outcome Value

@@ -10,7 +10,7 @@ use Rattle.rl_meaning.specs.State.{State, Definition, Function, SpecialForm, Nat
 use Rattle.rl_meaning.specs.Outcome.{Outcome, Done, then_do, choose, Levels, made_pair}
 use Rattle.rl_meaning.specs.Symbols.{nil, lambda_id, is_constant, symbol_at, with_symbol, pair_at}
 use Rattle.rl_meaning.specs.Errors.{fail, wrong_type, badly_formed, not_bindable, system_name}
-use Rattle.rl_meaning.specs.Constants.{reading}
+use Rattle.rl_meaning.specs.Constants.{reading, reading_pair}
 use Rattle.rl_meaning.specs.Holding.{hold_function, fits_kind}
 use Rattle.rl_meaning.specs.Properties.{of_identifier, with_identifier, for_each}
 use Rattle.rl_meaning.specs.Variables.{assigned_by_name}
@@ -102,7 +102,7 @@ abbrev pub putd : Levels → Value → Value → Value → State → Outcome Val
 putd levels f t b s =
     with_identifier f s (λ i s.
     with_kind (kind_of t) t s (λ kind s.
-    with_body (body_in s kind b) b (reading b s) (λ body s.
+    with_body (body_in s kind b) b (reading_pair b s) (λ body s.
     own_name i s (λ s.
     then_do (function_of kind levels body s) (λ g s. Done f (defined i (define i kind g s)))))))
 

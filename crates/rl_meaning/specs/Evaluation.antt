@@ -9,7 +9,7 @@ use Rattle.rl_meaning.specs.State.{State, Tree, Atom, Quoted, Pair, Literal, Kep
 use Rattle.rl_meaning.specs.Outcome.{Outcome, Done, Failed, Went, Returned, Stopped, Turns, Expands, then_do, choose, turn, Levels, deeper, made_pair}
 use Rattle.rl_meaning.specs.Symbols.{nil, is_nil, lambda_id, return_id, truth, pair_at, symbol_at}
 use Rattle.rl_meaning.specs.Errors.{fail, undefined, wrong_count, wrong_type, misplaced, badly_formed}
-use Rattle.rl_meaning.specs.Constants.{reading}
+use Rattle.rl_meaning.specs.Constants.{reading, reading_pair}
 use Rattle.rl_meaning.specs.Holding.{function_id, hold_form, hold_expansion, elements_of, tree_identifiers, is_list}
 use Rattle.rl_meaning.specs.Copying.{copied}
 use Rattle.rl_meaning.specs.Variables.{variable, assigned, with_mark, restored, binding}
@@ -199,7 +199,7 @@ module _ (rec : Rec) where
       deeper (length vs / 8) levels s (λ levels. applied_to levels target vs s)))
 
   abbrev pub apply : Levels → Value → Value → State → Outcome Value
-  apply levels f l s = turn s (λ s. apply_target levels (target_of f s) f l (reading f s))
+  apply levels f l s = turn s (λ s. apply_target levels (target_of f s) f l (reading_pair f s))
 
   abbrev pub native_applied : Native → Levels → List Value → State → Outcome Value
   native_applied Eval levels vs s = evaluated levels (argument vs 0) s
