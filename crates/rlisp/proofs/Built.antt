@@ -1,5 +1,5 @@
 -- Which forms are built, by their parts.
-use Rattle.std.proofs.Common.{◌≡◌, ℕ, zero, suc, Bool, true, false, ◌&&◌, ◌||◌, List, [], ◌∷◌, Option, refl, sym, ap, ◌∙◌, arith, inl, inr, ◌+◌, ◌*◌, ◌==◌, eqb-true, eq-eqb}
+use Rattle.std.proofs.Common.{◌≡◌, ℕ, zero, suc, true, false, List, Option, refl, sym, ap, ◌∙◌, arith, inl, inr, ◌+◌, ◌*◌, ◌==◌, eqb-true, eq-eqb}
 use Rattle.std.specs.Str.{bytes_eq}
 use Rattle.std.proofs.lemmas.Slice.Eq.{slice_eq-Decides}
 use Rattle.std.proofs.lemmas.Bool.{cases_Bool}
@@ -8,11 +8,10 @@ use Rattle.rl_tags.specs.Tagged.{Tagged, Number, IdAt, StrAt, PairAt, VectorAt, 
 use Rattle.rl_cells.specs.Cell.{Cell}
 use Rattle.rl_syms.specs.Table.{IsTable, Among, name_at, ids_from}
 use Rattle.rl_tree.specs.Name.{Name, nil_name, t_name, quote_name, cons_name, print_name}
-use Rattle.rl_tree.specs.Printing.{Page}
-use Rattle.rl_text.specs.Datum.{Datum, Int, Id, Str, Pair, Vector, nil, quoted}
+use Rattle.rl_text.specs.Datum.{Datum, Int, Id, Str, Pair, Vector, nil}
 use Rattle.rl_read.specs.Data.{IsDatumWithin, datum_within}
 use Rattle.rl_world.specs.declared.world.World.{World}
-use Rattle.rlisp.specs.Evaluation.{is_built, is_printer, prin1_name, prin2_name, terpri_name}
+use Rattle.rlisp.specs.Evaluation.{is_built, prin1_name, prin2_name, terpri_name}
 use Rattle.rlisp.specs.World.{IsKnown, IsNameOf, datum_in}
 use Rattle.rlisp.specs.Forms.{is_name, is_plain, IsConstant}
 

@@ -1,8 +1,6 @@
 -- What a run has printed when it ends.
-use Rattle.std.proofs.Common.{◌≡◌, ℕ, ◌+◌, ◌≤◌, ◌⊎◌, Bool, true, false, if◌then◌else◌, List, [], ◌++◌, length, take, drop, map, Option, Some, None, refl, sym, ap, ◌∙◌, append_assoc, arith, inl, inr}
+use Rattle.std.proofs.Common.{◌≡◌, ℕ, ◌≤◌, ◌⊎◌, true, false, List, [], ◌++◌, length, take, map, Option, Some, None, refl, sym, ap, ◌∙◌, arith, inl, inr}
 use Rattle.std.specs.Prelude.{nat_lt}
-use Rattle.std.specs.List.{All, list_all}
-use Rattle.std.specs.Global.{Vec}
 use Rattle.std.proofs.lemmas.List.{append-nil, take-append-drop}
 use Rattle.std.proofs.lemmas.Bool.{cases_Bool}
 use Rattle.std.proofs.lemmas.Bool.Decides.{nat_tests}
@@ -10,19 +8,18 @@ use Rattle.std.proofs.lemmas.Bool.{ltb-true}
 use Rattle.rl_tags.specs.Tagged.{Tagged}
 use Rattle.rl_io.specs.Faults.{Rose}
 use Rattle.rl_tree.specs.Printing.{Page}
-use Rattle.rl_text.specs.Datum.{Datum}
 use Rattle.rl_text.specs.Laws.{FindsSpelled, FindsNone}
 use Rattle.rl_world.specs.Output.{Output}
 use Rattle.rl_world.specs.Waiting.{Follows, IsCutOff}
 use Rattle.rl_world.specs.declared.world.World.{World}
-use Rattle.rlisp.specs.Evaluation.{is_built, page_after}
-use Rattle.rlisp.specs.Meaning.{Meaning, Finished, Unbuilt, longest_file, data_in, meaning, meaning_of_forms, nothing_printed, empty_page, IsUnbuilt}
-use Rattle.rlisp.specs.World.{IsKnown, IsRunning, IsBeginning, datum_in}
+use Rattle.rlisp.specs.Evaluation.{page_after}
+use Rattle.rlisp.specs.Meaning.{Meaning, Finished, Unbuilt, data_in, meaning, meaning_of_forms, nothing_printed, empty_page, IsUnbuilt}
+use Rattle.rlisp.specs.World.{IsBeginning, datum_in}
 use Rattle.rlisp.specs.Forms.{are_built}
 use Rattle.rlisp.specs.Appending.{Appended, AppendedFront}
-use Rattle.rlisp.specs.Pages.{page_in, Told, Prints, Halts, Cuts, IsFront}
+use Rattle.rlisp.specs.Pages.{page_in, Prints, Halts, Cuts, IsFront}
 use Rattle.rlisp.specs.Tasks.{page_of_forms}
-use Rattle.rlisp.specs.Outputs.{AreRead, data_told}
+use Rattle.rlisp.specs.Outputs.{AreRead}
 use Rattle.rlisp.specs.Status.{is_silent}
 use Rattle.rlisp.specs.Headline.{AreForms, Ends, PrintsForms, output_of}
 use Rattle.rlisp.specs.declared.status.Status.{Status}

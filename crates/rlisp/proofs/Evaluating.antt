@@ -1,34 +1,25 @@
 -- What a turn of the evaluator leaves to be done.
-use Rattle.std.proofs.Common.{◌≡◌, ℕ, ◌+◌, ◌<◌, Bool, true, false, if◌then◌else◌, ◌&&◌, List, [], ◌∷◌, ◌++◌, map, Option, Some, None, IfSome, refl, sym, ap, ◌∙◌, append_assoc, arith}
+use Rattle.std.proofs.Common.{◌≡◌, ℕ, Bool, true, false, if◌then◌else◌, List, [], ◌∷◌, ◌++◌, map, Option, Some, None, IfSome, refl, sym, ap, ◌∙◌, append_assoc}
 use Rattle.std.specs.List.{All}
 use Rattle.std.specs.Str.{bytes_eq}
 use Rattle.std.proofs.lemmas.Bool.{cond_both}
 use Rattle.std.proofs.lemmas.List.{append-nil}
 use Rattle.std.proofs.lemmas.List.Elements.{All-cons, All-head, All-tail, All-weaker}
 use Rattle.rl_tags.specs.Tagged.{Tagged}
-use Rattle.rl_tags.specs.Ids.{nil_id}
 use Rattle.rl_tree.specs.Atoms.{Style, Prin1, Prin2}
-use Rattle.rl_tree.specs.Name.{nil_name, quote_name}
+use Rattle.rl_tree.specs.Name.{quote_name}
 use Rattle.rl_tree.specs.Printing.{Page}
-use Rattle.rl_tree.specs.Printing.{with_text}
-use Rattle.rl_text.specs.Datum.{Datum, Int, Id, Str, Pair, Vector, nil, quoted}
+use Rattle.rl_text.specs.Datum.{Datum, Id, Pair}
 use Rattle.rl_text.specs.Printed.{with_datum}
 use Rattle.rl_world.specs.declared.world.World.{World}
-use Rattle.rl_world.specs.Output.{Output}
-use Rattle.rl_print.specs.AtomText.{style_of}
-use Rattle.rl_print.specs.declared.atom.Style as print
-use Rattle.rl_print.specs.declared.atom.Style.TheVariants as style
-use Rattle.rlisp.specs.Evaluation.{line_length, prin1_name, prin2_name, Valued, is_built, evaluated, printed_by, page_after, with_end_of_line}
-use Rattle.rlisp.specs.World.{IsKnown, IsRunning, IsNameOf, Keeps, Stands, datum_in}
-use Rattle.rlisp.specs.Forms.{IsConstant, call, cons_call, terpri_call, printer_name, pairs_of, are_built}
-use Rattle.rlisp.specs.declared.forms.Printer.{Printer}
-use Rattle.rlisp.specs.declared.forms.Printer.TheVariants as printer
+use Rattle.rlisp.specs.Evaluation.{line_length, prin1_name, prin2_name, Valued, is_built, evaluated, printed_by, with_end_of_line}
+use Rattle.rlisp.specs.World.{IsKnown, IsRunning, Keeps, datum_in}
 use Rattle.rlisp.specs.Pages.{page_in, Told, Prints, IsFront, Halts, Cuts, KeepsObjects}
-use Rattle.rlisp.specs.Tasks.{Step, Evaluate, Cons, Print, EndLine, page_finished, Stacks, step_in, steps_of, page_at_end, KnowsTask, AreKnown, weight, IsFurther, IsQuietTurn, IsNewest, with_task, with_value, with_print, page_of_forms, begun}
+use Rattle.rlisp.specs.Tasks.{Step, Evaluate, Cons, Print, EndLine, page_finished, Stacks, step_in, steps_of, page_at_end, KnowsTask, AreKnown, IsNewest, with_task, with_value}
 use Rattle.rlisp.specs.declared.evaluator.Task.{Task}
 use Rattle.rlisp.specs.declared.evaluator.Task.TheVariants as task
 use Rattle.rlisp.proofs.Waited.{follows_more, cut_more, nothing_follows}
-use Rattle.rlisp.proofs.Paging.{datum_apart, blank, shown}
+use Rattle.rlisp.proofs.Paging.{datum_apart, blank}
 
 -- ---- a page that only grows
 

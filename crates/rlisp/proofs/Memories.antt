@@ -1,17 +1,16 @@
 -- What values of the world are, and what a new pair keeps.
-use Rattle.std.proofs.Common.{◌≡◌, ◌≢◌, ℕ, zero, suc, ◌<◌, Bool, true, false, List, [], ◌++◌, length, Option, Some, None, refl, sym, ap, ◌∙◌, subst, arith}
-use Rattle.rl_tags.specs.Tagged.{Tagged, Number, IdAt, StrAt, PairAt, VectorAt, BigAt, FunAt, tag_of, index_of}
+use Rattle.std.proofs.Common.{◌≡◌, ℕ, zero, suc, ◌<◌, true, List, [], ◌++◌, length, Option, Some, None, refl, ap, arith}
+use Rattle.rl_tags.specs.Tagged.{Tagged, Number, IdAt, StrAt, PairAt, VectorAt, BigAt, FunAt, tag_of}
 use Rattle.rl_tags.specs.declared.Tag.TheVariants as Tag
 use Rattle.rl_tags.specs.declared.names.TheConstants.{OPENING_NAMES}
 use Rattle.rl_tags.specs.Opening.{opening_rows, place_of, name_at as opening_name}
-use Rattle.rl_cells.specs.Cell.{Cell, PairCell, Store, placed, grown, is_live, is_pair, car_of, cdr_of}
+use Rattle.rl_cells.specs.Cell.{Cell, PairCell, placed, grown, is_live, is_pair, car_of, cdr_of}
 use Rattle.rl_syms.specs.Table.{IsTable, IsNamed}
 use Rattle.rl_syms.specs.Laws.{IsKept, LeaveBlocks}
 use Rattle.rl_tree.specs.Name.{Name}
-use Rattle.rl_text.specs.Datum.{Datum, Id, Pair}
+use Rattle.rl_text.specs.Datum.{Pair}
 use Rattle.rl_read.specs.Data.{IsDatumWithin, datum_within}
 use Rattle.rl_read.specs.Laws.{PairsAreData}
-use Rattle.rl_world.specs.Counts.{Counts}
 use Rattle.rl_world.specs.Output.{Output}
 use Rattle.rl_world.specs.declared.world.World.{World}
 use Rattle.rlisp.specs.World.{IsKnown, IsNameOf, IsRunning, IsBeginning, Keeps, Stands, datum_in}

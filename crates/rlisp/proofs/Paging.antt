@@ -1,27 +1,24 @@
 -- What is printed of a value, on the page of any text that was printed before.
-use Rattle.std.proofs.Common.{◌≡◌, ℕ, ◌+◌, List, [], ◌∷◌, ◌++◌, length, Bool, true, false, if◌then◌else◌, Option, Some, None, IfSome, refl, sym, ap, ◌∙◌, append_assoc}
-use Rattle.std.specs.Prelude.{◌&&◌, nat_lt, fold}
+use Rattle.std.proofs.Common.{◌≡◌, ℕ, ◌+◌, List, [], ◌∷◌, ◌++◌, length, Bool, true, false, if◌then◌else◌, Option, Some, refl, sym, ap, ◌∙◌, append_assoc}
+use Rattle.std.specs.Prelude.{◌&&◌, nat_lt}
 use Rattle.std.proofs.lemmas.List.{append-nil}
 use Rattle.rl_tags.specs.Tagged.{Tagged}
-use Rattle.rl_cells.specs.Cell.{Cell}
 use Rattle.rl_syms.specs.Contents.{value_of}
 use Rattle.rl_tree.specs.Atoms as atoms
 use Rattle.rl_tree.specs.Printing.{Page}
-use Rattle.rl_tree.specs.Printing.{Progress, Whole, Setting, printed, with_atom, with_text}
+use Rattle.rl_tree.specs.Printing.{Progress, with_text}
 use Rattle.rl_text.specs.Datum.{Datum}
 use Rattle.rl_text.specs.Laws.{PrintsData}
 use Rattle.rl_text.specs.Stored.{IsStored}
 use Rattle.rl_text.specs.Printed.{Piece, Atom, Mark, pieces_of, with_piece, with_pieces, with_datum}
 use Rattle.rl_read.specs.Laws.{MeansDatum}
-use Rattle.rl_world.specs.Output.{Output}
 use Rattle.rl_world.specs.declared.stop.Stop.{Stop}
 use Rattle.rl_world.specs.declared.world.World.{World}
 use Rattle.rl_print.specs.Walk.{IsPrinted, IsPrinting, levels_left, progress_in, setting_in, whole_printed}
 use Rattle.rl_print.specs.Walk as walk
 use Rattle.rlisp.specs.Evaluation.{line_length}
-use Rattle.rlisp.specs.World.{IsKnown, IsRunning, Keeps, datum_in}
-use Rattle.rlisp.specs.Pages.{page_in, Told, Prints, IsFront, Halts, Cuts, KeepsObjects}
-use Rattle.rlisp.proofs.Waited.{follows_more, cut_more, nothing_follows}
+use Rattle.rlisp.specs.World.{IsKnown, IsRunning, datum_in}
+use Rattle.rlisp.specs.Pages.{page_in, Prints, IsFront, Halts, Cuts, KeepsObjects}
 
 -- ---- a page behind a text
 

@@ -1,11 +1,10 @@
 -- What reading a form makes of the world, and of what is still to be read.
-use Rattle.std.proofs.Common.{◌≡◌, ℕ, ◌<◌, ◌-◌, List, [], ◌∷◌, ◌++◌, length, map, drop, Option, Some, None, refl, sym, ap, ◌∙◌, append_assoc, false}
+use Rattle.std.proofs.Common.{◌≡◌, ℕ, ◌<◌, ◌-◌, List, [], ◌∷◌, ◌++◌, length, map, Option, Some, None, refl, sym, ap, ◌∙◌, append_assoc, false}
 use Rattle.std.specs.Prelude.{option_map}
 use Rattle.std.specs.List.{All}
 use Rattle.std.proofs.lemmas.List.{append-nil, map-append}
 use Rattle.std.proofs.lemmas.List.Elements.{All-weaker}
 use Rattle.rl_tags.specs.Tagged.{Tagged}
-use Rattle.rl_cells.specs.Cell.{Store}
 use Rattle.rl_syms.specs.Table.{IsTable}
 use Rattle.rl_text.specs.Datum.{Datum}
 use Rattle.rl_text.specs.Laws.{FindsSpelled, FindsNone, RefusesFirst}
@@ -14,7 +13,6 @@ use Rattle.rl_read.specs.Stock.{Stock, in_stock, stock_of}
 use Rattle.rl_read.specs.Reads as reads
 use Rattle.rl_read.specs.Reads.{IsRefusedText}
 use Rattle.rl_read.specs.Laws.{ReadsText, ReadsData, IsNamedStock}
-use Rattle.rl_world.specs.Output.{Output}
 use Rattle.rl_world.specs.declared.world.World.{World}
 use Rattle.rlisp.specs.Meaning.{data_in}
 use Rattle.rlisp.specs.World.{IsKnown, IsRunning, Keeps, datum_in}

@@ -1,5 +1,5 @@
 -- What each turn of the evaluator does.
-use Rattle.std.proofs.Common.{◌≡◌, ℕ, ◌+◌, ◌<◌, Bool, true, false, ◌&&◌, if◌then◌else◌, List, [], ◌∷◌, ◌++◌, map, Option, Some, None, refl, sym, ap, ◌∙◌, arith}
+use Rattle.std.proofs.Common.{◌≡◌, ℕ, ◌<◌, Bool, true, false, ◌&&◌, if◌then◌else◌, List, [], ◌∷◌, ◌++◌, map, Option, Some, None, refl, sym, ap, ◌∙◌, arith}
 use Rattle.std.specs.Prelude.{Result, Err, MatchOption, slice_get, length, reverse, ◌-◌}
 use Rattle.std.specs.List.{All, list_all}
 use Rattle.std.proofs.lemmas.List.{length-append, reverse-append, reverse-reverse}
@@ -8,18 +8,17 @@ use Rattle.rl_tags.specs.Tagged.{Tagged}
 use Rattle.rl_tags.specs.Ids.{nil_id}
 use Rattle.rl_tree.specs.Printing.{Page}
 use Rattle.rl_text.specs.Datum.{Datum, Id, Pair, nil, quoted}
-use Rattle.rl_text.specs.Printed.{with_datum}
 use Rattle.rl_world.specs.declared.world.World.{World}
 use Rattle.rl_world.specs.Output.{Output}
 use Rattle.rl_print.specs.AtomText.{style_of}
 use Rattle.rl_print.specs.declared.atom.Style.{Style}
-use Rattle.rlisp.specs.Evaluation.{line_length, is_built, evaluated, page_after, with_end_of_line}
+use Rattle.rlisp.specs.Evaluation.{is_built, evaluated, page_after, with_end_of_line}
 use Rattle.rlisp.specs.World.{IsKnown, IsRunning, Keeps, Stands, datum_in}
 use Rattle.rlisp.specs.Forms.{IsConstant, call, cons_call, terpri_call, printer_name, pairs_of, are_built}
 use Rattle.rlisp.specs.declared.forms.Printer.{Printer}
 use Rattle.rlisp.specs.declared.forms.Printer.TheVariants as printer
 use Rattle.rlisp.specs.Pages.{page_in, Told, Prints, Halts, Cuts, KeepsObjects}
-use Rattle.rlisp.specs.Tasks.{Step, Evaluate, Cons, Print, EndLine, page_finished, Stacks, steps_of, page_at_end, AreKnown, weight, IsFurther, IsNewest, IsStuck, with_task, with_value, with_print, page_of_forms, begun}
+use Rattle.rlisp.specs.Tasks.{Step, Evaluate, Cons, EndLine, page_finished, Stacks, steps_of, page_at_end, AreKnown, weight, IsFurther, IsNewest, IsStuck, with_task, with_value, with_print, page_of_forms, begun}
 use Rattle.rlisp.specs.declared.evaluator.Task.TheVariants as task
 use Rattle.rlisp.proofs.Evaluating.{quiet, quiet_halts, prints_trans, halts_behind, cut_behind, then_prints, then_front, finished_adds, known_task, known_value, without_task, without_value, newest_task, kept_known, kept_steps, kept_values, objects_keep}
 use Rattle.rlisp.proofs.Paging.{shown}

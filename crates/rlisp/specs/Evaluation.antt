@@ -2,7 +2,7 @@
 use Rattle.std.specs.Prelude.{ℕ, Bool, true, false, ◌&&◌, ◌||◌, if◌then◌else◌, List, [], ◌∷◌, codes}
 use Rattle.std.specs.Str.{bytes_eq}
 use Rattle.rl_tree.specs.Name.{Name, nil_name, t_name, quote_name, cons_name, print_name}
-use Rattle.rl_tree.specs.Atoms.{Style, Prin1, Prin2}
+use Rattle.rl_tree.specs.Atoms.{Prin1, Prin2}
 use Rattle.rl_tree.specs.Printing.{Page}
 use Rattle.rl_tree.specs.Printing.{with_text}
 use Rattle.rl_text.specs.Datum.{Datum, Int, Id, Str, Pair, Vector, nil}

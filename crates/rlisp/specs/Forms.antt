@@ -2,7 +2,7 @@
 use Rattle.std.specs.Prelude.{◌≡◌, ℕ, ◌+◌, ◌<◌, Bool, true, false, ◌&&◌, List, [], ◌∷◌, map, MatchBool}
 use Rattle.std.specs.List.{All, list_all}
 use Rattle.rl_tags.specs.Tagged.{Tagged}
-use Rattle.rl_tree.specs.Name.{Name, quote_name, print_name, cons_name}
+use Rattle.rl_tree.specs.Name.{Name, print_name, cons_name}
 use Rattle.rl_tree.specs.Printing.{Page}
 use Rattle.rl_text.specs.Datum.{Datum, Int, Id, Str, Pair, Vector, nil, quoted}
 use Rattle.rl_world.specs.declared.world.World.{World}

@@ -1,6 +1,10 @@
 //! The command `rlisp`: Standard Lisp, from the bytes of a file to the bytes that are printed.
 #![tactic(auto)]
 
+ghost use Rattle.std.specs.Prelude.{◌≡◌, ◌↔◌, ℕ, List};
+ghost use Rattle.rl_tree.specs.Command.{IsCommand, StopsAt};
+ghost use Rattle.rlisp.specs.Texts.{texts_of};
+
 mod evaluator;
 mod forms;
 mod memory;
@@ -36,7 +40,10 @@ fn main(rt: HostRuntime) -> ExitCode {
 }
 
 /// The call over the system's objects: notes go to standard error, files are those of the folder.
-fn run(rt: &HostRuntime, words: &[Vec<u8>]) -> Status {
+fn run(rt: &HostRuntime, words: &[Vec<u8>]) -> Status
+    ensures usage { (k : ℕ) → (result ≡ Status.Usage k) ↔ StopsAt (texts_of words.now) k }
+    ensures missing { (name : List ℕ) → result ≡ Status.Missing name → IsCommand (texts_of words.now) name }
+{
     let mut input = StdSource::new(rt.stdin());
     let mut out = StdSink::new(rt.stdout());
     let mut notes = StdSink::new(rt.stderr());

@@ -1,5 +1,6 @@
 //! The world of a run: its bounds, what its values are, and new pairs.
-ghost use Rattle.std.specs.Prelude.{◌≡◌, IfOk};
+ghost use Rattle.std.specs.Prelude.{◌≡◌, IfOk, OnErr, is_ok};
+ghost use Rattle.rl_cells.specs.Cell.{has_room};
 ghost use Rattle.rl_text.specs.Datum.{Pair};
 ghost use Rattle.rlisp.specs.World.{IsBeginning, IsKnown, IsRunning, Keeps, Stands, datum_in};
 ghost use Rattle.rlisp.specs.Looks.{Sees};
@@ -55,11 +56,13 @@ pub(crate) fn look_at(world: &World, v: Val) -> Look
     }
 }
 
-/// A new pair. `OutOfMemory` also where no cell is left.
+/// A new pair. `OutOfMemory` exactly where no cell is left; the world is then as before.
 pub(crate) fn cons(world: &mut World, car: Val, cdr: Val) -> Result<Val, OutOfMemory>
     requires running { IsRunning world.old }
     requires car_known { IsKnown world.old car }
     requires cdr_known { IsKnown world.old cdr }
+    ensures full { is_ok result ≡ has_room world.old.cells 1 }
+    ensures err { OnErr result (world.new ≡ world.old) }
     ensures stands { IfOk result (λ v. Stands world.new v (Pair (datum_in world.old car) (datum_in world.old cdr))) }
     ensures keeps { Keeps world.old world.new }
     ensures running { IsRunning world.new }

@@ -1,4 +1,4 @@
-use Rattle.std.proofs.Common.{◌≡◌, refl, ◌∙◌}
+use Rattle.std.proofs.Common.{refl, ◌∙◌}
 use Rattle.rlisp.specs.Tasks.{with_task}
 use Rattle.rlisp.proofs.Turns.{all_done, begins, begun_known, further_prints, further_halts, further_cut, halts_first, not_stuck, same_fault}
 use Rattle.rlisp.proofs.evaluator.evaluate_all.Goals as goal

@@ -1,6 +1,4 @@
-use Rattle.std.proofs.Common.{sym, ap, ◌∙◌, refl}
-use Rattle.rl_text.specs.Datum.{Pair, nil}
-use Rattle.rlisp.specs.World.{datum_in}
+use Rattle.std.proofs.Common.{sym, ◌∙◌, refl}
 use Rattle.rlisp.proofs.Built.{has_name, has_other, none_unbuilt, two_unbuilt}
 use Rattle.rlisp.proofs.forms.call_form.Goals as goal
 

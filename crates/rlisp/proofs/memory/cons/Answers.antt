@@ -1,4 +1,3 @@
-use Rattle.std.proofs.Common.{◌∙◌}
 use Rattle.rlisp.proofs.Keeping.{keeps_refl}
 use Rattle.rlisp.proofs.Memories.{known_live, grown_running, grown_keeps, grown_stands}
 use Rattle.rlisp.proofs.memory.cons.Goals as goal

@@ -1,5 +1,5 @@
 use Rattle.std.proofs.Common.{sym, ◌∙◌}
-use Rattle.rlisp.proofs.Memories.{id_seen, known_pair, pair_seen, plain_seen}
+use Rattle.rlisp.proofs.Memories.{id_seen, pair_seen, plain_seen}
 use Rattle.rlisp.proofs.memory.look_at.Goals as goal
 
 pub returns-in-Id : goal.returns-in-Id

@@ -1,4 +1,4 @@
-use Rattle.std.proofs.Common.{sym, ap, ◌∙◌}
+use Rattle.std.proofs.Common.{sym, ap}
 use Rattle.rlisp.specs.Tasks.{Stacks}
 use Rattle.rlisp.proofs.Turns.{newest_of}
 use Rattle.rlisp.proofs.evaluator.Work.newest.Goals as goal

@@ -1,9 +1,6 @@
-use Rattle.std.proofs.Common.{◌≡◌, Err, ap, refl, sym}
-use Rattle.std.specs.Prelude.{Result}
+use Rattle.std.proofs.Common.{ap, refl}
 use Rattle.rl_world.specs.Output.{Output}
-use Rattle.rlisp.specs.Tasks.{AreKnown, with_task}
-use Rattle.rlisp.specs.declared.evaluator.Task.TheVariants as task
-use Rattle.rlisp.specs.declared.printing.Fault.TheVariants.{Write}
+use Rattle.rlisp.specs.Tasks.{with_task}
 use Rattle.rlisp.proofs.Evaluating.{without_task, quiet_halts, objects_running}
 use Rattle.rlisp.proofs.Turns.{after_line, line_cut, same_fault}
 use Rattle.rlisp.proofs.evaluator.Work.turn.Goals as goal
