@@ -128,6 +128,7 @@ word_is cells v k i w a e = e ∙ ap (λ u. get_or (words_of cells u) i 0) a.is
 pub six_words : (cells : List Cell) (head : Option Tagged) (v : Tagged) (k : ℕ) → IsChained cells head → AtId cells v k → length (words_of cells v) ≡ 6
 six_words cells head v k t a = ap (λ u. length (words_of cells u)) a.is ∙ t.six k a.cell
 
+-- a value that a word holds
 pub held_some : (w : ℕ) (x : Tagged) → held_in w ≡ Some x → tagged_of w ≡ x
 held_some w x h = go (nat_le (w % 16) 6) (tagged_of w) h
   where

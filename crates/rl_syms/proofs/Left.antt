@@ -1,13 +1,13 @@
 -- What making and changing other objects leaves: blocks, and the names of identifiers.
-use Rattle.std.specs.Prelude.{nat_le}
-use Rattle.std.proofs.Common.{◌≡◌, ℕ, ◌<◌, ◌≤◌, ◌%◌, Bool, true, false, cond, List, ◌++◌, length, get_or, set, Option, Some, None, refl, sym, ap, ◌∙◌, arith}
+use Rattle.std.proofs.Common.{◌≡◌, ℕ, ◌<◌, ◌≤◌, true, List, ◌++◌, length, get_or, set, Option, None, refl, sym, ap, ◌∙◌, arith}
 use Rattle.std.proofs.lemmas.List.{get_or_append_left, get_or_past}
 use Rattle.rl_tags.specs.Tagged.{Tagged, Number, IdAt, StrAt, PairAt, VectorAt, BigAt, FunAt, tagged_of}
 use Rattle.rl_cells.specs.Cell.{Cell, PairCell, VectorCell, More, cell_at, placed, is_id_cell, is_str_cell, is_pair_cell, is_vector_cell, is_pair, is_vector, is_str, bytes_of, bytes_in, vector_in, vector_of, words_in, changed_at}
 use Rattle.rl_cells.specs.Laws.{IsAdded, IsChanged, SameKind}
-use Rattle.rl_syms.specs.Table.{IsTable, IsNamed, held_in, is_id, name_at}
+use Rattle.rl_syms.specs.Table.{IsTable, IsNamed, is_id, name_at}
 use Rattle.rl_syms.specs.Frame.{KeepsBlocks, block_in}
 use Rattle.rl_syms.proofs.Carried.{among_id}
+use Rattle.rl_syms.proofs.Chained.{held_some}
 use Rattle.rl_syms.proofs.New.{tested_inside, where_is, before, here, after}
 use Rattle.rl_syms.proofs.Changed.{part_stays}
 
@@ -37,19 +37,11 @@ made_leaves law cells c none = record {
   ];
 }
 
--- a value that a word holds
-held_is : (w : ℕ) (t : Tagged) → held_in w ≡ Some t → tagged_of w ≡ t
-held_is w t h = go (nat_le (w % 16) 6) h
-  where
-    go : (b : Bool) → cond b (Some (tagged_of w)) None ≡ Some t → tagged_of w ≡ t
-    go true e = cc
-    go false e = absurd (cc)
-
 pub name_stays : (cells more : List Cell) (head : Option Tagged) (k : ℕ) → IsTable cells head → is_id_cell (cell_at cells k) ≡ true → name_at (cells ++ more) k ≡ name_at cells k
 name_stays cells more head k table h =
     let same : cell_at (cells ++ more) k ≡ cell_at cells k = get_or_append_left cells more More k (tested_inside is_id_cell refl cells k h) in
     let n = table.chained.named k h in
-    let is : tagged_of (get_or (words_in (cell_at cells k)) 0 0) ≡ n.text = held_is (get_or (words_in (cell_at cells k)) 0 0) n.text n.is in
+    let is : tagged_of (get_or (words_in (cell_at cells k)) 0 0) ≡ n.text = held_some (get_or (words_in (cell_at cells k)) 0 0) n.text n.is in
     ap (λ c. bytes_of (cells ++ more) (tagged_of (get_or (words_in c) 0 0))) same ∙ (ap (bytes_of (cells ++ more)) is ∙ (text_stays cells more n.text n.string ∙ ap (bytes_of cells) (sym is)))
 
 pub named_is_id : (cells : List Cell) (head : Option Tagged) (bytes : List ℕ) (id : Tagged) → IsTable cells head → IsNamed cells head bytes id → is_id cells id ≡ true
