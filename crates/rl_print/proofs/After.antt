@@ -89,7 +89,7 @@ value_after g print h inner (Ref r) l p = object_after print h inner (slice_get 
 value_after g print h inner (Int z) l p = atom_after g (Int z) p
 value_after g print h inner (Id i) l p = atom_after g (Id i) p
 value_after g print h inner (Str bytes) l p = atom_after g (Str bytes) p
-value_after g print h inner (Fun f) l p = atom_after g (Fun f) p
+value_after g print h inner (Fun f place) l p = atom_after g (Fun f place) p
 
 dotted_after : (g : Setting) (v : Value) (p : Progress) → IsAfter p (dotted_atom g v p)
 dotted_after g v p =
@@ -115,7 +115,7 @@ rest_after g print h (Ref r) l p = rest_object_after print h (slice_get g.store 
 rest_after g print h (Id i) l p = id_rest_after g i p (i == g.nil)
 rest_after g print h (Int z) l p = dotted_after g (Int z) p
 rest_after g print h (Str bytes) l p = dotted_after g (Str bytes) p
-rest_after g print h (Fun f) l p = dotted_after g (Fun f) p
+rest_after g print h (Fun f place) l p = dotted_after g (Fun f place) p
 
 pub job_after : (g : Setting) (n : ℕ) → GoesOn (job_printed g n)
 job_after g zero job l q = after_same q _ (le_refl q.turns) refl

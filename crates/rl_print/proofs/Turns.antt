@@ -55,7 +55,7 @@ value_same s f g n a h inner (Ref r) l p m = object_same f g n a h inner (slice_
 value_same s f g n a h inner (Int z) l p m = refl
 value_same s f g n a h inner (Id i) l p m = refl
 value_same s f g n a h inner (Str bytes) l p m = refl
-value_same s f g n a h inner (Fun k) l p m = refl
+value_same s f g n a h inner (Fun k place) l p m = refl
 
 rest_object_same : (f g : Printer) (n : ℕ) → Agree f g n → GoesOn g → (o : Option Object) (l : ℕ) (p : Progress) → p.turns ≤ n → rest_object f o l p ≡ rest_object g o l p
 rest_object_same f g n a h None l p m = refl
@@ -67,7 +67,7 @@ rest_same s f g n a h (Ref r) l p m = rest_object_same f g n a h (slice_get s.st
 rest_same s f g n a h (Id i) l p m = refl
 rest_same s f g n a h (Int z) l p m = refl
 rest_same s f g n a h (Str bytes) l p m = refl
-rest_same s f g n a h (Fun k) l p m = refl
+rest_same s f g n a h (Fun k place) l p m = refl
 
 pub job_same : (s : Setting) (n m : ℕ) (job : Job) (l : ℕ) (q : Progress) → q.turns < n → q.turns < m → job_printed s n job l q ≡ job_printed s m job l q
 job_same s zero m job l q h k = absurd (omega arith)

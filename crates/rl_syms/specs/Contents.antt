@@ -1,5 +1,5 @@
--- What a list of cells means: its values, and the objects in the order of their making. Strings and integers are what they hold, pairs and vectors have the number of their making, and identifiers and held functions that of their place.
-use Rattle.std.specs.Prelude.{ℕ, ◌+◌, List, [], ◌∷◌, map, take}
+-- What a list of cells means: its values, and the objects in the order of their making. Strings and integers are what they hold, pairs and vectors have the number of their making, and identifiers and held functions that of their place; a function pointer is a function and a place in it.
+use Rattle.std.specs.Prelude.{ℕ, ◌+◌, ◌/◌, ◌%◌, ◌^◌, List, [], ◌∷◌, map, take}
 use Rattle.std.specs.List.{flat_map}
 use Rattle.rl_tags.specs.Tagged.{Tagged, Number, IdAt, StrAt, PairAt, VectorAt, BigAt, FunAt}
 use Rattle.rl_cells.specs.Cell.{Cell, PairCell, VectorCell, cell_at, bytes_in, big_in}
@@ -26,7 +26,7 @@ value_of cells (StrAt k) = Str (bytes_in (cell_at cells k))
 value_of cells (PairAt k) = Ref (number_at cells k)
 value_of cells (VectorAt k) = Ref (number_at cells k)
 value_of cells (BigAt k) = Int (big_in (cell_at cells k))
-value_of cells (FunAt k) = Fun k
+value_of cells (FunAt k) = Fun (k % 2 ^ 32) (k / 2 ^ 32)
 
 -- the object that a cell begins, by the meaning of the values in it
 abbrev pub object_in : (Tagged → Value) → Cell → List Object

@@ -36,5 +36,5 @@ abbrev pub atom_text : Style → (ℕ → List ℕ) → Value → List ℕ
 atom_text style names (Int z) = signed_decimal z
 atom_text style names (Id i) = name_text style (names i)
 atom_text style names (Str bytes) = string_text style bytes
-atom_text style names (Fun h) = codes "#[function]"
+atom_text style names (Fun f place) = codes "#[function]"
 atom_text style names (Ref r) = []

@@ -104,7 +104,7 @@ value_printed g print inner (Ref r) levels p = object_printed print inner (slice
 value_printed g print inner (Int z) levels p = with_atom_of g (Int z) p
 value_printed g print inner (Id i) levels p = with_atom_of g (Id i) p
 value_printed g print inner (Str bytes) levels p = with_atom_of g (Str bytes) p
-value_printed g print inner (Fun h) levels p = with_atom_of g (Fun h) p
+value_printed g print inner (Fun f place) levels p = with_atom_of g (Fun f place) p
 
 -- ` . `, an atom, and `)`
 abbrev pub dotted_atom : Setting → Value → Progress → Progress
@@ -121,7 +121,7 @@ rest_printed g print (Ref r) levels p = rest_object print (slice_get g.store r) 
 rest_printed g print (Id i) levels p = if i == g.nil then marked (41 ∷ []) p else dotted_atom g (Id i) p
 rest_printed g print (Int z) levels p = dotted_atom g (Int z) p
 rest_printed g print (Str bytes) levels p = dotted_atom g (Str bytes) p
-rest_printed g print (Fun h) levels p = dotted_atom g (Fun h) p
+rest_printed g print (Fun f place) levels p = dotted_atom g (Fun f place) p
 
 -- a job, by the turns that may still be taken
 abbrev pub job_printed : Setting → ℕ → Printer

@@ -1,13 +1,13 @@
 -- Values and stores, without tags or addresses (Standard Lisp Report 1979, data types). Identifiers and objects are numbered by their making.
 use Rattle.std.specs.Prelude.{ℕ, ℤ, List, [], ◌∷◌, ◌++◌, length, slice_set}
 
--- an integer, the identifier that was made i-th, a string by its bytes, a reference to the object that was made r-th, or a function pointer
+-- an integer, the identifier that was made i-th, a string by its bytes, a reference to the object that was made r-th, or a function pointer: the function that was made f-th, and a place in it, which is 0 for the function itself and i + 1 for the part at node i of its body
 pub data Value : Type 0 where
   Int : ℤ → Value
   Id : ℕ → Value
   Str : List ℕ → Value
   Ref : ℕ → Value
-  Fun : ℕ → Value
+  Fun : ℕ → ℕ → Value
 
 -- a pair, or a vector by its elements
 pub data Object : Type 0 where
