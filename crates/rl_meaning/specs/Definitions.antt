@@ -1,26 +1,20 @@
 -- Definitions and declarations: PUTD, GETD and REMD, and the kinds of variables (Standard Lisp Report 1979, functions; the order of tests is this project's).
-use Rattle.std.specs.Prelude.{ℕ, ◌==◌, ◌||◌, Bool, true, false, if◌then◌else◌, slice_index_or, Option, Some, None}
+use Rattle.std.specs.Prelude.{ℕ, ◌==◌, ◌||◌, Bool, true, false, if◌then◌else◌, Option, Some, None}
 use Rattle.rl_tree.specs.Value.{Value, Id, Fun}
 use Rattle.rl_tree.specs.declared.held.Kind.{Kind}
 use Rattle.rl_tree.specs.declared.held.Kind.TheVariants.{Expr, Fexpr, Macro}
 use Rattle.rl_tree.specs.declared.held.VarKind.{VarKind}
 use Rattle.rl_tree.specs.declared.held.VarKind.TheVariants.{Plain, Fluid, Global}
-use Rattle.rl_meaning.specs.Names.{Quote}
-use Rattle.rl_meaning.specs.State.{State, Definition, Function, SpecialForm, NativeFunction, HeldFunction}
+use Rattle.rl_meaning.specs.State.{State, Pointer, Definition, Function, SpecialForm, NativeFunction, HeldFunction}
 use Rattle.rl_meaning.specs.Outcome.{Outcome, Done, then_do, choose, Levels, made_pair}
 use Rattle.rl_meaning.specs.Symbols.{nil, lambda_id, is_constant, symbol_at, with_symbol, pair_at}
 use Rattle.rl_meaning.specs.Errors.{fail, wrong_type, badly_formed, not_bindable, system_name}
 use Rattle.rl_meaning.specs.Constants.{reading, reading_pair}
-use Rattle.rl_meaning.specs.Holding.{hold_function, fits_kind}
+use Rattle.rl_meaning.specs.Holding.{hold_function, fits_kind, pointer_value, pointer_to, function_at}
 use Rattle.rl_meaning.specs.Properties.{of_identifier, with_identifier, for_each}
 use Rattle.rl_meaning.specs.Variables.{assigned_by_name}
 use Rattle.rl_meaning.specs.Reach.{with_change}
-use Rattle.rl_meaning.specs.Compiling.{defined}
-
--- ---- functions by their number
-
-abbrev pub function_at : State → ℕ → Function
-function_at s f = slice_index_or s.functions f (SpecialForm Quote)
+use Rattle.rl_meaning.specs.Standing.{with_standing_codes}
 
 -- EXPR, FEXPR and MACRO, by their numbers among the identifiers of opening
 abbrev pub kind_named : ℕ → Option Kind
@@ -31,18 +25,18 @@ kind_name Expr = Id 24
 kind_name Fexpr = Id 25
 kind_name Macro = Id 26
 
--- the name has this definition, or none; the change may turn under a running function
+-- the name has this definition, or none; the change may turn under a running function, and codes that rest on what stood before are gone
 abbrev pub with_definition : ℕ → Option Definition → State → State
-with_definition i d s = with_symbol i (record (symbol_at s i) { definition = d }) (with_change i d s)
+with_definition i d s = with_standing_codes i (with_symbol i (record (symbol_at s i) { definition = d }) (with_change i d s))
 
 -- a definition takes the place of the one before
-abbrev pub define : ℕ → Kind → ℕ → State → State
-define i kind f s = with_definition i (Some (record { kind = kind; function = f })) s
+abbrev pub define : ℕ → Kind → Pointer → State → State
+define i kind p s = with_definition i (Some (record { kind = kind; function = p })) s
 
 -- the pair of the type and the function pointer
 abbrev pub definition_pair : Option Definition → State → Outcome Value
 definition_pair None s = Done nil s
-definition_pair (Some d) s = made_pair (kind_name d.kind) (Fun d.function) s
+definition_pair (Some d) s = made_pair (kind_name d.kind) (pointer_value d.function) s
 
 abbrev pub getd : Value → State → Outcome Value
 getd f s = of_identifier f nil s (λ i s. definition_pair (symbol_at s i).definition s)
@@ -51,7 +45,7 @@ getd f s = of_identifier f nil s (λ i s. definition_pair (symbol_at s i).defini
 
 -- what a body may be: the pointer of a function, or a list whose CAR is LAMBDA and whose CDR is this
 pub data Body : Type 0 where
-  Pointer : ℕ → Body
+  Given : Pointer → Body
   Lambda : Value → Body
 
 abbrev pub lambda_body : Option (Value × Value) → Option Body
@@ -66,7 +60,7 @@ may_define kind (HeldFunction held) = true
 
 -- the body, where it is of a right type
 abbrev pub body_in : State → Kind → Value → Option Body
-body_in s kind (Fun f) = if may_define kind (function_at s f) then Some (Pointer f) else None
+body_in s kind (Fun f place) = let p : Pointer = record { function = f; place = place } in if may_define kind (function_at s p) then Some (Given p) else None
 body_in s kind b = lambda_body (pair_at s b)
 
 abbrev pub with_kind : {A : Type 0} → Option Kind → Value → State → (Kind → State → Outcome A) → Outcome A
@@ -93,9 +87,9 @@ abbrev pub hold_lambda : Kind → Levels → Option (Value × Value) → State �
 hold_lambda kind levels (Some parts) s = hold_function kind levels parts.0 parts.1 s
 hold_lambda kind levels None s = fail badly_formed (Id lambda_id) s
 
-abbrev pub function_of : Kind → Levels → Body → State → Outcome ℕ
-function_of kind levels (Pointer f) s = choose (fits_function kind (function_at s f)) s (λ s. Done f s) (λ s. fail badly_formed (Id lambda_id) s)
-function_of kind levels (Lambda rest) s = hold_lambda kind levels (pair_at s rest) (reading rest s)
+abbrev pub function_of : Kind → Levels → Body → State → Outcome Pointer
+function_of kind levels (Given p) s = choose (fits_function kind (function_at s p)) s (λ s. Done p s) (λ s. fail badly_formed (Id lambda_id) s)
+function_of kind levels (Lambda rest) s = then_do (hold_lambda kind levels (pair_at s rest) (reading rest s)) (λ f s. Done (pointer_to f) s)
 
 -- the types of the arguments are tested first, then the name, then the body
 abbrev pub putd : Levels → Value → Value → Value → State → Outcome Value
@@ -104,7 +98,7 @@ putd levels f t b s =
     with_kind (kind_of t) t s (λ kind s.
     with_body (body_in s kind b) b (reading_pair b s) (λ body s.
     own_name i s (λ s.
-    then_do (function_of kind levels body s) (λ g s. Done f (defined i (define i kind g s)))))))
+    then_do (function_of kind levels body s) (λ p s. Done f (define i kind p s))))))
 
 abbrev pub remd : Value → State → Outcome Value
 remd f s =

@@ -1,24 +1,24 @@
 -- Evaluation and application, by the cases of the form (Standard Lisp Report 1979, EVAL and APPLY; turns, levels, cells and expansions are this project's). What takes a turn, or goes on in an expansion, is asked for as a job.
-use Rattle.std.specs.Prelude.{ℕ, zero, suc, pos, ◌+◌, ◌*◌, ◌/◌, Bool, true, false, ◌==◌, if◌then◌else◌, List, [], ◌∷◌, ◌++◌, length, Option, Some, None}
+use Rattle.std.specs.Prelude.{ℕ, zero, suc, pos, ◌/◌, Bool, true, false, ◌==◌, if◌then◌else◌, List, [], ◌∷◌, ◌++◌, length, Option, Some, None}
 use Rattle.rl_tree.specs.Value.{Value, Int, Id, Fun}
 use Rattle.rl_tree.specs.declared.held.Kind.{Kind}
 use Rattle.rl_tree.specs.declared.held.Kind.TheVariants.{Expr, Fexpr, Macro}
-use Rattle.rl_meaning.specs.Names.{Native, Special, Quote, Cond, Progn, And, Or, Setq, Prog, Go, Return, List_, Plus, Times, Max, Min, De, Df, Dm, Number, Plus2, Times2, Max2, Min2, Operation, Eval, Errorset, Apply, Compile, Faslout, Load, arguments_of}
+use Rattle.rl_meaning.specs.Names.{Native, Special, Quote, Cond, Progn, And, Or, Setq, Prog, Go, Return, List_, Plus, Times, Max, Min, De, Df, Dm, Number, Plus2, Times2, Max2, Min2, Operation, Putd, Eval, Errorset, Apply, Compile, Faslout, Load, arguments_of}
 use Rattle.rl_meaning.specs.Names as names
-use Rattle.rl_meaning.specs.State.{State, Tree, Atom, Quoted, Pair, Literal, Kept, Held, Definition, Function, SpecialForm, NativeFunction, HeldFunction, Expansion}
-use Rattle.rl_meaning.specs.Outcome.{Outcome, Done, Failed, Went, Returned, Stopped, Turns, Expands, then_do, choose, turn, Levels, deeper, made_pair}
+use Rattle.rl_meaning.specs.State.{State, Code, Tree, Atom, Quoted, Pair, Literal, Kept, Held, Pointer, Definition, Function, SpecialForm, NativeFunction, HeldFunction, Expansion}
+use Rattle.rl_meaning.specs.Outcome.{Outcome, Done, Failed, Went, Returned, Stopped, Expands, then_do, choose, turn, Levels, deeper, made_pair}
 use Rattle.rl_meaning.specs.Symbols.{nil, is_nil, lambda_id, return_id, truth, pair_at, symbol_at}
 use Rattle.rl_meaning.specs.Errors.{fail, undefined, wrong_count, wrong_type, misplaced, badly_formed}
 use Rattle.rl_meaning.specs.Constants.{reading, reading_pair}
-use Rattle.rl_meaning.specs.Holding.{function_id, hold_form, hold_expansion, elements_of, tree_identifiers, is_list}
+use Rattle.rl_meaning.specs.Holding.{function_id, hold_form, hold_expansion, elements_of, tree_identifiers, is_list, pointer_value, pointer_to, function_at}
 use Rattle.rl_meaning.specs.Copying.{copied}
 use Rattle.rl_meaning.specs.Variables.{variable, assigned, with_mark, restored, binding}
 use Rattle.rl_meaning.specs.Numbers.{operated}
 use Rattle.rl_meaning.specs.Atoms.{proper}
-use Rattle.rl_meaning.specs.Definitions.{function_at, define, own_name, hold_lambda}
+use Rattle.rl_meaning.specs.Definitions.{define, own_name, hold_lambda}
 use Rattle.rl_meaning.specs.Printing.{print_error, note_value, note_error}
 use Rattle.rl_meaning.specs.Natives.{native, argument}
-use Rattle.rl_meaning.specs.Compiling.{requests_taken, defined, compile_names, write_file, load_file}
+use Rattle.rl_meaning.specs.Compiling.{Compiler}
 use Rattle.rl_meaning.specs.Forms.{Form, Call, Applied, Bad, head_of, count_of, call_levels, fits, lambda_parameters, after_label, hold_part}
 
 -- ---- where a form stands
@@ -28,11 +28,12 @@ pub data Position : Type 0 where
   Statement : Position
   Inside : Position
 
--- the levels that are left, the expansions that the chain may still have, and the kinds that the held form keeps
+-- the levels that are left, the expansions that the chain may still have, the kinds that the held form keeps, and the function whose body has the form
 pub record Here : Type 0 where
   pub levels : Levels
   pub chain : ℕ
   pub kept : List Kept
+  pub holder : ℕ
 
 -- the longest chain of expansions
 abbrev pub longest_chain : ℕ
@@ -45,15 +46,41 @@ expansion_turns = 100000
 abbrev pub expansion_cells : ℕ
 expansion_cells = 1000000
 
--- what is asked for: a body, by the name that called it, or a held form; a function on arguments, for APPLY; the statements of a PROG from a label on; an expansion in place of its form
+-- ---- code that runs
+
+-- bindings that one c-macro made, and the levels before them
+pub record Bound : Type 0 where
+  pub count : ℕ
+  pub levels : Levels
+
+-- the registers and slots, the bindings that are not undone, the newest first, and the levels that are left
+pub record Machine : Type 0 where
+  pub registers : List Value
+  pub slots : List Value
+  pub bound : List Bound
+  pub levels : Levels
+
+-- what stays while code runs: its name, function and held form, its c-macros, how many bindings there were, and the levels outside
+pub record Frame : Type 0 where
+  pub name : ℕ
+  pub function : Option Pointer
+  pub held : Held
+  pub code : Code
+  pub depth : ℕ
+  pub outside : Levels
+
+-- what is asked for: an application that has taken its turn and its level, by the name that called it, with the function whose body it has, and with what its mark names; code from a label on; a function on arguments, for APPLY; the statements of a PROG from a label on; a held form, or an expansion in place of its form
 pub data Job : Type 0 where
-  Body : Option ℕ → Here → Tree → Job
-  Call_ : Option ℕ → Levels → ℕ → List Value → Job
+  Run : Option ℕ → Levels → ℕ → Option Pointer → Held → List Value → Job
+  Onward : Frame → Machine → Code → Job
+  Call_ : Option ℕ → Levels → Pointer → List Value → Job
   From : Here → Tree → Tree → Job
   In : Here → Position → Tree → Job
 
-abbrev pub Rec : Type 0
-Rec = Job → State → Outcome Value
+-- how jobs are done that are asked for, and what compilation does
+pub record Rec : Type 0 where
+  pub compiler : Compiler
+  pub ask : Job → State → Outcome Value
 
 -- ---- small parts
 
@@ -113,12 +140,12 @@ caught levels msgp other = other
 
 -- what is applied: a function, by the name or the pointer that gives it; or a LAMBDA list, by what stands behind LAMBDA
 pub data Target : Type 0 where
-  Function_ : Option ℕ → ℕ → Target
+  Function_ : Option ℕ → Pointer → Target
   Lambda : Value → Target
   Undefined : Target
   WrongType : Target
 
-abbrev pub target_function : Option ℕ → ℕ → Function → Target
+abbrev pub target_function : Option ℕ → Pointer → Function → Target
 target_function name f (SpecialForm form) = WrongType
 target_function name f other = Function_ name f
 
@@ -132,7 +159,7 @@ target_pair other = WrongType
 
 abbrev pub target_of : Value → State → Target
 target_of (Id i) s = target_definition i (symbol_at s i).definition s
-target_of (Fun f) s = target_function None f (function_at s f)
+target_of (Fun f place) s = let p : Pointer = record { function = f; place = place } in target_function None p (function_at s p)
 target_of v s = target_pair (pair_at s v)
 
 abbrev pub with_arguments : {A : Type 0} → Option (List Value) → Value → State → (List Value → State → Outcome A) → Outcome A
@@ -154,26 +181,21 @@ of_none form = Int (pos 0)
 module _ (rec : Rec) where
   -- ---- application
 
-  -- the body of a held function: its mark, its parameters bound in order, and former bindings back on every way out
-  abbrev pub held_body : Option ℕ → Levels → Option ℕ → Held → List Value → State → Outcome Value
-  held_body name levels f held vs s =
-      restored (length s.bindings) (binding levels held.kept held.parameters vs (with_mark f s)
-      (λ levels s. rec (Body name (record { levels = levels; chain = longest_chain; kept = held.kept }) held.body) s))
-
-  abbrev pub held_applied : Option ℕ → Levels → Option ℕ → Held → List Value → State → Outcome Value
-  held_applied name levels f held vs s = turn s (λ s. deeper 1 levels (requests_taken name s) (λ levels. held_body name levels f held vs (requests_taken name s)))
+  abbrev pub held_applied : Option ℕ → Levels → ℕ → Option Pointer → Held → List Value → State → Outcome Value
+  held_applied name levels holder f held vs s =
+      turn s (λ s. let s = rec.compiler.requests_taken name s in deeper 1 levels s (λ levels. rec.ask (Run name levels holder f held vs) s))
 
   -- a held form that is evaluated once, with a mark and no variables
-  abbrev pub form_evaluated : Levels → Function → State → Outcome Value
-  form_evaluated levels (HeldFunction held) s =
-      restored (length s.bindings) (rec (Body None (record { levels = levels; chain = longest_chain; kept = held.kept }) held.body) (with_mark None s))
-  form_evaluated levels other s = Done nil s
+  abbrev pub form_evaluated : Levels → ℕ → Function → State → Outcome Value
+  form_evaluated levels f (HeldFunction held) s =
+      restored (length s.bindings) (rec.ask (In (record { levels = levels; chain = longest_chain; kept = held.kept; holder = f }) Inside held.body) (with_mark None s))
+  form_evaluated levels f other s = Done nil s
 
   abbrev pub evaluated : Levels → Value → State → Outcome Value
-  evaluated levels u s = turn s (λ s. then_do (hold_form levels u s) (λ f s. form_evaluated levels (function_at s f) s))
+  evaluated levels u s = turn s (λ s. then_do (hold_form levels u s) (λ f s. form_evaluated levels f (function_at s (pointer_to f)) s))
 
   abbrev pub errorset : Levels → Value → Value → State → Outcome Value
-  errorset levels u msgp s = turn s (λ s. then_do (hold_form levels u s) (λ f s. caught levels msgp (form_evaluated levels (function_at s f) s)))
+  errorset levels u msgp s = turn s (λ s. then_do (hold_form levels u s) (λ f s. caught levels msgp (form_evaluated levels f (function_at s (pointer_to f)) s)))
 
   abbrev pub counted : Bool → Value → State → (State → Outcome Value) → Outcome Value
   counted true culprit s next = next s
@@ -181,13 +203,13 @@ module _ (rec : Rec) where
 
   -- the held form of a LAMBDA list is no body that turns: its mark names no function
   abbrev pub list_applied : Levels → ℕ → Function → List Value → State → Outcome Value
-  list_applied levels f (HeldFunction held) vs s = counted (length held.parameters == length vs) (Fun f) s (λ s. held_applied None levels None held vs s)
+  list_applied levels f (HeldFunction held) vs s = counted (length held.parameters == length vs) (pointer_value (pointer_to f)) s (λ s. held_applied None levels f None held vs s)
   list_applied levels f other vs s = Done nil s
 
   -- APPLY: first the tests of f, then the walk of l, its levels, and the holding of a LAMBDA list
   abbrev pub applied_to : Levels → Target → List Value → State → Outcome Value
-  applied_to levels (Function_ name f) vs s = rec (Call_ name levels f vs) s
-  applied_to levels (Lambda rest) vs s = then_do (hold_lambda Expr levels (pair_at s rest) (reading rest s)) (λ f s. list_applied levels f (function_at s f) vs s)
+  applied_to levels (Function_ name f) vs s = rec.ask (Call_ name levels f vs) s
+  applied_to levels (Lambda rest) vs s = then_do (hold_lambda Expr levels (pair_at s rest) (reading rest s)) (λ f s. list_applied levels f (function_at s (pointer_to f)) vs s)
   applied_to levels other vs s = Done nil s
 
   abbrev pub apply_target : Levels → Target → Value → Value → State → Outcome Value
@@ -205,23 +227,24 @@ module _ (rec : Rec) where
   native_applied Eval levels vs s = evaluated levels (argument vs 0) s
   native_applied Errorset levels vs s = errorset levels (argument vs 0) (argument vs 1) s
   native_applied Apply levels vs s = apply levels (argument vs 0) (argument vs 1) s
-  native_applied Compile levels vs s = compile_names vs s
-  native_applied Faslout levels vs s = write_file vs s
-  native_applied Load levels vs s = load_file vs s
+  native_applied Putd levels vs s = then_do (native Putd levels vs s) (λ v s. Done v (rec.compiler.defined v s))
+  native_applied Compile levels vs s = rec.compiler.compile_names vs s
+  native_applied Faslout levels vs s = rec.compiler.write_file vs s
+  native_applied Load levels vs s = rec.compiler.load_file vs s
   native_applied other levels vs s = native other levels vs s
 
   -- the culprit of a wrong number of arguments: the name that was called, or the function pointer
-  abbrev pub called_as : Option ℕ → ℕ → Value
-  called_as (Some i) f = Id i
-  called_as None f = Fun f
+  abbrev pub called_as : Option ℕ → Pointer → Value
+  called_as (Some i) p = Id i
+  called_as None p = pointer_value p
 
-  abbrev pub function_applied : Option ℕ → Levels → ℕ → Function → List Value → State → Outcome Value
-  function_applied name levels f (SpecialForm form) vs s = fail wrong_type (called_as name f) s
-  function_applied name levels f (NativeFunction n) vs s = counted (arguments_of n == length vs) (called_as name f) s (λ s. native_applied n levels vs s)
-  function_applied name levels f (HeldFunction held) vs s = counted (length held.parameters == length vs) (called_as name f) s (λ s. held_applied name levels (Some f) held vs s)
+  abbrev pub function_applied : Option ℕ → Levels → Pointer → Function → List Value → State → Outcome Value
+  function_applied name levels p (SpecialForm form) vs s = fail wrong_type (called_as name p) s
+  function_applied name levels p (NativeFunction n) vs s = counted (arguments_of n == length vs) (called_as name p) s (λ s. native_applied n levels vs s)
+  function_applied name levels p (HeldFunction held) vs s = counted (length held.parameters == length vs) (called_as name p) s (λ s. held_applied name levels p.function (Some p) held vs s)
 
-  abbrev pub applied : Option ℕ → Levels → ℕ → List Value → State → Outcome Value
-  applied name levels f vs s = function_applied name levels f (function_at s f) vs s
+  abbrev pub applied : Option ℕ → Levels → Pointer → List Value → State → Outcome Value
+  applied name levels p vs s = function_applied name levels p (function_at s p) vs s
 
   -- a name that is called: its definition is read once more, whatever kind it has now
   abbrev pub name_applied : ℕ → Levels → Option Definition → List Value → State → Outcome Value
@@ -243,12 +266,12 @@ module _ (rec : Rec) where
       closed (then_do (copied here.levels form (with_expansion i s)) (λ list s.
       then_do (called i here.levels (list ∷ []) s) (λ v s. hold_expansion here.levels here.kept v s)))
 
-  abbrev pub expanded_body : Here → Position → Function → State → Outcome Value
-  expanded_body here position (HeldFunction held) s = rec (In here position held.body) s
-  expanded_body here position other s = Done nil s
+  abbrev pub expanded_body : Here → Position → ℕ → Function → State → Outcome Value
+  expanded_body here position f (HeldFunction held) s = rec.ask (In (record here { holder = f }) position held.body) s
+  expanded_body here position f other s = Done nil s
 
   abbrev pub macro_called : ℕ → Here → Position → Tree → State → Outcome Value
-  macro_called i here position form s = then_do (expansion_of i here form s) (λ f s. expanded_body here position (function_at s f) s)
+  macro_called i here position form s = then_do (expansion_of i here form s) (λ f s. expanded_body here position f (function_at s (pointer_to f)) s)
 
   -- the macro form past the longest chain stops the run, before its levels are entered
   abbrev pub in_chain : {A : Type 0} → ℕ → ℕ → State → (ℕ → State → Outcome A) → Outcome A
@@ -258,7 +281,7 @@ module _ (rec : Rec) where
   -- ---- PROG
 
   abbrev pub jumped : Here → Tree → ℕ → Option Tree → State → Outcome Value
-  jumped here whole l (Some rest) s = turn s (λ s. rec (From here whole rest) s)
+  jumped here whole l (Some rest) s = turn s (λ s. rec.ask (From here whole rest) s)
   jumped here whole l None s = fail misplaced (Id l) s
 
   -- what a PROG makes of the outcome of a statement
@@ -271,10 +294,14 @@ module _ (rec : Rec) where
 
   -- ---- definitions
 
-  abbrev pub define_function : Special → Here → Tree → State → Outcome Value
-  define_function form here (Pair (Atom (Id i)) (Pair parameters forms)) s =
-      own_name i s (λ s. then_do (hold_part (kind_of_definition form) here.levels parameters forms s) (λ f s. Done (Id i) (defined i (define i (kind_of_definition form) f s))))
-  define_function form here args s = Done nil s
+  -- the name gets this function
+  abbrev pub function_defined : Special → ℕ → Outcome ℕ → Outcome Value
+  function_defined form i held = then_do held (λ f s. Done (Id i) (rec.compiler.defined (Id i) (define i (kind_of_definition form) (pointer_to f) s)))
+
+  abbrev pub define_function : Special → Levels → Tree → State → Outcome Value
+  define_function form levels (Pair (Atom (Id i)) (Pair parameters forms)) s =
+      own_name i s (λ s. function_defined form i (hold_part (kind_of_definition form) levels parameters forms s))
+  define_function form levels args s = Done nil s
 
   -- ---- lists of values
 
@@ -303,7 +330,7 @@ module _ (rec : Rec) where
     eval here position (Atom (Id x)) s = variable x s
     eval here position (Atom v) s = Done v s
     eval here position (Quoted v) s = Done v s
-    eval here position (Literal n e) s = deeper_here 1 here s (λ here. Done (Fun n) s)
+    eval here position (Literal n e) s = deeper_here 1 here s (λ here. Done (Fun here.holder (suc n)) s)
     eval here position (Pair (Pair h lambda) args) s = elim (head_of (Pair h lambda) s) [
       | Applied ↦ applied_lambda here (lambda_parameters lambda args) (count_of args) (λ here next s. arguments here [] next args s) lambda s
       | Bad culprit ↦ deeper_here 1 here s (λ here. bad_form culprit s)
@@ -337,9 +364,9 @@ module _ (rec : Rec) where
             | Times ↦ combined Times here args s
             | Max ↦ combined Max here args s
             | Min ↦ combined Min here args s
-            | De ↦ define_function De here args s
-            | Df ↦ define_function Df here args s
-            | Dm ↦ define_function Dm here args s
+            | De ↦ define_function De here.levels args s
+            | Df ↦ define_function Df here.levels args s
+            | Dm ↦ define_function Dm here.levels args s
           ])
           (λ s. bad_form (atom_in head) s))
     ]
@@ -421,37 +448,8 @@ module _ (rec : Rec) where
         operated (operation_of form) (v ∷ w ∷ []) s))
     combined_rest form here v end s = Done v s
 
-  -- a job, with the jobs that it asks for
-  abbrev pub job_done : Job → State → Outcome Value
-  job_done (Body name here body) s = eval here Inside body s
-  job_done (Call_ name levels f vs) s = applied name levels f vs s
-  job_done (From here whole rest) s = statements here whole rest s
-  job_done (In here position body) s = eval here position body s
-
--- ---- jobs, by what is left to do: each job that a job asks for has less
-
--- each turn may have a whole chain of expansions, and the run an expansion with its turns behind its last one
-abbrev pub rank_of : ℕ → Option Expansion → ℕ → ℕ
-rank_of chain None turns = turns * (longest_chain + 1) + chain + (expansion_turns + 1) * (longest_chain + 1)
-rank_of chain (Some e) turns = e.turns * (longest_chain + 1) + chain
-
-abbrev pub chain_of : Job → ℕ
-chain_of (Body name here body) = here.chain
-chain_of (Call_ name levels f vs) = longest_chain
-chain_of (From here whole rest) = here.chain
-chain_of (In here position body) = here.chain
-
-abbrev pub rank : Job → State → ℕ
-rank j s = rank_of (chain_of j) s.counts.expansion s.counts.turns
-
-abbrev pub job_at : ℕ → Job → State → Outcome Value
-job_at zero j s = Stopped Turns s
-job_at (suc n) j s = job_done (λ k s. job_at n k s) j s
-
--- a job: its rank is fuel enough
-unfoldable pub job : Rec
-job j s = job_at (suc (rank j s)) j s
-
--- the value of a held form, at a level
-abbrev pub evaluate : Here → Tree → State → Outcome Value
-evaluate here form s = eval job here Inside form s
+  -- a held function is walked: its mark, its parameters bound in order, its body, and former bindings back on every way out
+  abbrev pub walked : Levels → ℕ → Option Pointer → Held → List Value → State → Outcome Value
+  walked levels holder f held vs s =
+      restored (length s.bindings) (binding levels held.kept held.parameters vs (with_mark f s)
+      (λ levels s. eval (record { levels = levels; chain = longest_chain; kept = held.kept; holder = holder }) Inside held.body s))

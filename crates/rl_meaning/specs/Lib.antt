@@ -1,4 +1,5 @@
 pub mod Names
+pub mod CMacros
 pub mod State
 pub mod Outcome
 pub mod Symbols
@@ -9,6 +10,7 @@ pub mod Walks
 pub mod Holding
 pub mod Copying
 pub mod Reach
+pub mod Standing
 pub mod Compiling
 pub mod Variables
 pub mod Numbers
@@ -21,6 +23,8 @@ pub mod Input
 pub mod Natives
 pub mod Forms
 pub mod Evaluation
+pub mod Machine
+pub mod Jobs
 pub mod Opening
 pub mod Run
 pub mod Laws

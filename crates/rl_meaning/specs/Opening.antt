@@ -11,7 +11,7 @@ use Rattle.rl_meaning.specs.Names.{Special, special_named, native_named}
 use Rattle.rl_meaning.specs.State.{State, Symbol, Definition, Function, SpecialForm, NativeFunction}
 use Rattle.rl_meaning.specs.Outcome.{Outcome, Done, Failed, Went, Returned, Stopped, then_do}
 use Rattle.rl_meaning.specs.Symbols.{nil, message_id, is_constant, symbol_at, with_symbol, new_symbol, car_at, cdr_at}
-use Rattle.rl_meaning.specs.Holding.{hold_function}
+use Rattle.rl_meaning.specs.Holding.{hold_function, pointer_to}
 use Rattle.rl_meaning.specs.Definitions.{define}
 use Rattle.rl_meaning.specs.Input.{Reading, Form, read_bytes}
 
@@ -52,7 +52,7 @@ abbrev pub symbols_from : ℕ → ℕ → List Name → List Symbol
 symbols_from i f [] = []
 symbols_from i f (name ∷ names) = elim (system_function name) [
   | None ↦ symbol_at_opening i name None ∷ symbols_from (suc i) f names
-  | Some function ↦ symbol_at_opening i name (Some (record { kind = system_kind function; function = f })) ∷ symbols_from (suc i) (suc f) names
+  | Some function ↦ symbol_at_opening i name (Some (record { kind = system_kind function; function = pointer_to f })) ∷ symbols_from (suc i) (suc f) names
 ]
 
 abbrev pub byte_symbols : List Name → List Symbol
@@ -70,10 +70,11 @@ bare_state = record {
   symbols = symbols_from 0 0 opening_names ++ byte_symbols byte_names;
   functions = filter_map system_function opening_names;
   bindings = [];
-  counts = record { turns = opening_turns; cells = None; expansion = None };
+  counts = record { given = opening_turns; turns = opening_turns; cells = None; expansion = None };
   outside = record { files = λ name. None; input = []; taken = 0; output = []; column = 0; line_length = 80; notes = [] };
   gensyms = 0;
   watched = record { changes = []; event = None };
+  compilation = record { runs_code = false; answers = []; levels = None; requests = []; compiles_all = false; coded = [] };
 }
 
 -- ---- the prelude
@@ -102,7 +103,7 @@ abbrev pub with_system : ℕ → State → State
 with_system i s = with_symbol i (record (symbol_at s i) { system = true }) s
 
 abbrev pub define_named : Value → ℕ → State → State
-define_named (Id i) f s = with_system i (define i Expr f s)
+define_named (Id i) f s = with_system i (define i Expr (pointer_to f) s)
 define_named v f s = s
 
 -- a list (DE name parameters form ..) is held, and its name defined

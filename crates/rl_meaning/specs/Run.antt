@@ -7,11 +7,11 @@ use Rattle.rl_meaning.specs.State.{State, Function, HeldFunction, Files}
 use Rattle.rl_meaning.specs.Outcome.{Outcome, Done, Failed, Went, Returned, Stopped, Stop, Missing, then_do, Levels}
 use Rattle.rl_meaning.specs.Symbols.{nil}
 use Rattle.rl_meaning.specs.Errors.{error_text, unreadable}
-use Rattle.rl_meaning.specs.Holding.{hold_form}
-use Rattle.rl_meaning.specs.Definitions.{function_at}
+use Rattle.rl_meaning.specs.Holding.{hold_form, pointer_to, function_at}
 use Rattle.rl_meaning.specs.Printing.{page_of, with_page, print_mark, print_end_of_line, fresh_line, print_error}
 use Rattle.rl_meaning.specs.Input.{Reading, Form, End, Unreadable, read_bytes}
-use Rattle.rl_meaning.specs.Evaluation.{longest_chain, evaluate}
+use Rattle.rl_meaning.specs.Evaluation.{longest_chain}
+use Rattle.rl_meaning.specs.Jobs.{evaluate}
 use Rattle.rl_meaning.specs.Opening.{opened_state}
 
 -- the bounds of a run; no number of cells, and no levels, is no bound
@@ -32,12 +32,12 @@ pub record Ran : Type 0 where
 
 -- ---- a statement
 
-abbrev pub held_evaluated : Levels → Function → State → Outcome Value
-held_evaluated levels (HeldFunction held) s = evaluate (record { levels = levels; chain = longest_chain; kept = held.kept }) held.body s
-held_evaluated levels other s = Done nil s
+abbrev pub held_evaluated : Levels → ℕ → Function → State → Outcome Value
+held_evaluated levels f (HeldFunction held) s = evaluate (record { levels = levels; chain = longest_chain; kept = held.kept; holder = f }) held.body s
+held_evaluated levels f other s = Done nil s
 
 abbrev pub statement : Levels → Value → State → Outcome Value
-statement levels v s = then_do (hold_form levels v s) (λ f s. held_evaluated levels (function_at s f) s)
+statement levels v s = then_do (hold_form levels v s) (λ f s. held_evaluated levels f (function_at s (pointer_to f)) s)
 
 -- an error that no ERRORSET takes ends its statement, and its text is printed
 abbrev pub after_statement : Levels → Outcome Value → Outcome (Unit {0})
@@ -88,8 +88,9 @@ run_bytes levels bytes s = run_within (suc (length bytes)) levels (length bytes)
 -- the state in which a run with these bounds, over these files and this input, begins
 abbrev pub started : Limits → Files → List ℕ → State → State
 started limits files input s = record s {
-  counts = record { turns = limits.turns; cells = limits.cells; expansion = None };
+  counts = record { given = limits.turns; turns = limits.turns; cells = limits.cells; expansion = None };
   outside = record s.outside { files = files; input = input };
+  compilation = record s.compilation { levels = limits.levels };
 }
 
 -- the bytes of a file that are its source: no more are read

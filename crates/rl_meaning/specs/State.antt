@@ -5,10 +5,11 @@ use Rattle.rl_tree.specs.Name.{Name}
 use Rattle.rl_tree.specs.declared.held.Kind.{Kind}
 use Rattle.rl_tree.specs.declared.held.VarKind.{VarKind}
 use Rattle.rl_meaning.specs.Names.{Native, Special}
+use Rattle.rl_meaning.specs.CMacros.{CMacro}
 
 -- ---- functions
 
--- a held form: the pairs of a list down to its atoms. A quoted part is a leaf that stays the same object, and so is a vector, a string or a function pointer; a FUNCTION of a LAMBDA has the number of its function
+-- a held form: the pairs of a list down to its atoms. A quoted part is a leaf that stays the same object, and so is a vector, a string or a function pointer; a FUNCTION of a LAMBDA has its number among the nodes of its holder's body
 pub data Tree : Type 0 where
   Atom : Value → Tree
   Quoted : Value → Tree
@@ -27,6 +28,11 @@ pub record Held : Type 0 where
   pub body : Tree
   pub kept : List Kept
 
+-- a function by its number, and a place in it: 0 is the function itself, and i + 1 the part at node i of its body
+pub record Pointer : Type 0 where
+  pub function : ℕ
+  pub place : ℕ
+
 -- what a function pointer names
 pub data Function : Type 0 where
   SpecialForm : Special → Function
@@ -37,7 +43,7 @@ pub data Function : Type 0 where
 
 pub record Definition : Type 0 where
   pub kind : Kind
-  pub function : ℕ
+  pub function : Pointer
 
 -- an identifier: its name, whether texts find it by its name, whether its definition is the system's, the value below all bindings, and the rest of what it has
 pub record Symbol : Type 0 where
@@ -55,10 +61,10 @@ pub data Scope : Type 0 where
   Local : Scope
   Fluid : Scope
 
--- a binding of a variable; or the beginning of a function, by its number, or of an EVAL, an APPLY or an ERRORSET
+-- a binding of a variable; or the beginning of a function, or of an EVAL, an APPLY or an ERRORSET
 pub data Entry : Type 0 where
   Binding : ℕ → Scope → Value → Entry
-  Mark : Option ℕ → Entry
+  Mark : Option Pointer → Entry
 
 -- ---- counts
 
@@ -69,8 +75,9 @@ pub record Expansion : Type 0 where
   pub turns : ℕ
   pub cells : ℕ
 
--- the turns and the cells that the run has left; no number of cells is no bound
+-- the turns that the run was given, and the turns and the cells that it has left; no number of cells is no bound
 pub record Counts : Type 0 where
+  pub given : ℕ
   pub turns : ℕ
   pub cells : Option ℕ
   pub expansion : Option Expansion
@@ -91,7 +98,7 @@ pub record Outside : Type 0 where
   pub line_length : ℕ
   pub notes : List ℕ
 
--- ---- what is watched: nothing of it shows in what a program computes, and no equality of states speaks of it
+-- ---- what is watched: nothing that a program computes rests on it, so a clause over a world says what it says for any of it
 
 -- what compiled code may see otherwise, each by its name: a use of a variable that strays; or what turns, a definition that changes under a running function, or a macro whose expansion meets a changed constant
 pub data Event : Type 0 where
@@ -114,6 +121,43 @@ pub record Watched : Type 0 where
   pub changes : List Change
   pub event : Option Recorded
 
+-- ---- compilation
+
+abbrev pub Code : Type 0
+Code = List CMacro
+
+-- what a code rests on: a name that is called and is no FEXPR or MACRO; one that is called as an FEXPR; or a macro, or an EXPR that a macro uses, with its whole definition
+pub data Dependency : Type 0 where
+  Called Fexpr : ℕ → Dependency
+  Whole : ℕ → Kind → Pointer → Dependency
+
+-- a name whose standing definition, by its function, has code
+pub record Coded : Type 0 where
+  pub name : ℕ
+  pub function : Pointer
+  pub code : Code
+  pub dependencies : List Dependency
+  pub loaded : Bool
+
+-- what a compilation comes to that is not refused: no memory, or this code
+pub data Answer : Type 0 where
+  NoMemory : Answer
+  Made : Code → Answer
+
+-- the compilation of a name that waits for the first application of this turn or a later one
+pub record Request : Type 0 where
+  pub name : Name
+  pub turn : ℕ
+
+-- given: whether applications run code, or walk all functions; the answers of the compilations to come, in their order; the levels of a verdict's expansions. And what a run changes: the requests that wait, whether each definition is compiled, and the names with code
+pub record Compilation : Type 0 where
+  pub runs_code : Bool
+  pub answers : List Answer
+  pub levels : Option ℕ
+  pub requests : List Request
+  pub compiles_all : Bool
+  pub coded : List Coded
+
 -- ---- the state
 
 -- bindings stand the newest first
@@ -126,3 +170,4 @@ pub record State : Type 0 where
   pub outside : Outside
   pub gensyms : ℕ
   pub watched : Watched
+  pub compilation : Compilation
