@@ -1,0 +1,4 @@
+mod TwoRunsLinked
+mod TwoRunsGrowth
+mod TwoRunsWays
+mod TwoRunsObjects

@@ -1,5 +1,5 @@
 -- What a run leaves as it was, whatever it does: what was printed and noted, the first event, functions, objects but for changes that are noted, and that the codes of the map stand (this project's).
-use Rattle.std.specs.Prelude.{◌≡◌, ◌⊎◌, ◌≤◌, ◌<◌, ℕ, true, List, ◌∷◌, ◌++◌, length, slice_get, Option, Some}
+use Rattle.std.specs.Prelude.{◌≡◌, ◌⊎◌, ◌≤◌, ◌<◌, ℕ, true, List, ◌∷◌, ◌++◌, length, slice_get, Some}
 use Rattle.rl_meaning.specs.State.{State, Coded, Recorded}
 use Rattle.rl_meaning.specs.Constants.{changed_at}
 use Rattle.rl_meaning.specs.Standing.{all_stand}
@@ -24,8 +24,8 @@ abbrev pub NotedBefore : State → State → ℕ → Type 0
 NotedBefore s t r = (changed_at r t.watched.changes ≡ changed_at r s.watched.changes) ⊎ IsNoted t r (length s.functions)
 
 pub data IsIn {A : Type 0} (a : A) : List A → Type 0 where
-  first : (as : List A) → IsIn a (a ∷ as)
-  further : (b : A) (as : List A) → IsIn a as → IsIn a (b ∷ as)
+  first : (rest : List A) → IsIn a (a ∷ rest)
+  further : (b : A) (rest : List A) → IsIn a rest → IsIn a (b ∷ rest)
 
 -- all that the codes of the map rest on stands
 abbrev pub CodesStand : State → Type 0
