@@ -1,11 +1,11 @@
 -- When code is right for a held function: in every state in which its dependencies stand and its constants are as they were, what its c-macros do agrees with the walk, until the walk has an event (this project's).
-use Rattle.std.specs.Prelude.{◌≡◌, ◌⊎◌, ◌≤◌, ℕ, Bool, true, false, ◌&&◌, ◌||◌, ◌==◌, nat_lt, List, [], ◌∷◌, ◌++◌, length, map, flat_map, slice_get, Option, Some, None}
+use Rattle.std.specs.Prelude.{◌≡◌, ◌⊎◌, ◌≤◌, ℕ, Bool, true, false, ◌&&◌, ◌||◌, ◌==◌, nat_lt, List, [], ◌∷◌, ◌++◌, length, map, flat_map, slice_get, take, Option, Some, None}
 use Rattle.std.specs.List.{list_any}
 use Rattle.rl_tree.specs.Value.{Value, Int, Id, Ref, Fun, Object}
 use Rattle.rl_tree.specs.declared.held.VarKind.TheVariants as vars
 use Rattle.rl_meaning.specs.CMacros.{Operand, Constant, Load, Copy, JumpEq, JumpNe, Link, LinkE, Bind, ProgBind}
 use Rattle.rl_meaning.specs.State.{State, Code, Coded, Dependency, Whole, Held, Pointer, HeldFunction, Tree, Quoted, Kept, Recorded}
-use Rattle.rl_meaning.specs.Outcome.{Outcome, Levels}
+use Rattle.rl_meaning.specs.Outcome.{Outcome, Stopped, Stop, Levels}
 use Rattle.rl_meaning.specs.Symbols.{same, is_constant}
 use Rattle.rl_meaning.specs.Constants.{is_among, objects_of, constants_in, constants_of, changed_at}
 use Rattle.rl_meaning.specs.Holding.{kept_kind, function_at, form_at}
@@ -19,7 +19,7 @@ use Rattle.rl_meaning.specs.Opening.{state_of}
 use Rattle.rl_meaning.specs.TwoRunsLinks.{Linked}
 use Rattle.rl_meaning.specs.TwoRunsValues.{Names, Each, SameValue, SameCode}
 use Rattle.rl_meaning.specs.TwoRunsStates.{Like, all_both}
-use Rattle.rl_meaning.specs.TwoRunsEnds.{Ends}
+use Rattle.rl_meaning.specs.TwoRunsEnds.{HasShown, IsShort, Related}
 
 -- ---- constants as they stood
 
@@ -114,6 +114,11 @@ NoLater None walk = Unit {0}
 NoLater (Some c) None = ⊥
 NoLater (Some c) (Some w) = (w.printed ≤ c.printed) × (w.noted ≤ c.noted)
 
+-- where the code's run may leave the walk: the walk has an event, or has met its bound on cells or levels, and all that it printed and noted until then was so by the code. The code never meets these bounds first
+pub data Leaves : Outcome Value → Outcome Value → Type 0 where
+  at_event : (o p : Outcome Value) (r : Recorded) → (state_of p).watched.event ≡ Some r → HasShown (take r.printed (state_of p).outside.output) (take r.noted (state_of p).outside.notes) (state_of o).outside → Leaves o p
+  at_bound : (o : Outcome Value) (why : Stop) (t : State) → IsShort why → HasShown t.outside.output t.outside.notes (state_of o).outside → Leaves o (Stopped why t)
+
 abbrev pub event_of : Outcome Value → Option Recorded
 event_of o = (state_of o).watched.event
 
@@ -134,7 +139,7 @@ pub record Right (compiler : Compiler) (lowered : State) (entry : Coded) (held :
       → s.counts.expansion ≡ None
       → all_stand s entry.dependencies ≡ true
       → AllAsTheyStood s stood
-      → Ends known (all_both s.bindings) (run_code (jobs compiler) levels (Some entry.function) held entry.code vs s) (walked (jobs compiler) levels entry.function.function (Some entry.function) held vs s)
+      → Related Leaves SameValue known (all_both s.bindings) (run_code (jobs compiler) levels (Some entry.function) held entry.code vs s) (walked (jobs compiler) levels entry.function.function (Some entry.function) held vs s)
       × NoLater (event_of (run_code (jobs compiler) levels (Some entry.function) held entry.code vs s)) (event_of (walked (jobs compiler) levels entry.function.function (Some entry.function) held vs s))
   pub binds : all_of (may_bind held.kept) (variables_bound_by entry.code) ≡ true
   pub links : all_of (λ i. is_among i (reached_names lowered held)) (links_of entry.code) ≡ true
