@@ -4,3 +4,5 @@ mod TwoRunsWays
 mod TwoRunsObjects
 mod TwoRunsWalks
 mod TwoRunsLists
+mod TwoRunsNumbers
+mod TwoRunsSpine
