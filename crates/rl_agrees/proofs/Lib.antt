@@ -6,3 +6,4 @@ mod TwoRunsWalks
 mod TwoRunsLists
 mod TwoRunsNumbers
 mod TwoRunsSpine
+mod TwoRunsAtoms
