@@ -7,3 +7,4 @@ mod TwoRunsLists
 mod TwoRunsNumbers
 mod TwoRunsSpine
 mod TwoRunsAtoms
+mod TwoRunsProperties
