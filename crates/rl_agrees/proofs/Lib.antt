@@ -8,3 +8,4 @@ mod TwoRunsNumbers
 mod TwoRunsSpine
 mod TwoRunsAtoms
 mod TwoRunsProperties
+mod TwoRunsReading

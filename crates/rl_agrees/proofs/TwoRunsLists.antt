@@ -56,7 +56,7 @@ pub data SameChain (n : Names) : Chain → Chain → Type 0 where
   no_chain : SameChain n None None
   same_chain : (a b c d : Value) → SameValue n a b → SameValue n c d → SameChain n (Some (a, c)) (Some (b, d))
 
-chain_grows : (n m : Names) (c d : Chain) → SameChain n c d → Grows n m → SameChain m c d
+pub chain_grows : (n m : Names) (c d : Chain) → SameChain n c d → Grows n m → SameChain m c d
 chain_grows n m _ _ no_chain g = no_chain
 chain_grows n m _ _ (same_chain a b c d h k) g = same_chain a b c d (value_grows n m a b h g) (value_grows n m c d k g)
 
