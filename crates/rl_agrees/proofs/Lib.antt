@@ -9,3 +9,4 @@ mod TwoRunsSpine
 mod TwoRunsAtoms
 mod TwoRunsProperties
 mod TwoRunsReading
+mod TwoRunsPrinting
