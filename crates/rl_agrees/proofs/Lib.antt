@@ -10,3 +10,4 @@ mod TwoRunsAtoms
 mod TwoRunsProperties
 mod TwoRunsReading
 mod TwoRunsPrinting
+mod TwoRunsNatives
