@@ -204,16 +204,19 @@ of_bytes_same : (n : Names) (ps : List Place) (bytes : List ℕ) (s t : State) �
 of_bytes_same n ps [] s t l = end
 of_bytes_same n ps (b ∷ bs) s t l = more _ _ _ _ (of_byte_same n ps b s t l) (of_bytes_same n ps bs s t l)
 
--- an atom has the same text
-pub text_same : (n : Names) (ps : List Place) (style : Style) (v w : Value) (s t : State) → SameValue n v w → Like n ps s t → atom_text style (λ i. name_at s i) v ≡ atom_text style (λ i. name_at t i) w
-text_same n ps style _ _ s t (same_int z) l = refl
-text_same n ps style _ _ s t (same_id i) l = λ k. atom_text style (λ j. name_same n ps s t j l k) (Id i)
-text_same n ps style _ _ s t (same_str bytes) l = refl
-text_same n ps style _ _ s t (same_ref r q h) l = refl
-text_same n ps style _ _ s t (same_fun f g place h) l = refl
+-- an atom has the same text where identifiers have the same names
+pub text_same : (n : Names) (style other : Style) (f g : ℕ → Name) (v w : Value) → style ≡ other → f ≡ g → SameValue n v w → atom_text style f v ≡ atom_text other g w
+text_same n style other f g _ _ d e (same_int z) = λ k. atom_text (d k) (e k) (Int z)
+text_same n style other f g _ _ d e (same_id i) = λ k. atom_text (d k) (e k) (Id i)
+text_same n style other f g _ _ d e (same_str bytes) = λ k. atom_text (d k) (e k) (Str bytes)
+text_same n style other f g _ _ d e (same_ref r q h) = refl
+text_same n style other f g _ _ d e (same_fun i j place h) = refl
 
-exploded_related : (n : Names) (ps : List Place) (v w : Value) (s t : State) → SameValue n v w → Like n ps s t → Beside SameValue n ps (made_list None (of_bytes s (atom_text Prin1 (λ i. name_at s i) v)) s) (made_list None (of_bytes t (atom_text Prin1 (λ i. name_at t i) w)) t)
-exploded_related n ps v w s t h l = rw (text_same n ps Prin1 v w s t h l) (made_list_related n ps None None _ _ s t no_chain (of_bytes_same n ps (atom_text Prin1 (λ i. name_at t i) w) s t l) l)
+pub names_same : (n : Names) (ps : List Place) (s t : State) → Like n ps s t → name_at s ≡ name_at t
+names_same n ps s t l = λ k i. name_same n ps s t i l k
+
+exploded_related : (n : Names) (ps : List Place) (v w : Value) (s t : State) → SameValue n v w → Like n ps s t → Beside SameValue n ps (made_list None (of_bytes s (atom_text Prin1 (name_at s) v)) s) (made_list None (of_bytes t (atom_text Prin1 (name_at t) w)) t)
+exploded_related n ps v w s t h l = rw (text_same n Prin1 Prin1 (name_at s) (name_at t) v w refl (names_same n ps s t l) h) (made_list_related n ps None None _ _ s t no_chain (of_bytes_same n ps (atom_text Prin1 (name_at t) w) s t l) l)
 
 pub explode_related : (n : Names) (ps : List Place) (v w : Value) (s t : State) → SameValue n v w → Like n ps s t → Beside SameValue n ps (explode v s) (explode w t)
 explode_related n ps _ _ s t (same_int z) l = exploded_related n ps (Int z) (Int z) s t (same_int z) l

@@ -15,7 +15,7 @@ use Rattle.rl_meaning.specs.TwoRunsStates.{SameStore, SameExpansion, same_none, 
 use Rattle.rl_meaning.specs.TwoRunsEnds.{Begins, HasShown, short_of_levels, Parted, right_short, left_short, Related, done, stopped, parted}
 use Rattle.rl_agrees.proofs.TwoRunsGrowth.{grows_refl}
 use Rattle.rl_agrees.proofs.TwoRunsWays.{Is, is, with_counts_like, left_same, whole_read_like}
-use Rattle.rl_agrees.proofs.TwoRunsAtoms.{name_same}
+use Rattle.rl_agrees.proofs.TwoRunsAtoms.{text_same, names_same}
 
 -- ---- fronts
 
@@ -140,20 +140,13 @@ atom_begins line_length page bytes = at (nat_lt 0 page.column && nat_lt line_len
     at false = begins_more page.text bytes
 
 module _ (n : Names) (g h : Setting) (s : SameSetting n g h) where
-  text_same : (v w : Value) → SameValue n v w → atom_text g.style g.names v ≡ atom_text h.style h.names w
-  text_same _ _ (same_int z) = λ k. atom_text (s.style k) (s.names k) (Int z)
-  text_same _ _ (same_id z) = λ k. atom_text (s.style k) (s.names k) (Id z)
-  text_same _ _ (same_str z) = λ k. atom_text (s.style k) (s.names k) (Str z)
-  text_same _ _ (same_ref r q z) = refl
-  text_same _ _ (same_fun r q place z) = refl
-
   atom_same : (v w : Value) → SameValue n v w → SameSteps (with_atom_of g v) (with_atom_of h w)
-  atom_same v w r p = one_from p.page.text _ _ (λ k. record p { page = with_atom (s.line_length k) p.page (text_same v w r k) }) (atom_begins g.line_length p.page (atom_text g.style g.names v))
+  atom_same v w r p = one_from p.page.text _ _ (λ k. record p { page = with_atom (s.line_length k) p.page (text_same n g.style h.style g.names h.names v w s.style s.names r k) }) (atom_begins g.line_length p.page (atom_text g.style g.names v))
 
   dotted_same : (v w : Value) → SameValue n v w → SameSteps (dotted_atom g v) (dotted_atom h w)
   dotted_same v w r p =
       let q = marked (32 ∷ 46 ∷ 32 ∷ []) p in
-      one_from p.page.text _ _ (λ k. marked (41 ∷ []) (record q { page = with_atom (s.line_length k) q.page (text_same v w r k) }))
+      one_from p.page.text _ _ (λ k. marked (41 ∷ []) (record q { page = with_atom (s.line_length k) q.page (text_same n g.style h.style g.names h.names v w s.style s.names r k) }))
       (begins_trans p.page.text q.page.text _ (begins_more p.page.text _) (begins_trans q.page.text _ _ (atom_begins g.line_length q.page (atom_text g.style g.names v)) (begins_more _ (41 ∷ []))))
 
   value_same : (f f' : Printer) → Prints n f f' → (inner : Bool) (v w : Value) (i j : ℕ) → SameValue n v w → SameSteps (value_printed g f inner v i) (value_printed h f' inner w j)
@@ -238,7 +231,7 @@ module _ (n : Names) (g h : Setting) (s : SameSetting n g h) where
 -- ---- in a state
 
 setting_same : (style : Style) (n : Names) (ps : List Place) (s t : State) → Like n ps s t → SameSetting n (setting_in style s) (setting_in style t)
-setting_same style n ps s t l = record { style = refl; names = λ k i. name_same n ps s t i l k; nil = refl; store = l.store; line_length = λ k. (l.outside k).line_length }
+setting_same style n ps s t l = record { style = refl; names = names_same n ps s t l; nil = refl; store = l.store; line_length = λ k. (l.outside k).line_length }
 
 progress_one : (n : Names) (ps : List Place) (s t : State) → Like n ps s t → progress_in s ≡ progress_in t
 progress_one n ps s t l = λ k. record { page = record { text = (l.outside k).output; column = (l.outside k).column }; turns = left_same n ps s t l k; ending = Whole }
