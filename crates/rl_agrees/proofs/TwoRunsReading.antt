@@ -27,11 +27,11 @@ use Rattle.rl_agrees.proofs.TwoRunsAtoms.{of_byte_same}
 
 -- ---- what is made
 
-pub record SameSpot (n : Names) (ps : List Place) (p q : Spot) : Type 0 where
+record SameSpot (n : Names) (ps : List Place) (p q : Spot) : Type 0 where
   pub state : Like n ps p.state q.state
   pub levels : Roomier p.levels q.levels
 
-pub data SameMade {A : Type 0} (R : Names → A → A → Type 0) (n : Names) (ps : List Place) : Made Spot A Stop → Made Spot A Stop → Type 0 where
+data SameMade {A : Type 0} (R : Names → A → A → Type 0) (n : Names) (ps : List Place) : Made Spot A Stop → Made Spot A Stop → Type 0 where
   same_has : (m : Names) (a b : A) (p q : Spot) → Grows n m → R m a b → SameSpot m ps p q → SameMade R n ps (Has a p) (Has b q)
   same_wants : (why : Stop) (p q : Spot) → SameSeen p.state q.state → SameMade R n ps (Wants why p) (Wants why q)
   right_wants : (o : Made Spot A Stop) (why : Stop) (q : Spot) → IsShort why → SameMade R n ps o (Wants why q)
@@ -105,7 +105,7 @@ quoted_related n ps v w s t h l =
 
 -- ---- a maker whose two runs stand side by side
 
-pub record Makes (ps : List Place) (m : Maker Spot Value Chain Stop) : Type 0 where
+record Makes (ps : List Place) (m : Maker Spot Value Chain Stop) : Type 0 where
   turn_ : (n : Names) (p q : Spot) → SameSpot n ps p q → SameMade {A = Unit {0}} Is n ps (m.turn p) (m.turn q)
   enter_ : (n : Names) (p q : Spot) → SameSpot n ps p q → SameMade {A = Unit {0}} Is n ps (m.enter p) (m.enter q)
   leave_ : (n : Names) (p q : Spot) → SameSpot n ps p q → SameSpot n ps (m.leave p) (m.leave q)
