@@ -1,0 +1,2 @@
+mod OneRun
+mod OneRunObjects

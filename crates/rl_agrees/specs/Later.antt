@@ -24,8 +24,8 @@ abbrev pub NotedBefore : State → State → ℕ → Type 0
 NotedBefore s t r = (changed_at r t.watched.changes ≡ changed_at r s.watched.changes) ⊎ IsNoted t r (length s.functions)
 
 pub data IsIn {A : Type 0} (a : A) : List A → Type 0 where
-  first : (as : List A) → IsIn a (a ∷ as)
-  further : (b : A) (as : List A) → IsIn a as → IsIn a (b ∷ as)
+  first : (rest : List A) → IsIn a (a ∷ rest)
+  further : (b : A) (rest : List A) → IsIn a rest → IsIn a (b ∷ rest)
 
 -- all that the codes of the map rest on stands
 abbrev pub CodesStand : State → Type 0
