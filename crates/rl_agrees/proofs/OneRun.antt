@@ -133,13 +133,31 @@ module _ {P : State → State → Type 0} {position : Position} {r : State} wher
   pub stopped_leads : {A : Type 0} (why : Stop) (s : State) → Follows P r s → LeadsAt {A = A} P position r (Stopped why s)
   stopped_leads why s h = record { moves = h.is; plain = plain_stopped _ position why s }
 
+  pub done_makes : {A : Type 0} (Good : A → State → Type 0) (a : A) (s : State) → Follows P r s → Good a s → Makes P position r Good (Done a s)
+  done_makes Good a s h good = record { leads = done_leads a s h; good = good }
+
   -- a value that has something, and what comes then
-  pub then_makes : {A B : Type 0} (Good : A → State → Type 0) (o : Outcome A) (next : A → State → Outcome B) → Makes P position r Good o → ((a : A) (t : State) → Follows P r t → Good a t → LeadsAt P position r (next a t)) → LeadsAt P position r (then_do o next)
-  then_makes Good (Done a t) next h k = k a t (record { is = h.leads.moves }) h.good
-  then_makes Good (Failed n m t) next h k = record { moves = h.leads.moves; plain = plain_failed _ position n m t }
-  then_makes Good (Went l t) next h k = record { moves = h.leads.moves; plain = plain_went _ _ position l t t h.leads.plain }
-  then_makes Good (Returned v t) next h k = record { moves = h.leads.moves; plain = plain_returned _ _ position v t t h.leads.plain }
-  then_makes Good (Stopped why t) next h k = record { moves = h.leads.moves; plain = plain_stopped _ position why t }
+  pub then_makes : {A B : Type 0} (Good : A → State → Type 0) (Then : B → State → Type 0) (o : Outcome A) (next : A → State → Outcome B) → Makes P position r Good o → ((a : A) (t : State) → Follows P r t → Good a t → Makes P position r Then (next a t)) → Makes P position r Then (then_do o next)
+  then_makes Good Then (Done a t) next h k = k a t (record { is = h.leads.moves }) h.good
+  then_makes Good Then (Failed n m t) next h k = record { leads = record { moves = h.leads.moves; plain = plain_failed _ position n m t }; good = tt }
+  then_makes Good Then (Went l t) next h k = record { leads = record { moves = h.leads.moves; plain = plain_went _ _ position l t t h.leads.plain }; good = tt }
+  then_makes Good Then (Returned v t) next h k = record { leads = record { moves = h.leads.moves; plain = plain_returned _ _ position v t t h.leads.plain }; good = tt }
+  then_makes Good Then (Stopped why t) next h k = record { leads = record { moves = h.leads.moves; plain = plain_stopped _ position why t }; good = tt }
+
+  pub then_with : {A B : Type 0} (Good : A → State → Type 0) (o : Outcome A) (next : A → State → Outcome B) → Makes P position r Good o → ((a : A) (t : State) → Follows P r t → Good a t → LeadsAt P position r (next a t)) → LeadsAt P position r (then_do o next)
+  then_with Good (Done a t) next h k = k a t (record { is = h.leads.moves }) h.good
+  then_with Good (Failed n m t) next h k = record { moves = h.leads.moves; plain = plain_failed _ position n m t }
+  then_with Good (Went l t) next h k = record { moves = h.leads.moves; plain = plain_went _ _ position l t t h.leads.plain }
+  then_with Good (Returned v t) next h k = record { moves = h.leads.moves; plain = plain_returned _ _ position v t t h.leads.plain }
+  then_with Good (Stopped why t) next h k = record { moves = h.leads.moves; plain = plain_stopped _ position why t }
+
+  -- of any value there is nothing to say
+  pub makes_any : {A : Type 0} (o : Outcome A) → LeadsAt P position r o → Makes P position r (λ a t. Unit {0}) o
+  makes_any (Done a t) h = record { leads = h; good = tt }
+  makes_any (Failed n m t) h = record { leads = h; good = tt }
+  makes_any (Went l t) h = record { leads = h; good = tt }
+  makes_any (Returned v t) h = record { leads = h; good = tt }
+  makes_any (Stopped why t) h = record { leads = h; good = tt }
 
   pub then_leads : {A B : Type 0} (o : Outcome A) (next : A → State → Outcome B) → LeadsAt P position r o → ((a : A) (t : State) → Follows P r t → LeadsAt P position r (next a t)) → LeadsAt P position r (then_do o next)
   then_leads (Done a t) next h k = k a t (record { is = h.moves })
@@ -159,21 +177,46 @@ anywhere Inside o h = h
 
 -- ---- turns, levels and cells
 
-module _ {P : State → State → Type 0} (steps : Steps P) {position : Position} {r : State} where
-  pub turn_leads : {A : Type 0} (s : State) (next : State → Outcome A) → Follows P r s → ((t : State) → Follows P r t → LeadsAt P position r (next t)) → LeadsAt P position r (turn s next)
-  turn_leads {A} s next h k = at s.counts.expansion refl
+module _ {P : State → State → Type 0} (steps : Steps P) {r : State} where
+  -- for any claim on outcomes: that it holds where a turn is wanting, and of what comes behind the turn
+  pub turn_claims : {A : Type 0} (Claim : Outcome A → Type 0) (s : State) (next : State → Outcome A) → Follows P r s → ((why : Stop) → Claim (Stopped why s)) → ((t : State) → Follows P r t → Claim (next t)) → Claim (turn s next)
+  turn_claims Claim s next h stops k = at s.counts.expansion refl
     where
-      run_at : (n : ℕ) → s.counts.expansion ≡ None → LeadsAt P position r (run_turn n s next)
-      run_at zero e = stopped_leads Turns s h
+      run_at : (n : ℕ) → s.counts.expansion ≡ None → Claim (run_turn n s next)
+      run_at zero e = stops Turns
       run_at (suc n) e = k _ (follows_then steps r s _ h (subst (λ (o : Option Expansion). P s (turns_taken o n s)) e (steps.turns n s)))
 
-      expansion_at : (n : ℕ) (x : Expansion) → s.counts.expansion ≡ Some x → LeadsAt P position r (expansion_turn n x s next)
-      expansion_at zero x e = stopped_leads _ s h
+      expansion_at : (n : ℕ) (x : Expansion) → s.counts.expansion ≡ Some x → Claim (expansion_turn n x s next)
+      expansion_at zero x e = stops _
       expansion_at (suc n) x e = k _ (follows_then steps r s _ h (subst (λ (o : Option Expansion). P s (turns_taken o n s)) e (steps.turns n s)))
 
-      at : (o : Option Expansion) → s.counts.expansion ≡ o → LeadsAt P position r (turn_of o s next)
+      at : (o : Option Expansion) → s.counts.expansion ≡ o → Claim (turn_of o s next)
       at None e = run_at s.counts.turns e
       at (Some x) e = expansion_at x.turns x e
+
+  -- so with cells
+  pub room_claims : {A : Type 0} (Claim : Outcome A → Type 0) (cost : ℕ) (s : State) (next : State → Outcome A) → Follows P r s → ((why : Stop) (t : State) → Follows P r t → Claim (Stopped why t)) → ((t : State) → Follows P r t → Claim (next t)) → Claim (room cost s next)
+  room_claims Claim cost s next h stops k = at s.counts.expansion refl
+    where
+      run_within : (b : Bool) (c : ℕ) (t : State) → Follows P r t → Claim (cells_within b c t next)
+      run_within true c t f = k _ (follows_then steps r t _ f (steps.cells c t))
+      run_within false c t f = stops _ t f
+
+      more : (o : Option ℕ) (t : State) → Follows P r t → Claim (run_room o cost t next)
+      more None t f = k t f
+      more (Some c) t f = run_within (nat_le cost c) (c - cost) t f
+
+      within : (b : Bool) (x : Expansion) → s.counts.expansion ≡ Some x → Claim (expansion_within b x cost s (λ t. run_room t.counts.cells cost t next))
+      within true x e = more _ _ (follows_then steps r s _ h (steps.expansion_cells (x.cells - cost) x s e))
+      within false x e = stops _ s h
+
+      at : (o : Option Expansion) → s.counts.expansion ≡ o → Claim (expansion_room o cost s (λ t. run_room t.counts.cells cost t next))
+      at None e = more _ s h
+      at (Some x) e = within (nat_le cost x.cells) x e
+
+module _ {P : State → State → Type 0} (steps : Steps P) {position : Position} {r : State} where
+  pub turn_leads : {A : Type 0} (s : State) (next : State → Outcome A) → Follows P r s → ((t : State) → Follows P r t → LeadsAt P position r (next t)) → LeadsAt P position r (turn s next)
+  turn_leads s next h k = turn_claims steps (λ o. LeadsAt P position r o) s next h (λ why. stopped_leads why s h) k
 
   entered_leads : {A : Type 0} (b : Bool) (l : ℕ) (s : State) (next : Levels → Outcome A) → Follows P r s → ((l : Levels) → LeadsAt P position r (next l)) → LeadsAt P position r (entered b l s next)
   entered_leads true l s next h k = k (Some l)
@@ -190,24 +233,13 @@ module _ {P : State → State → Type 0} (steps : Steps P) {position : Position
   pub pair_turn_leads : {A : Type 0} (descent : Bool) (levels : Levels) (s : State) (next : Levels → State → Outcome A) → Follows P r s → ((l : Levels) (t : State) → Follows P r t → LeadsAt P position r (next l t)) → LeadsAt P position r (pair_turn descent levels s next)
   pair_turn_leads descent levels s next h k = turn_leads s _ h (λ t f. descends_leads descent levels t _ f (λ l. k l t f))
 
-  run_room_leads : {A : Type 0} (o : Option ℕ) (cost : ℕ) (s : State) (next : State → Outcome A) → Follows P r s → ((t : State) → Follows P r t → LeadsAt P position r (next t)) → LeadsAt P position r (run_room o cost s next)
-  run_room_leads None cost s next h k = k s h
-  run_room_leads (Some c) cost s next h k = at (nat_le cost c)
-    where
-      at : (b : Bool) → LeadsAt P position r (cells_within b (c - cost) s next)
-      at true = k _ (follows_then steps r s _ h (steps.cells (c - cost) s))
-      at false = stopped_leads _ s h
-
   pub room_leads : {A : Type 0} (cost : ℕ) (s : State) (next : State → Outcome A) → Follows P r s → ((t : State) → Follows P r t → LeadsAt P position r (next t)) → LeadsAt P position r (room cost s next)
-  room_leads cost s next h k = at s.counts.expansion refl
-    where
-      more : (t : State) → Follows P r t → LeadsAt P position r (run_room t.counts.cells cost t next)
-      more t f = run_room_leads t.counts.cells cost t next f k
+  room_leads cost s next h k = room_claims steps (λ o. LeadsAt P position r o) cost s next h (λ why t f. stopped_leads why t f) k
 
-      within : (b : Bool) (x : Expansion) → s.counts.expansion ≡ Some x → LeadsAt P position r (expansion_within b x cost s (λ t. run_room t.counts.cells cost t next))
-      within true x e = more _ (follows_then steps r s _ h (steps.expansion_cells (x.cells - cost) x s e))
-      within false x e = stopped_leads _ s h
+  -- ---- with what a value has
 
-      at : (o : Option Expansion) → s.counts.expansion ≡ o → LeadsAt P position r (expansion_room o cost s (λ t. run_room t.counts.cells cost t next))
-      at None e = more s h
-      at (Some x) e = within (nat_le cost x.cells) x e
+  pub turn_makes : {A : Type 0} (Good : A → State → Type 0) (s : State) (next : State → Outcome A) → Follows P r s → ((t : State) → Follows P r t → Makes P position r Good (next t)) → Makes P position r Good (turn s next)
+  turn_makes Good s next h k = turn_claims steps (λ o. Makes P position r Good o) s next h (λ why. record { leads = stopped_leads why s h; good = tt }) k
+
+  pub room_makes : {A : Type 0} (Good : A → State → Type 0) (cost : ℕ) (s : State) (next : State → Outcome A) → Follows P r s → ((t : State) → Follows P r t → Makes P position r Good (next t)) → Makes P position r Good (room cost s next)
+  room_makes Good cost s next h k = room_claims steps (λ o. Makes P position r Good o) cost s next h (λ why t f. record { leads = stopped_leads why t f; good = tt }) k
