@@ -1,2 +1,4 @@
 mod OneRun
 mod OneRunObjects
+mod OneRunWalks
+mod OneRunHolding
