@@ -2,3 +2,4 @@ mod OneRun
 mod OneRunObjects
 mod OneRunWalks
 mod OneRunHolding
+mod OneRunVariables

@@ -133,6 +133,13 @@ module _ {P : State → State → Type 0} {position : Position} {r : State} wher
   pub stopped_leads : {A : Type 0} (why : Stop) (s : State) → Follows P r s → LeadsAt {A = A} P position r (Stopped why s)
   stopped_leads why s h = record { moves = h.is; plain = plain_stopped _ position why s }
 
+  -- a GO, or a RETURN, as one from another state
+  pub went_leads : {A B : Type 0} (l : ℕ) (s t : State) → LeadsAt {A = A} P position r (Went l s) → Follows P r t → LeadsAt {A = B} P position r (Went l t)
+  went_leads l s t h f = record { moves = f.is; plain = plain_went _ _ position l s t h.plain }
+
+  pub returned_leads : {A B : Type 0} (v : Value) (s t : State) → LeadsAt {A = A} P position r (Returned v s) → Follows P r t → LeadsAt {A = B} P position r (Returned v t)
+  returned_leads v s t h f = record { moves = f.is; plain = plain_returned _ _ position v s t h.plain }
+
   pub done_makes : {A : Type 0} (Good : A → State → Type 0) (a : A) (s : State) → Follows P r s → Good a s → Makes P position r Good (Done a s)
   done_makes Good a s h good = record { leads = done_leads a s h; good = good }
 
