@@ -3,3 +3,4 @@ mod OneRunObjects
 mod OneRunWalks
 mod OneRunHolding
 mod OneRunVariables
+mod OneRunPrinting
