@@ -4,3 +4,6 @@ mod OneRunWalks
 mod OneRunHolding
 mod OneRunVariables
 mod OneRunPrinting
+mod OneRunReader
+mod OneRunReading
+mod OneRunNatives
