@@ -7,3 +7,5 @@ mod OneRunPrinting
 mod OneRunReader
 mod OneRunReading
 mod OneRunNatives
+mod OneRunHeads
+mod OneRunEvaluation
