@@ -9,3 +9,4 @@ mod OneRunReading
 mod OneRunNatives
 mod OneRunHeads
 mod OneRunEvaluation
+mod OneRunForms

@@ -185,7 +185,7 @@ module _ {P : State → State → Type 0} {rec : Rec} (keeps : RecLeads P rec) {
   pub macro_called_leads : (i : ℕ) (here : Here) (position : Position) (form : Tree) (s : State) → Follows P r s → LeadsAt P position r (macro_called rec i here position form s)
   macro_called_leads i here position form s h = then_leads _ _ (anywhere position _ (expansion_of_leads i here form s h)) (λ f t h. expanded_body_leads here position f (function_at t (pointer_to f)) t h)
 
-  in_chain_leads : {A : Type 0} {position : Position} (chain i : ℕ) (s : State) (next : ℕ → State → Outcome A) → Follows P r s → ((n : ℕ) → LeadsAt P position r (next n s)) → LeadsAt P position r (in_chain rec chain i s next)
+  pub in_chain_leads : {A : Type 0} {position : Position} (chain i : ℕ) (s : State) (next : ℕ → State → Outcome A) → Follows P r s → ((n : ℕ) → LeadsAt P position r (next n s)) → LeadsAt P position r (in_chain rec chain i s next)
   in_chain_leads zero i s next h k = stopped_leads _ s h
   in_chain_leads (suc n) i s next h k = k n
 
@@ -204,19 +204,19 @@ module _ {P : State → State → Type 0} {rec : Rec} (keeps : RecLeads P rec) {
 
   -- ---- forms that ask for no form
 
-  misplaced_leads : (position : Position) (culprit : Value) (s : State) (next : State → Outcome Value) → Follows P r s → Moves P r (next s) → LeadsAt P position r (misplaced_at position culprit s next)
+  pub misplaced_leads : (position : Position) (culprit : Value) (s : State) (next : State → Outcome Value) → Follows P r s → Moves P r (next s) → LeadsAt P position r (misplaced_at position culprit s next)
   misplaced_leads Statement culprit s next h k = k
   misplaced_leads Inside culprit s next h k = fail_leads keeps.steps misplaced culprit s h
 
-  going_leads : (position : Position) (args : Tree) (s : State) → Follows P r s → LeadsAt P position r (going rec position args s)
+  pub going_leads : (position : Position) (args : Tree) (s : State) → Follows P r s → LeadsAt P position r (going rec position args s)
   going_leads position (Pair (Atom (Id l)) end) s h = misplaced_leads position (Id l) s _ h (record { moves = h.is; plain = tt })
   going_leads position args s h = done_leads nil s h
 
-  quoted_leads : (args : Tree) (s : State) → Follows P r s → Leads P r (quoted rec args s)
+  pub quoted_leads : (args : Tree) (s : State) → Follows P r s → Leads P r (quoted rec args s)
   quoted_leads (Pair (Quoted v) end) s h = done_leads v s h
   quoted_leads args s h = done_leads nil s h
 
-  function_named_leads : (args : Tree) (s : State) → Follows P r s → Leads P r (function_named rec args s)
+  pub function_named_leads : (args : Tree) (s : State) → Follows P r s → Leads P r (function_named rec args s)
   function_named_leads (Pair (Atom v) end) s h = done_leads v s h
   function_named_leads args s h = done_leads nil s h
 
@@ -228,5 +228,5 @@ module _ {P : State → State → Type 0} {rec : Rec} (keeps : RecLeads P rec) {
       own_name_leads keeps.steps i s _ h (λ t h. function_defined_leads form i _ (hold_part_leads keeps.steps (kind_of_definition form) levels parameters forms t h))
   define_function_leads form levels args s h = done_leads nil s h
 
-  bad_leads : {position : Position} (culprit : Value) (here : Here) (s : State) → Follows P r s → LeadsAt {A = Value} P position r (deeper_here 1 here s (λ here. bad_form culprit s))
+  pub bad_leads : {position : Position} (culprit : Value) (here : Here) (s : State) → Follows P r s → LeadsAt {A = Value} P position r (deeper_here 1 here s (λ here. bad_form culprit s))
   bad_leads culprit here s h = deeper_leads keeps.steps 1 here.levels s _ h (λ l. fail_leads keeps.steps badly_formed culprit s h)
