@@ -10,3 +10,5 @@ mod OneRunNatives
 mod OneRunHeads
 mod OneRunEvaluation
 mod OneRunForms
+mod OneRunMachine
+mod OneRunRuns
