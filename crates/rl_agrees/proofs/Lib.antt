@@ -12,3 +12,5 @@ mod OneRunEvaluation
 mod OneRunForms
 mod OneRunMachine
 mod OneRunRuns
+mod LaterLists
+mod LaterStands
