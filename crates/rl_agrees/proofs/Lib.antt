@@ -14,3 +14,4 @@ mod OneRunMachine
 mod OneRunRuns
 mod LaterLists
 mod LaterStands
+mod OneRunLater
