@@ -15,3 +15,4 @@ mod OneRunRuns
 mod LaterLists
 mod LaterStands
 mod OneRunLater
+mod OneRunLaws

@@ -16,6 +16,7 @@ use Rattle.rl_meaning.specs.Input.{with_input}
 use Rattle.rl_meaning.specs.Evaluation.{Position, Statement, Inside, with_expansion, without_expansion}
 use Rattle.rl_meaning.specs.Opening.{state_of}
 use Rattle.rl_agrees.specs.Later.{IsMore}
+use Rattle.rl_agrees.specs.Leaving.{IsPlain}
 
 -- ---- steps
 
@@ -58,11 +59,7 @@ pub record Follows (P : State → State → Type 0) (r s : State) : Type 0 where
 -- only as a statement of a PROG a form may leave by GO or RETURN
 abbrev pub PlainAt : {A : Type 0} → Position → Outcome A → Type 0
 PlainAt Statement o = Unit {0}
-PlainAt Inside (Done a s) = Unit {0}
-PlainAt Inside (Failed n m s) = Unit {0}
-PlainAt Inside (Went l s) = ⊥
-PlainAt Inside (Returned v s) = ⊥
-PlainAt Inside (Stopped why s) = Unit {0}
+PlainAt Inside o = IsPlain o
 
 -- the outcome's state follows a state, and the outcome is as it may be at the position
 pub record LeadsAt {A : Type 0} (P : State → State → Type 0) (position : Position) (r : State) (o : Outcome A) : Type 0 where
