@@ -1,7 +1,7 @@
 -- Lists, and the definitions of identifiers, where something is appended or set.
-use Rattle.std.proofs.Common.{◌≡◌, ◌≢◌, ◌⊎◌, inl, inr, ◌≤◌, ◌<◌, ℕ, zero, suc, Bool, true, false, List, [], ◌∷◌, ◌++◌, length, slice_get, Option, Some, None, refl, sym, ap, ◌∙◌, subst, arith}
+use Rattle.std.proofs.Common.{◌≡◌, ◌≢◌, ◌⊎◌, inl, inr, ◌<◌, ℕ, zero, suc, List, [], ◌∷◌, ◌++◌, length, slice_get, refl, ap, arith}
 use Rattle.std.specs.Prelude.{slice_index_or, slice_set}
-use Rattle.rl_meaning.specs.State.{State, Symbol, Definition}
+use Rattle.rl_meaning.specs.State.{Symbol}
 
 -- an element that was there
 pub get_appended : {A : Type 0} (xs ys : List A) (i : ℕ) → i < length xs → slice_get (xs ++ ys) i ≡ slice_get xs i

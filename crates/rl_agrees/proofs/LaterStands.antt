@@ -1,19 +1,17 @@
 -- What a code rests on stands where functions are only appended and definitions stay.
-use Rattle.std.proofs.Common.{◌≡◌, ◌⊎◌, inl, inr, ℤ, pos, negsuc, ◌&&◌, ◌==◌, not, ℕ, zero, suc, Bool, true, false, List, [], ◌∷◌, ◌++◌, length, Option, Some, None, refl, sym, ap, ◌∙◌, subst, arith}
+use Rattle.std.proofs.Common.{◌≡◌, ◌⊎◌, inl, inr, ℤ, pos, negsuc, ◌&&◌, ◌==◌, not, ℕ, zero, suc, Bool, true, false, List, [], ◌∷◌, Option, Some, None, refl, sym, ap, ◌∙◌, subst}
 use Rattle.std.specs.Str.{bytes_eq}
 use Rattle.std.proofs.lemmas.Bool.{eqb-true, eq-eqb}
 use Rattle.std.proofs.lemmas.Slice.Eq.{bytes_eq-Decides}
 use Rattle.std.specs.Prelude.{slice_index_or}
 use Rattle.rl_tree.specs.Value.{Value, Int, Id, Str, Ref, Fun}
-use Rattle.rl_tree.specs.declared.held.Kind.{Kind}
-use Rattle.rl_tree.specs.declared.held.Kind.TheVariants.{Expr, Fexpr, Macro}
 use Rattle.rl_tree.specs.declared.held.VarKind.{VarKind}
 use Rattle.rl_tree.specs.declared.held.VarKind.TheVariants.{Plain, Fluid, Global}
 use Rattle.rl_meaning.specs.State.{State, Tree, Atom, Quoted, Pair, Literal, Kept, Held, Pointer, Definition, Function, SpecialForm, NativeFunction, HeldFunction, Dependency, Called, Whole, Coded}
 use Rattle.rl_meaning.specs.State as state
 use Rattle.rl_meaning.specs.Symbols.{same_integer, same, symbol_at}
 use Rattle.rl_meaning.specs.Holding.{kept_kind, with_identifiers, same_pointer, no_function, function_in, function_at}
-use Rattle.rl_meaning.specs.Reach.{same_kind, same_var_kind, same_tree, same_names, same_kept, same_held, same_function, same_definition, expands}
+use Rattle.rl_meaning.specs.Reach.{same_var_kind, same_tree, same_names, same_kept, same_held, same_function, same_definition, expands}
 use Rattle.rl_meaning.specs.Standing.{is_fexpr, stands, all_stand}
 use Rattle.rl_agrees.specs.Later.{IsMore}
 use Rattle.rl_agrees.proofs.LaterLists.{index_appended}

@@ -1,5 +1,5 @@
 -- A law on one run over any preorder on states: what is asked of it, a step at a time, and how outcomes keep it.
-use Rattle.std.proofs.Common.{◌≡◌, ◌≤◌, ◌-◌, nat_le, ℕ, zero, suc, ℤ, Bool, true, false, List, [], ◌∷◌, ◌++◌, length, Option, Some, None, refl, subst, arith}
+use Rattle.std.proofs.Common.{◌≡◌, ◌≤◌, ◌-◌, nat_le, ℕ, zero, suc, ℤ, Bool, true, false, List, [], ◌∷◌, ◌++◌, length, Option, Some, None, refl, subst}
 use Rattle.rl_tree.specs.Value.{Value, Ref, Object}
 use Rattle.rl_tree.specs.Name.{Name}
 use Rattle.rl_tree.specs.Printing.{Page}

@@ -1,29 +1,24 @@
 -- Evaluation and application keep a law on one run, where the jobs that are asked for, and compilation, do.
-use Rattle.std.proofs.Common.{◌≡◌, ◌==◌, ◌/◌, ℕ, zero, suc, Bool, true, false, List, [], ◌∷◌, ◌++◌, length, Option, Some, None, refl}
-use Rattle.rl_tree.specs.Value.{Value, Id, Fun}
-use Rattle.rl_tree.specs.declared.held.Kind.{Kind}
-use Rattle.rl_tree.specs.declared.held.Kind.TheVariants.{Expr, Fexpr, Macro}
-use Rattle.rl_meaning.specs.Names.{Native, Special, arguments_of, Quote, Cond, Progn, And, Or, Setq, Prog, Go, Return, List_, Plus, Times, Max, Min, De, Df, Dm, Putd, Eval, Errorset, Apply, Compile, Faslout, Load}
-use Rattle.rl_meaning.specs.Names as names
+use Rattle.std.proofs.Common.{◌==◌, ◌/◌, ℕ, zero, suc, Bool, true, false, List, [], ◌∷◌, length, Option, Some, None}
+use Rattle.rl_tree.specs.Value.{Value, Id}
+use Rattle.rl_tree.specs.declared.held.Kind.TheVariants.{Expr}
+use Rattle.rl_meaning.specs.Names.{Native, Special, arguments_of, Putd, Eval, Errorset, Apply, Compile, Faslout, Load}
 use Rattle.rl_meaning.specs.Constants.{reading, reading_pair}
-use Rattle.rl_meaning.specs.State.{State, Tree, Atom, Quoted, Pair, Literal, Held, Pointer, Definition, Function, SpecialForm, NativeFunction, HeldFunction}
+use Rattle.rl_meaning.specs.State.{State, Tree, Atom, Quoted, Pair, Held, Pointer, Definition, Function, SpecialForm, NativeFunction, HeldFunction}
 use Rattle.rl_meaning.specs.Outcome.{Outcome, Done, Failed, Went, Returned, Stopped, Levels}
-use Rattle.rl_meaning.specs.Symbols.{nil, is_nil, truth, lambda_id, return_id, pair_at, symbol_at}
-use Rattle.rl_meaning.specs.Holding.{function_id, is_list, pointer_value, pointer_to, function_at}
+use Rattle.rl_meaning.specs.Symbols.{nil, pair_at, symbol_at}
+use Rattle.rl_meaning.specs.Holding.{pointer_value, pointer_to, function_at}
 use Rattle.rl_meaning.specs.Variables.{with_mark}
-use Rattle.rl_meaning.specs.Definitions.{define}
-use Rattle.rl_meaning.specs.Forms.{Form, Call, Applied, Bad, head_of, count_of, call_levels, fits, lambda_parameters, after_label, hold_part}
-use Rattle.rl_meaning.specs.Errors.{fail, undefined, wrong_count, wrong_type, misplaced, badly_formed}
+use Rattle.rl_meaning.specs.Forms.{after_label}
+use Rattle.rl_meaning.specs.Errors.{undefined, wrong_count, wrong_type, misplaced, badly_formed}
 use Rattle.rl_meaning.specs.Atoms.{proper}
 use Rattle.rl_meaning.specs.Natives.{argument}
-use Rattle.rl_meaning.specs.Printing.{note_value, note_error}
-use Rattle.rl_meaning.specs.Evaluation.{Position, Statement, Inside, Here, Job, Run, Onward, Call_, From, In, Rec, longest_chain, bad_form, misplaced_at, deeper_here, kind_of_definition, with_expansion, without_expansion, closed, print_unless_nil, caught, Target, Function_, Lambda, Undefined, WrongType, target_of, with_arguments, operation_of, of_none, walked, held_applied, form_evaluated, evaluated, errorset, list_applied, applied_to, apply_target, apply, native_applied, counted, called_as, function_applied, applied, name_applied, called, fexpr_called, expansion_of, expanded_body, macro_called, in_chain, jumped, in_prog, function_defined, define_function, going, quoted, function_named, atom_in, identifiers_in, eval, arguments, applied_lambda, progn, clauses, clause, conjunction, disjunction, setq, returning, prog, statements, listed, combined, combined_rest}
+use Rattle.rl_meaning.specs.Evaluation.{Position, Statement, Inside, Here, Job, Run, Onward, Call_, From, In, Rec, longest_chain, bad_form, misplaced_at, deeper_here, kind_of_definition, with_expansion, closed, print_unless_nil, caught, Target, Function_, Lambda, Undefined, WrongType, target_of, with_arguments, held_applied, form_evaluated, evaluated, errorset, list_applied, applied_to, apply_target, apply, native_applied, counted, called_as, function_applied, applied, name_applied, called, fexpr_called, expansion_of, expanded_body, macro_called, in_chain, jumped, in_prog, function_defined, define_function, going, quoted, function_named}
 use Rattle.rl_meaning.specs.Compiling.{Compiler, no_compiler}
-use Rattle.rl_agrees.proofs.OneRunHeads.{lambda_form, call_form, special_form, list_form}
-use Rattle.rl_agrees.proofs.OneRun.{Steps, Follows, LeadsAt, Moves, Leads, follows_same, follows_then, leads_from, anywhere, done_leads, failed_leads, went_leads, returned_leads, stopped_leads, then_leads, choose_leads, turn_leads, deeper_leads}
-use Rattle.rl_agrees.proofs.OneRunObjects.{leading, fail_leads, pair_leads, reading_follows, reading_pair_follows}
+use Rattle.rl_agrees.proofs.OneRun.{Steps, Follows, LeadsAt, Moves, Leads, follows_same, follows_then, leads_from, anywhere, done_leads, failed_leads, went_leads, returned_leads, stopped_leads, then_leads, turn_leads, deeper_leads}
+use Rattle.rl_agrees.proofs.OneRunObjects.{leading, fail_leads, reading_follows, reading_pair_follows}
 use Rattle.rl_agrees.proofs.OneRunHolding.{hold_form_leads, hold_expansion_leads, elements_lead, copied_leads, hold_part_leads}
-use Rattle.rl_agrees.proofs.OneRunVariables.{mark_follows, variable_leads, assigned_leads, operated_leads, restored_leads, binding_leads}
+use Rattle.rl_agrees.proofs.OneRunVariables.{mark_follows, restored_leads}
 use Rattle.rl_agrees.proofs.OneRunPrinting.{note_follows, print_error_leads}
 use Rattle.rl_agrees.proofs.OneRunNatives.{define_follows, own_name_leads, hold_lambda_leads, native_leads}
 

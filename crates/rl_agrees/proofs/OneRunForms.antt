@@ -1,18 +1,17 @@
 -- Each form keeps a law on one run, and only a statement of a PROG leaves by GO or RETURN.
-use Rattle.std.proofs.Common.{ℕ, zero, suc, Bool, true, false, List, [], ◌∷◌, ◌++◌, length, Option, Some, None}
+use Rattle.std.proofs.Common.{ℕ, suc, true, List, [], ◌∷◌, ◌++◌, length, Option, Some}
 use Rattle.rl_tree.specs.Value.{Value, Id, Fun}
-use Rattle.rl_tree.specs.declared.held.Kind.{Kind}
 use Rattle.rl_tree.specs.declared.held.Kind.TheVariants.{Expr, Fexpr, Macro}
 use Rattle.rl_meaning.specs.Names.{Special, Quote, Cond, Progn, And, Or, Setq, Prog, Go, Return, List_, Plus, Times, Max, Min, De, Df, Dm}
 use Rattle.rl_meaning.specs.Names as names
 use Rattle.rl_meaning.specs.State.{State, Tree, Atom, Quoted, Pair, Literal, Held, Pointer}
-use Rattle.rl_meaning.specs.Outcome.{Outcome, Done, Levels}
+use Rattle.rl_meaning.specs.Outcome.{Outcome, Levels}
 use Rattle.rl_meaning.specs.Symbols.{nil, is_nil, truth, lambda_id, return_id}
 use Rattle.rl_meaning.specs.Holding.{function_id, is_list}
 use Rattle.rl_meaning.specs.Variables.{with_mark}
 use Rattle.rl_meaning.specs.Forms.{Form, Call, Applied, Bad, head_of, count_of, call_levels, fits, lambda_parameters}
 use Rattle.rl_meaning.specs.Errors.{badly_formed}
-use Rattle.rl_meaning.specs.Evaluation.{Position, Statement, Inside, Here, Rec, longest_chain, of_none, operation_of, atom_in, identifiers_in, called, eval, arguments, applied_lambda, progn, clauses, clause, conjunction, disjunction, setq, returning, prog, statements, listed, combined, combined_rest, walked}
+use Rattle.rl_meaning.specs.Evaluation.{Position, Statement, Inside, Here, Rec, longest_chain, of_none, operation_of, atom_in, identifiers_in, eval, arguments, applied_lambda, progn, clauses, clause, conjunction, disjunction, setq, returning, prog, statements, listed, combined, combined_rest, walked}
 use Rattle.rl_agrees.proofs.OneRunHeads.{lambda_form, call_form, special_form, list_form}
 use Rattle.rl_agrees.proofs.OneRun.{Follows, LeadsAt, Leads, anywhere, done_leads, then_leads, choose_leads, deeper_leads}
 use Rattle.rl_agrees.proofs.OneRunObjects.{fail_leads, pair_leads}

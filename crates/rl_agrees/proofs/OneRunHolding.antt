@@ -1,5 +1,5 @@
 -- Holding and copying forms keeps a law on one run.
-use Rattle.std.proofs.Common.{ℕ, zero, suc, Bool, true, false, List, Option, Some, None, refl}
+use Rattle.std.proofs.Common.{ℕ, zero, suc, Bool, true, false, List, Option, Some, None}
 use Rattle.rl_tree.specs.Value.{Value, Id}
 use Rattle.rl_tree.specs.Value as object
 use Rattle.rl_tree.specs.declared.held.Kind.{Kind}

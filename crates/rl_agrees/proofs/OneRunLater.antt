@@ -1,12 +1,11 @@
 -- A later state is a law on one run.
-use Rattle.std.proofs.Common.{◌≡◌, ◌≢◌, ◌⊎◌, inl, inr, ◌≤◌, ◌<◌, ◌==◌, ◌&&◌, not, if◌then◌else◌, ℕ, zero, suc, Bool, true, false, List, [], ◌∷◌, ◌++◌, length, slice_get, Option, Some, None, refl, sym, ap, ◌∙◌, subst, arith}
+use Rattle.std.proofs.Common.{◌≡◌, ◌≢◌, ◌⊎◌, inl, inr, ◌≤◌, ◌<◌, ◌==◌, ◌&&◌, not, if◌then◌else◌, ℕ, Bool, true, false, List, [], ◌∷◌, ◌++◌, length, slice_get, Option, Some, None, refl, sym, ap, ◌∙◌, subst, arith}
 use Rattle.std.specs.Prelude.{slice_set, slice_index_or}
 use Rattle.std.proofs.lemmas.Bool.Decides.{eqb_tells}
 use Rattle.std.proofs.lemmas.List.{length-set, length-append}
 use Rattle.rl_tree.specs.Value.{Value, Int, Id, Str, Ref, Fun, Object}
-use Rattle.rl_tree.specs.Name.{Name}
 use Rattle.rl_tree.specs.Printing.{Page}
-use Rattle.rl_meaning.specs.State.{State, Symbol, Definition, Function, Entry, Expansion, Event, Recorded, Change, Coded, Turned, Watched, Compilation}
+use Rattle.rl_meaning.specs.State.{State, Symbol, Definition, Function, Expansion, Event, Recorded, Change, Coded, Turned, Watched, Compilation}
 use Rattle.rl_meaning.specs.Symbols.{new_symbol, symbol_at, with_symbol}
 use Rattle.rl_meaning.specs.Events.{first_event, with_event}
 use Rattle.rl_meaning.specs.Constants.{changing, changed_at}
@@ -16,13 +15,12 @@ use Rattle.rl_meaning.specs.Reach.{turns, with_change}
 use Rattle.rl_meaning.specs.Standing.{all_stand, standing, with_standing_codes}
 use Rattle.rl_meaning.specs.Definitions.{with_definition}
 use Rattle.rl_meaning.specs.Printing.{with_page, turns_taken, note}
-use Rattle.rl_meaning.specs.Input.{with_input}
 use Rattle.rl_meaning.specs.Evaluation.{with_expansion, without_expansion}
 use Rattle.rl_agrees.specs.Later.{IsMore, IsNoted, StaysOrNoted, NotedBefore, IsIn, first, further, CodesStand, Later}
 use Rattle.rl_agrees.proofs.OneRun.{Steps}
 use Rattle.rl_agrees.proofs.OneRunPrinting.{more_same, more_behind, more_then}
 use Rattle.rl_agrees.proofs.LaterLists.{get_appended, get_set_other, set_definition, appended_definition}
-use Rattle.rl_agrees.proofs.LaterStands.{and_first, and_second, SameDefinitions, all_stand_more}
+use Rattle.rl_agrees.proofs.LaterStands.{and_second, SameDefinitions, all_stand_more}
 
 -- ---- what does not change, or is changed and noted
 
@@ -100,16 +98,16 @@ noted_before_on s t u r le (inr n) k = inr (noted_on s t u r k le n)
 later_then : (s t u : State) → Later s t → Later t u → Later s u
 later_then s t u h k =
     let le : length s.functions ≤ length t.functions = more_length s.functions t.functions h.functions in record {
-  output = more_then _ _ _ h.output k.output;
-  notes = more_then _ _ _ h.notes k.notes;
-  event = λ r e. k.event r (h.event r e);
-  functions = more_then _ _ _ h.functions k.functions;
-  objects = omega (arith, h.objects, k.objects);
-  stay = λ r l. stays_on s t u r le (k.noted r) (h.stay r l) (k.stay r (omega (arith, l, h.objects)));
-  noted = λ r. noted_before_on s t u r le (h.noted r) (k.noted r);
-  fewer = λ c i. h.fewer c (k.fewer c i);
-  stand = λ stand. k.stand (h.stand stand);
-}
+      output = more_then _ _ _ h.output k.output;
+      notes = more_then _ _ _ h.notes k.notes;
+      event = λ r e. k.event r (h.event r e);
+      functions = more_then _ _ _ h.functions k.functions;
+      objects = omega (arith, h.objects, k.objects);
+      stay = λ r l. stays_on s t u r le (k.noted r) (h.stay r l) (k.stay r (omega (arith, l, h.objects)));
+      noted = λ r. noted_before_on s t u r le (h.noted r) (k.noted r);
+      fewer = λ c i. h.fewer c (k.fewer c i);
+      stand = λ stand. k.stand (h.stand stand);
+    }
 
 -- ---- objects
 
@@ -129,16 +127,16 @@ made_later o s = record {
 fresh_later : (r : ℕ) (o : Object) (s t : State) → Later s t → length s.store ≤ r → Later s (with_object (Ref r) o t)
 fresh_later r o s t h le =
     let u : State = with_object (Ref r) o t in record {
-  output = h.output;
-  notes = h.notes;
-  event = h.event;
-  functions = h.functions;
-  objects = omega (arith, h.objects, length-set t.store r o);
-  stay = λ q l. stays q l (h.stay q l);
-  noted = λ q. noted q (h.noted q);
-  fewer = h.fewer;
-  stand = λ stand. codes_more t u (record { at = λ i. refl }) (more_same t.functions) refl (h.stand stand);
-}
+      output = h.output;
+      notes = h.notes;
+      event = h.event;
+      functions = h.functions;
+      objects = omega (arith, h.objects, length-set t.store r o);
+      stay = λ q l. stays q l (h.stay q l);
+      noted = λ q. noted q (h.noted q);
+      fewer = h.fewer;
+      stand = λ stand. codes_more t u (record { at = λ i. refl }) (more_same t.functions) refl (h.stand stand);
+    }
   where
     stays : (q : ℕ) → q < length s.store → StaysOrNoted s t q → StaysOrNoted s (with_object (Ref r) o t) q
     stays q l (inl e) = inl (get_set_other t.store r q o (λ e. absurd (omega (arith, e, l, le))) ∙ e)
@@ -152,16 +150,16 @@ fresh_later r o s t h le =
 changed_later : (r : ℕ) (xs : List Object) (s : State) → length xs ≡ length s.store → ((q : ℕ) → r ≢ q → slice_get xs q ≡ slice_get s.store q) → Later s (changing (Ref r) (record s { store = xs }))
 changed_later r xs s same others =
     let t : State = changing (Ref r) (record s { store = xs }) in record {
-  output = more_same s.outside.output;
-  notes = more_same s.outside.notes;
-  event = λ r e. e;
-  functions = more_same s.functions;
-  objects = omega (arith, same);
-  stay = λ q l. stays q;
-  noted = λ q. noted q;
-  fewer = λ c i. i;
-  stand = codes_more s t (record { at = λ i. refl }) (more_same s.functions) refl;
-}
+      output = more_same s.outside.output;
+      notes = more_same s.outside.notes;
+      event = λ r e. e;
+      functions = more_same s.functions;
+      objects = omega (arith, same);
+      stay = λ q l. stays q;
+      noted = λ q. noted q;
+      fewer = λ c i. i;
+      stand = codes_more s t (record { at = λ i. refl }) (more_same s.functions) refl;
+    }
   where
     here : (q : ℕ) → (r == q) ≡ true → IsNoted (changing (Ref r) (record s { store = xs })) q (length s.functions)
     here q e = record { functions = length s.functions; last = ap (λ (b : Bool). if b then Some (length s.functions) else changed_at q s.watched.changes) e; late = omega arith }
@@ -264,16 +262,16 @@ standing_later : (i : ℕ) (symbol : Symbol) (s : State) → Later s (with_stand
 standing_later i symbol s =
     let u : State = with_symbol i symbol s in
     let t : State = with_standing_codes i u in record {
-  output = more_same s.outside.output;
-  notes = more_same s.outside.notes;
-  event = λ r e. e;
-  functions = more_same s.functions;
-  objects = omega arith;
-  stay = λ r h. inl refl;
-  noted = λ r. inl refl;
-  fewer = λ c k. standing_fewer u i s.compilation.coded c k;
-  stand = λ stand c k. all_stand_more u t (record { at = λ i. refl }) (more_same s.functions) c.dependencies (standing_stand u i s.compilation.coded c k);
-}
+      output = more_same s.outside.output;
+      notes = more_same s.outside.notes;
+      event = λ r e. e;
+      functions = more_same s.functions;
+      objects = omega arith;
+      stay = λ r h. inl refl;
+      noted = λ r. inl refl;
+      fewer = λ c k. standing_fewer u i s.compilation.coded c k;
+      stand = λ stand c k. all_stand_more u t (record { at = λ i. refl }) (more_same s.functions) c.dependencies (standing_stand u i s.compilation.coded c k);
+    }
 
 change_later : (i : ℕ) (new : Option Definition) (s : State) → Later s (with_change i new s)
 change_later i new s = at (turns i new s)

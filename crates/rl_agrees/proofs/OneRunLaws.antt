@@ -1,5 +1,5 @@
 -- The laws of one run, for each job and each run.
-use Rattle.std.proofs.Common.{◌≡◌, ℕ, Bool, true, false, List, Option, refl}
+use Rattle.std.proofs.Common.{◌≡◌, ℕ, false, List, Option}
 use Rattle.rl_tree.specs.Name.{Name}
 use Rattle.rl_meaning.specs.State.{State}
 use Rattle.rl_meaning.specs.Outcome.{Levels}

@@ -1,17 +1,17 @@
 -- C-macros, and jobs, keep a law on one run.
-use Rattle.std.proofs.Common.{◌==◌, ℕ, zero, suc, Bool, true, false, List, [], ◌∷◌, length, map, drop, Option, Some, None}
-use Rattle.rl_tree.specs.Value.{Value, Int, Id, Str, Ref, Fun}
-use Rattle.rl_meaning.specs.Names.{Special, Quote, Function, Cond, Progn, And, Or, Setq, Prog, Go, Return, List_, Plus, Times, Max, Min, De, Df, Dm}
+use Rattle.std.proofs.Common.{◌==◌, ℕ, zero, suc, List, [], ◌∷◌, length, Option, Some, None}
+use Rattle.rl_tree.specs.Value.{Value, Id, Fun}
+use Rattle.rl_meaning.specs.Names.{Special, De, Df, Dm}
 use Rattle.rl_meaning.specs.State.{State, Code, Tree, Held, Pointer, Definition, SpecialForm, NativeFunction, HeldFunction}
 use Rattle.rl_meaning.specs.State as state
 use Rattle.rl_meaning.specs.CMacros.{Operand, Slot, Constant, Variable, Register, Entry, Alloc, Dealloc, Load, Store, SetVar, Move, Copy, Link, LinkE, Self, CallNative, Jump, JumpNil, JumpT, JumpEq, JumpNe, Label, GoTo, Bind, ProgBind, Free, Exit, Raise}
-use Rattle.rl_meaning.specs.Outcome.{Outcome, Done, Levels}
+use Rattle.rl_meaning.specs.Outcome.{Outcome, Levels}
 use Rattle.rl_meaning.specs.Symbols.{nil, is_nil, same, symbol_at, cdr_at, list_elements}
-use Rattle.rl_meaning.specs.Errors.{fail, wrong_count, wrong_type, badly_formed}
+use Rattle.rl_meaning.specs.Errors.{wrong_count, wrong_type, badly_formed}
 use Rattle.rl_meaning.specs.Holding.{function_at, form_at}
 use Rattle.rl_meaning.specs.Variables.{with_mark, binding_levels}
 use Rattle.rl_meaning.specs.Forms.{fits}
-use Rattle.rl_meaning.specs.Evaluation.{Job, Run, Onward, Call_, From, In, Rec, Bound, Machine, Frame, kind_of_definition}
+use Rattle.rl_meaning.specs.Evaluation.{Job, Run, Onward, Call_, From, In, Rec, Machine, Frame, kind_of_definition}
 use Rattle.rl_meaning.specs.Machine as machine
 use Rattle.rl_meaning.specs.Machine.{register, with_register, after_link, with_slot, allocated, deallocated, content, bound, freed, undone, one_more, ended, at_entry, is_same, behind, behind_entry, part_linked, list_linked, definition_linked, form_linked, function_linked, linked_to, linked, again, run, seek, run_code}
 use Rattle.rl_meaning.specs.Compiling.{Compiler}

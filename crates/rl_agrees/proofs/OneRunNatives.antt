@@ -1,22 +1,21 @@
 -- Natives keep a law on one run.
-use Rattle.std.proofs.Common.{◌≡◌, pos, negsuc, ℕ, zero, suc, Bool, true, false, List, slice_get, if◌then◌else◌, Option, Some, None, refl}
+use Rattle.std.proofs.Common.{◌≡◌, pos, negsuc, ℕ, zero, suc, Bool, List, slice_get, Option, Some, None, refl}
 use Rattle.rl_tree.specs.Value.{Value, Int, Id, Str, Ref, Fun}
-use Rattle.rl_tree.specs.Value as object
 use Rattle.rl_tree.specs.Atoms as atoms
 use Rattle.rl_tree.specs.declared.held.Kind.{Kind}
 use Rattle.rl_tree.specs.declared.held.VarKind.{VarKind}
 use Rattle.rl_meaning.specs.Names.{Native, Tests, Eq, Equal, Part, Cons, Rplaca, Rplacd, Append, Reverse, Length, Member, Memq, Assoc, Nconc, Number, Error, Mkvect, Getv, Putv, Upbv, Gensym, Intern, Explode, Compress, Get, Flagp, Put, Remprop, Flag, Remflag, Getd, Putd, Remd, Fluid, Global, Unfluid, Set, Prin1, Prin2, Print, Terpri, Posn, Linelength, Read, Readch}
 use Rattle.rl_meaning.specs.State.{State, Symbol, Definition, Pointer}
-use Rattle.rl_meaning.specs.Constants.{reading, reading_pair}
+use Rattle.rl_meaning.specs.Constants.{reading_pair}
 use Rattle.rl_meaning.specs.Outcome.{Outcome, Done, Levels}
-use Rattle.rl_meaning.specs.Symbols.{nil, symbol_at, with_symbol, pair_at, car_at, cdr_at}
+use Rattle.rl_meaning.specs.Symbols.{symbol_at, with_symbol, cdr_at}
 use Rattle.rl_meaning.specs.Atoms.{made_places, mkvect, place_at, place_of, with_vector, getv, putv, upbv, gensym, intern, explode, Spelled, InName, InNumber, AtZero, AfterQuote, Compressed, Spells, Stops, atom_of, compressed_atom, compress_bytes, compress}
 use Rattle.rl_meaning.specs.Properties.{Place, look_for, with_properties, of_identifier, get, flagp, add_first, put_at, with_identifier, put, taken_out, without, remprop, or_list, at_list_end, for_each, flag_at, for_flag, flag, remflag}
 use Rattle.rl_meaning.specs.Definitions.{with_definition, define, definition_pair, getd, Body, Given, Lambda, kind_of, with_kind, body_in, with_body, own_name, hold_lambda, function_of, putd, remd, declared, declare, fluid, global, undeclare, unfluid, set}
 use Rattle.rl_meaning.specs.Natives.{argument, native}
 use Rattle.rl_meaning.specs.Evaluation.{Position}
 use Rattle.rl_agrees.proofs.OneRun.{Steps, Follows, LeadsAt, follows_then, then_leads}
-use Rattle.rl_agrees.proofs.OneRunObjects.{leading, pair_leads, chained_none, made_list_leads, made_follows, changed_follows, cdr_changed_follows, reading_follows, reading_pair_follows}
+use Rattle.rl_agrees.proofs.OneRunObjects.{leading, pair_leads, chained_none, made_list_leads, made_follows, changed_follows, cdr_changed_follows, reading_pair_follows}
 use Rattle.rl_agrees.proofs.OneRunWalks.{walk_leads, equal_leads}
 use Rattle.rl_agrees.proofs.OneRunHolding.{hold_function_leads}
 use Rattle.rl_agrees.proofs.OneRunVariables.{by_name_leads, with_integer_leads, operated_leads, part_leads, with_car_leads, with_cdr_leads, append_leads, reversed_leads, list_length_leads, member_leads, memq_leads, assoc_leads, nconc_leads}

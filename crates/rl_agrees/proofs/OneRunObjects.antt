@@ -1,12 +1,12 @@
 -- Making objects, reading them and raising errors keep a law on one run.
-use Rattle.std.proofs.Common.{◌≡◌, ◌≤◌, ◌+◌, ℕ, ℤ, Bool, true, false, List, [], ◌∷◌, ◌++◌, length, Option, Some, None, refl, subst, arith}
+use Rattle.std.proofs.Common.{◌≤◌, ℕ, ℤ, Bool, true, false, List, [], ◌∷◌, ◌++◌, length, Option, Some, None, refl}
 use Rattle.std.specs.List.{list_any}
 use Rattle.rl_tree.specs.Value.{Value, Int, Id, Str, Ref, Fun, Object}
 use Rattle.rl_tree.specs.Value as object
 use Rattle.rl_tree.specs.Name.{Name}
-use Rattle.rl_meaning.specs.State.{State, Symbol, Definition, Function, Entry, Expansion, Event, Recorded, Turned}
-use Rattle.rl_meaning.specs.Outcome.{Outcome, Done, made_pair, made_string, made_vector, made_symbol}
-use Rattle.rl_meaning.specs.Symbols.{nil, new_symbol, symbol_at, with_symbol, with_top, interned_at, interned, pair_at}
+use Rattle.rl_meaning.specs.State.{State, Expansion, Event, Turned}
+use Rattle.rl_meaning.specs.Outcome.{Done, made_pair, made_string, made_vector, made_symbol}
+use Rattle.rl_meaning.specs.Symbols.{nil, new_symbol, with_top, interned_at, interned, pair_at}
 use Rattle.rl_meaning.specs.Errors.{raise, fail}
 use Rattle.rl_meaning.specs.Events.{with_recorded, with_event}
 use Rattle.rl_meaning.specs.Constants.{changing, met, event_read, objects_read, reading, reading_pair, reading_whole, is_changed_constant}

@@ -1,6 +1,5 @@
 -- Printing only puts more on the page, and keeps a law on one run.
-use Rattle.std.proofs.Common.{◌≡◌, ◌==◌, ◌+◌, ◌&&◌, nat_lt, pos, ℕ, zero, suc, Bool, true, false, if◌then◌else◌, List, [], ◌∷◌, ◌++◌, length, slice_get, Option, Some, None, refl, sym, ap, ◌∙◌, append_assoc, append-nil}
-use Rattle.std.specs.Prelude.{codes}
+use Rattle.std.proofs.Common.{◌==◌, ◌+◌, ◌&&◌, nat_lt, pos, ℕ, zero, suc, Bool, true, false, if◌then◌else◌, List, [], ◌∷◌, ◌++◌, length, slice_get, Option, Some, None, sym, ap, ◌∙◌, append_assoc, append-nil}
 use Rattle.rl_tree.specs.Value.{Value, Int, Id, Str, Ref, Fun, Object}
 use Rattle.rl_tree.specs.Value as object
 use Rattle.rl_tree.specs.Atoms.{Style, Prin2}
@@ -12,7 +11,7 @@ use Rattle.rl_meaning.specs.Printing.{page_of, setting_in, progress_in, levels_i
 use Rattle.rl_meaning.specs.Printing as text
 use Rattle.rl_meaning.specs.Evaluation.{Position}
 use Rattle.rl_agrees.specs.Later.{IsMore}
-use Rattle.rl_agrees.proofs.OneRun.{Steps, Follows, LeadsAt, follows_then, done_leads, stopped_leads}
+use Rattle.rl_agrees.proofs.OneRun.{Steps, Follows, LeadsAt, follows_then}
 use Rattle.rl_agrees.proofs.OneRunObjects.{leading, reading_whole_follows}
 
 -- ---- lists that begin alike

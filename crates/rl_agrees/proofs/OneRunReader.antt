@@ -1,5 +1,5 @@
 -- Reading keeps what each operation of its maker keeps, where lists that are not whole yet have something.
-use Rattle.std.proofs.Common.{ℕ, zero, suc, ◌^◌, ◌==◌, ◌+◌, nat_lt, nat_le, Bool, true, false, if◌then◌else◌, List, [], ◌∷◌, length, drop, Some, None}
+use Rattle.std.proofs.Common.{ℕ, zero, suc, ◌^◌, ◌==◌, nat_lt, nat_le, Bool, true, false, if◌then◌else◌, List, [], ◌∷◌, length}
 use Rattle.rl_tree.specs.Bytes.{is_digit, is_name_byte}
 use Rattle.rl_text.specs.Byte.{Mark, Open, Close, Dot, Quote, OpenVector, CloseVector, Class, Blank, Percent, Marks, Text, Escape, Letter, Digit, Sign, Special, Nothing, class_of}
 use Rattle.rl_text.specs.Word.{Atom, Integer, Identifier, String, signed}

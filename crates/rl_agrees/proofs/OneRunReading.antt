@@ -2,18 +2,17 @@
 use Rattle.std.proofs.Common.{◌+◌, drop, ℕ, Bool, true, false, List, [], ◌∷◌, Some, None}
 use Rattle.rl_tree.specs.Value.{Value}
 use Rattle.rl_text.specs.Word as word
-use Rattle.rl_text.specs.Maker.{Made}
 use Rattle.rl_text.specs.Reader.{read_by}
 use Rattle.rl_text.specs.Reader as reader
 use Rattle.rl_meaning.specs.State.{State}
 use Rattle.rl_meaning.specs.Outcome.{Outcome, Done, Failed, Went, Returned, Stopped, Stop, Levels, deeper}
-use Rattle.rl_meaning.specs.Lists.{Chain, extended}
+use Rattle.rl_meaning.specs.Lists.{Chain}
 use Rattle.rl_meaning.specs.Errors.{unreadable}
-use Rattle.rl_meaning.specs.Input.{with_input, byte_number, Place, made_in, make, made_atom, byte_turn, entered_from, enter, ended_chain, vector_of, quoted, in_state, Reading, Form, End, Unreadable, reading_of, read_bytes, read_ended, read, readch_of, readch}
+use Rattle.rl_meaning.specs.Input.{with_input, byte_number, Place, made_in, made_atom, byte_turn, entered_from, enter, ended_chain, vector_of, quoted, in_state, Reading, Form, End, Unreadable, reading_of, read_bytes, read_ended, read, readch_of, readch}
 use Rattle.rl_meaning.specs.Evaluation.{Position, Inside}
 use Rattle.rl_agrees.proofs.OneRun.{Steps, Follows, LeadsAt, Leads, Makes, follows_then, done_leads, stopped_leads, makes_any, deeper_leads}
 use Rattle.rl_agrees.proofs.OneRunObjects.{leading, fail_leads, Chained, chained_none, cdr_set_follows, extended_makes}
-use Rattle.rl_agrees.proofs.OneRunReader.{Gives, Anything, IsKept, Reads, reads}
+use Rattle.rl_agrees.proofs.OneRunReader.{Gives, IsKept, Reads, reads}
 
 pub input_follows : {P : State → State → Type 0} (steps : Steps P) {r : State} (rest : List ℕ) (s : State) → Follows P r s → Follows P r (with_input rest s)
 input_follows steps {r} rest s h = follows_then steps r s _ h (steps.input rest s)

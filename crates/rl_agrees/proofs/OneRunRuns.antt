@@ -6,9 +6,9 @@ use Rattle.rl_meaning.specs.State.{State, Function, SpecialForm, NativeFunction,
 use Rattle.rl_meaning.specs.Outcome.{Outcome, Done, Failed, Went, Returned, Stopped, Levels}
 use Rattle.rl_meaning.specs.Symbols.{nil}
 use Rattle.rl_meaning.specs.Errors.{error_text, unreadable}
-use Rattle.rl_meaning.specs.Holding.{hold_form, pointer_to, function_at}
+use Rattle.rl_meaning.specs.Holding.{pointer_to, function_at}
 use Rattle.rl_meaning.specs.Printing.{page_of}
-use Rattle.rl_meaning.specs.Input.{Reading, Form, End, Unreadable, read_bytes}
+use Rattle.rl_meaning.specs.Input.{Reading, Form, End, Unreadable}
 use Rattle.rl_meaning.specs.Evaluation.{longest_chain, Inside}
 use Rattle.rl_meaning.specs.Run.{Ran, held_evaluated, statement, after_statement, print_atom, print_unreadable, behind_line, goes_on, read_and_run, run_within, run_bytes, source_of, run_file}
 use Rattle.rl_agrees.proofs.OneRun.{Steps, Follows, Leads, done_leads, stopped_leads, then_leads}

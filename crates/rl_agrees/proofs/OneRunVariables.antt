@@ -1,22 +1,21 @@
 -- Variables, numbers and lists keep a law on one run.
-use Rattle.std.proofs.Common.{◌≡◌, ℤ, pos, negsuc, ℕ, Bool, true, false, List, [], ◌∷◌, length, Option, Some, None, refl}
-use Rattle.rl_tree.specs.Value.{Value, Int, Id, Str, Ref, Fun}
-use Rattle.rl_tree.specs.Value as object
+use Rattle.std.proofs.Common.{ℤ, pos, negsuc, ℕ, Bool, true, false, List, [], ◌∷◌, length, Option, Some, None}
+use Rattle.rl_tree.specs.Value.{Value, Int}
 use Rattle.rl_tree.specs.declared.held.VarKind.{VarKind}
 use Rattle.rl_tree.specs.declared.held.VarKind.TheVariants as kind
 use Rattle.rl_meaning.specs.Names.{Operation}
 use Rattle.rl_meaning.specs.Constants.{reading}
 use Rattle.rl_meaning.specs.Names as names
 use Rattle.rl_meaning.specs.State.{State, Kept, Scope, Pointer, Entry}
-use Rattle.rl_meaning.specs.Outcome.{Outcome, Done, Failed, Went, Returned, Stopped, Levels, then_do}
+use Rattle.rl_meaning.specs.Outcome.{Outcome, Done, Failed, Went, Returned, Stopped, Levels}
 use Rattle.rl_meaning.specs.Symbols.{nil, pair_at}
 use Rattle.rl_meaning.specs.Variables.{Nearest, strays, top_value, used, nearest, variable, with_value, set_by, assigned, assigned_by_name, with_binding, with_mark, bound_as, bind, bind_all, binding_levels, with_oldest, restored, binding}
 use Rattle.rl_meaning.specs.Numbers.{integer, power, raised_to, of_two, of_one, with_integer, operated}
-use Rattle.rl_meaning.specs.Lists.{with_pair, part, with_car, with_cdr, cdr_set, Chain, extended, append, reversed, list_length, first_pair, member, memq, associated, assoc, joined, nconc, and_goes}
-use Rattle.rl_meaning.specs.Walks.{Further, Goes, Ends, Walked}
-use Rattle.rl_meaning.specs.Evaluation.{Position, Statement, Inside}
+use Rattle.rl_meaning.specs.Lists.{with_pair, part, with_car, with_cdr, Chain, append, reversed, list_length, first_pair, member, memq, associated, assoc, joined, nconc, and_goes}
+use Rattle.rl_meaning.specs.Walks.{Goes, Walked}
+use Rattle.rl_meaning.specs.Evaluation.{Position}
 use Rattle.rl_agrees.proofs.OneRun.{Steps, Follows, LeadsAt, Makes, follows_then, done_leads, failed_leads, went_leads, returned_leads, done_makes, then_leads, then_makes, then_with, deeper_leads}
-use Rattle.rl_agrees.proofs.OneRunObjects.{leading, Chained, chained_none, extended_makes, ended_leads, made_list_leads, top_follows, event_follows, changed_follows, cdr_changed_follows, reading_follows}
+use Rattle.rl_agrees.proofs.OneRunObjects.{leading, Chained, chained_none, extended_makes, ended_leads, top_follows, event_follows, changed_follows, cdr_changed_follows, reading_follows}
 use Rattle.rl_agrees.proofs.OneRunWalks.{FurtherIs, walk_makes, walk_leads, equal_leads}
 
 -- ---- variables and bindings

@@ -1,5 +1,5 @@
 -- What a run leaves as it was, whatever it does: what was printed and noted, the first event, functions, objects but for changes that are noted, and that the codes of the map stand (this project's).
-use Rattle.std.specs.Prelude.{◌≡◌, ◌⊎◌, ◌≤◌, ◌<◌, ℕ, true, List, ◌∷◌, ◌++◌, length, slice_get, Option, Some}
+use Rattle.std.specs.Prelude.{◌≡◌, ◌⊎◌, ◌≤◌, ◌<◌, ℕ, true, List, ◌∷◌, ◌++◌, length, slice_get, Some}
 use Rattle.rl_meaning.specs.State.{State, Coded, Recorded}
 use Rattle.rl_meaning.specs.Constants.{changed_at}
 use Rattle.rl_meaning.specs.Standing.{all_stand}
