@@ -222,7 +222,7 @@ module _ {P : State → State → Type 0} (steps : Steps P) {position : Position
   pub turn_leads : {A : Type 0} (s : State) (next : State → Outcome A) → Follows P r s → ((t : State) → Follows P r t → LeadsAt P position r (next t)) → LeadsAt P position r (turn s next)
   turn_leads s next h k = turn_claims steps (λ o. LeadsAt P position r o) s next h (λ why. stopped_leads why s h) k
 
-  entered_leads : {A : Type 0} (b : Bool) (l : ℕ) (s : State) (next : Levels → Outcome A) → Follows P r s → ((l : Levels) → LeadsAt P position r (next l)) → LeadsAt P position r (entered b l s next)
+  pub entered_leads : {A : Type 0} (b : Bool) (l : ℕ) (s : State) (next : Levels → Outcome A) → Follows P r s → ((l : Levels) → LeadsAt P position r (next l)) → LeadsAt P position r (entered b l s next)
   entered_leads true l s next h k = k (Some l)
   entered_leads false l s next h k = stopped_leads _ s h
 

@@ -56,11 +56,11 @@ no_compiler_leads steps = record {
 -- ---- what asks for no job
 
 module _ {P : State → State → Type 0} (steps : Steps P) {position : Position} {r : State} where
-  with_arguments_leads : {A : Type 0} (o : Option (List Value)) (l : Value) (s : State) (next : List Value → State → Outcome A) → Follows P r s → ((vs : List Value) (t : State) → Follows P r t → LeadsAt P position r (next vs t)) → LeadsAt P position r (with_arguments o l s next)
+  pub with_arguments_leads : {A : Type 0} (o : Option (List Value)) (l : Value) (s : State) (next : List Value → State → Outcome A) → Follows P r s → ((vs : List Value) (t : State) → Follows P r t → LeadsAt P position r (next vs t)) → LeadsAt P position r (with_arguments o l s next)
   with_arguments_leads (Some vs) l s next h k = k vs s h
   with_arguments_leads None l s next h k = search leading
 
-  print_unless_nil_leads : (levels : Levels) (msgp message : Value) (s : State) → Follows P r s → LeadsAt P position r (print_unless_nil levels msgp message s)
+  pub print_unless_nil_leads : (levels : Levels) (msgp message : Value) (s : State) → Follows P r s → LeadsAt P position r (print_unless_nil levels msgp message s)
   print_unless_nil_leads levels msgp message s h = search (leading, print_error_leads)
 
   pub caught_leads : (levels : Levels) (msgp : Value) (o : Outcome Value) → LeadsAt P position r o → LeadsAt P position r (caught levels msgp o)
@@ -93,7 +93,7 @@ module _ {P : State → State → Type 0} {rec : Rec} (keeps : RecLeads P rec) {
   pub behind_follows : (v : Value) (s : State) → Follows P r s → Follows P r (rec.compiler.defined v s)
   behind_follows v s h = follows_then keeps.steps r s _ h (keeps.compiler.behind v s)
 
-  counted_leads : (b : Bool) (culprit : Value) (s : State) (next : State → Outcome Value) → Follows P r s → Leads P r (next s) → Leads P r (counted rec b culprit s next)
+  pub counted_leads : (b : Bool) (culprit : Value) (s : State) (next : State → Outcome Value) → Follows P r s → Leads P r (next s) → Leads P r (counted rec b culprit s next)
   counted_leads true culprit s next h k = k
   counted_leads false culprit s next h k = fail_leads keeps.steps wrong_count culprit s h
 

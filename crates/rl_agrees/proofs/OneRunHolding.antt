@@ -17,14 +17,14 @@ use Rattle.rl_agrees.proofs.OneRunObjects.{leading, fail_leads, IsNew, pair_make
 use Rattle.rl_agrees.proofs.OneRunWalks.{walk_leads}
 
 -- a reader that keeps the law
-abbrev Reads : (State → State → Type 0) → Position → State → Reader → Type 0
+abbrev pub Reads : (State → State → Type 0) → Position → State → Reader → Type 0
 Reads P position r read = (descent : Bool) (levels : Levels) (v : Value) (s : State) → Follows P r s → LeadsAt P position r (read descent levels v s)
 
 -- an act that keeps it, and such acts at any level
-abbrev Acts : (State → State → Type 0) → Position → State → (State → Outcome Value) → Type 0
+abbrev pub Acts : (State → State → Type 0) → Position → State → (State → Outcome Value) → Type 0
 Acts P position r act = (s : State) → Follows P r s → LeadsAt P position r (act s)
 
-abbrev ActsAt : (State → State → Type 0) → Position → State → (Levels → State → Outcome Value) → Type 0
+abbrev pub ActsAt : (State → State → Type 0) → Position → State → (Levels → State → Outcome Value) → Type 0
 ActsAt P position r act = (l : Levels) → Acts P position r (λ s. act l s)
 
 pub function_follows : {P : State → State → Type 0} (steps : Steps P) {r : State} (f : Function) (s : State) → Follows P r s → Follows P r (with_function f s)
@@ -33,23 +33,23 @@ function_follows steps {r} f s h = follows_then steps r s _ h (steps.function f 
 module _ {P : State → State → Type 0} (steps : Steps P) {position : Position} {r : State} where
   -- ---- reading a form
 
-  read_quoted_leads : (o : Option Value) (list : Reader) → Reads P position r list → Reads P position r (read_quoted o list)
+  pub read_quoted_leads : (o : Option Value) (list : Reader) → Reads P position r list → Reads P position r (read_quoted o list)
   read_quoted_leads (Some x) list k descent levels v s h =
       pair_turn_leads steps descent levels s _ h (λ l t f. turn_leads steps (reading v t) _ (reading_follows steps v t f) (λ t f. done_leads (quote_tree x) (reading (cdr_at t v) t) (reading_follows steps (cdr_at t v) t f)))
   read_quoted_leads None list k descent levels v s h = k descent levels v s h
 
-  read_parts_leads : (element list : Reader) → Reads P position r element → Reads P position r list → (o : Option (Value × Value)) → Reads P position r (read_parts element list o)
+  pub read_parts_leads : (element list : Reader) → Reads P position r element → Reads P position r list → (o : Option (Value × Value)) → Reads P position r (read_parts element list o)
   read_parts_leads element list j k None descent levels v s h = search leading
   read_parts_leads element list j k (Some parts) descent levels v s h =
       pair_turn_leads steps descent levels s _ h (λ l t f. then_leads _ _ (j true l parts.0 (reading v t) (reading_follows steps v t f)) (λ a t f. then_leads _ _ (k false l parts.1 t f) (λ d t f. search leading)))
 
-  list_within_leads : (n : ℕ) → Reads P position r (list_within n)
+  pub list_within_leads : (n : ℕ) → Reads P position r (list_within n)
   list_within_leads zero descent levels v s h = search leading
   list_within_leads (suc n) descent levels v s h =
       read_parts_leads (λ b l v s. read_quoted (quoted_part s v) (λ b l v s. list_within n b l v s) b l v s) (λ b l v s. list_within n b l v s)
       (λ b l v s h. read_quoted_leads (quoted_part s v) (λ b l v s. list_within n b l v s) (λ b l v s h. list_within_leads n b l v s h) b l v s h) (λ b l v s h. list_within_leads n b l v s h) (pair_at s v) descent levels v s h
 
-  read_list_leads : Reads P position r read_list
+  pub read_list_leads : Reads P position r read_list
   read_list_leads descent levels v s h = list_within_leads (suc (suc (turns_left s))) descent levels v s h
 
   pub read_form_leads : (levels : Levels) (v : Value) (s : State) → Follows P r s → LeadsAt P position r (read_form levels v s)
@@ -87,17 +87,17 @@ module _ {P : State → State → Type 0} (steps : Steps P) {position : Position
 
   -- ---- copying
 
-  copied_parts_leads : (pair : Value) (first rest : State → Outcome Value) → IsNew r pair → Acts P position r first → Acts P position r rest → Acts P position r (copied_parts pair first rest)
+  pub copied_parts_leads : (pair : Value) (first rest : State → Outcome Value) → IsNew r pair → Acts P position r first → Acts P position r rest → Acts P position r (copied_parts pair first rest)
   copied_parts_leads pair first rest new j k s h =
       then_leads _ _ (j s h) (λ a t f.
       then_leads _ _ (k (with_object pair (object.Pair a nil) t) (fresh_follows steps pair (object.Pair a nil) t new f)) (λ d u f.
       done_leads pair (with_object pair (object.Pair a d) u) (fresh_follows steps pair (object.Pair a d) u new f)))
 
-  copied_pair_leads : (descent : Bool) (levels : Levels) (first rest : Levels → State → Outcome Value) → ActsAt P position r first → ActsAt P position r rest → Acts P position r (λ s. copied_pair descent levels first rest s)
+  pub copied_pair_leads : (descent : Bool) (levels : Levels) (first rest : Levels → State → Outcome Value) → ActsAt P position r first → ActsAt P position r rest → Acts P position r (λ s. copied_pair descent levels first rest s)
   copied_pair_leads descent levels first rest j k s h =
       pair_turn_leads steps descent levels s _ h (λ l t f. then_with (λ p t. IsNew r p) _ _ (pair_makes steps nil nil t f) (λ pair u f new. copied_parts_leads pair (λ s. first l s) (λ s. rest l s) new (j l) (k l) u f))
 
-  copied_at_leads : (descent : Bool) (levels : Levels) (t : Tree) (s : State) → Follows P r s → LeadsAt P position r (copied_at descent levels t s)
+  pub copied_at_leads : (descent : Bool) (levels : Levels) (t : Tree) (s : State) → Follows P r s → LeadsAt P position r (copied_at descent levels t s)
   copied_at_leads descent levels (Atom v) s h = search leading
   copied_at_leads descent levels (Quoted v) s h = search leading
   copied_at_leads descent levels (Pair a d) s h =

@@ -1,5 +1,5 @@
 -- A later state is a law on one run.
-use Rattle.std.proofs.Common.{◌≡◌, ◌≢◌, ◌⊎◌, inl, inr, ◌≤◌, ◌<◌, ◌==◌, ◌&&◌, not, if◌then◌else◌, ℕ, Bool, true, false, List, [], ◌∷◌, ◌++◌, length, slice_get, Option, Some, None, refl, sym, ap, ◌∙◌, subst, arith}
+use Rattle.std.proofs.Common.{◌≡◌, ◌≢◌, inl, inr, ◌≤◌, ◌<◌, ◌==◌, if◌then◌else◌, ℕ, Bool, true, false, List, [], ◌∷◌, ◌++◌, length, slice_get, Option, Some, None, refl, sym, ap, ◌∙◌, subst, arith}
 use Rattle.std.specs.Prelude.{slice_set, slice_index_or}
 use Rattle.std.proofs.lemmas.Bool.Decides.{eqb_tells}
 use Rattle.std.proofs.lemmas.List.{length-set, length-append}
@@ -12,15 +12,15 @@ use Rattle.rl_meaning.specs.Constants.{changing, changed_at}
 use Rattle.rl_meaning.specs.Holding.{with_function}
 use Rattle.rl_meaning.specs.Copying.{with_object}
 use Rattle.rl_meaning.specs.Reach.{turns, with_change}
-use Rattle.rl_meaning.specs.Standing.{all_stand, standing, with_standing_codes}
+use Rattle.rl_meaning.specs.Standing.{with_standing_codes}
 use Rattle.rl_meaning.specs.Definitions.{with_definition}
 use Rattle.rl_meaning.specs.Printing.{with_page, turns_taken, note}
 use Rattle.rl_meaning.specs.Evaluation.{with_expansion, without_expansion}
-use Rattle.rl_agrees.specs.Later.{IsMore, IsNoted, StaysOrNoted, NotedBefore, IsIn, first, further, CodesStand, Later}
+use Rattle.rl_agrees.specs.Later.{IsMore, IsNoted, StaysOrNoted, NotedBefore, IsIn, CodesStand, Later}
 use Rattle.rl_agrees.proofs.OneRun.{Steps}
 use Rattle.rl_agrees.proofs.OneRunPrinting.{more_same, more_behind, more_then}
 use Rattle.rl_agrees.proofs.LaterLists.{get_appended, get_set_other, set_definition, appended_definition}
-use Rattle.rl_agrees.proofs.LaterStands.{and_second, SameDefinitions, all_stand_more}
+use Rattle.rl_agrees.proofs.LaterStands.{standing_fewer, standing_stand, SameDefinitions, all_stand_more}
 
 -- ---- what does not change, or is changed and noted
 
@@ -227,35 +227,6 @@ function_later f s = alike_later s (with_function f s) (record {
   event = λ r e. e;
   coded = refl;
 })
-
--- what is in a list is its first element or further
-in_list : {A : Type 0} (a b : A) (bs : List A) → IsIn a (b ∷ bs) → (b ≡ a) ⊎ IsIn a bs
-in_list a b bs (first rest) = inl refl
-in_list a b bs (further c rest h) = inr h
-
--- one more code, or none
-also_in : (x c : Coded) (ys cs : List Coded) → (IsIn c ys → IsIn c cs) → (b : Bool) → IsIn c (if b then x ∷ ys else ys) → IsIn c (x ∷ cs)
-also_in x c ys cs k false h = further x cs (k h)
-also_in x c ys cs k true h = elim (in_list c x ys h) [
-  | inl e ↦ subst (λ (y : Coded). IsIn c (y ∷ cs)) (sym e) (first cs)
-  | inr h ↦ further x cs (k h)
-]
-
-standing_fewer : (s : State) (i : ℕ) (cs : List Coded) (c : Coded) → IsIn c (standing s i cs) → IsIn c cs
-standing_fewer s i [] c h = h
-standing_fewer s i (x ∷ cs) c h = also_in x c (standing s i cs) cs (standing_fewer s i cs c) (not (x.name == i) && all_stand s x.dependencies) h
-
-also_stands : (s : State) (x c : Coded) (ys : List Coded) → (IsIn c ys → all_stand s c.dependencies ≡ true) → (b : Bool) → (b ≡ true → all_stand s x.dependencies ≡ true) → IsIn c (if b then x ∷ ys else ys) → all_stand s c.dependencies ≡ true
-also_stands s x c ys k false e h = k h
-also_stands s x c ys k true e h = elim (in_list c x ys h) [
-  | inl same ↦ subst (λ (y : Coded). all_stand s y.dependencies ≡ true) same (e refl)
-  | inr h ↦ k h
-]
-
-standing_stand : (s : State) (i : ℕ) (cs : List Coded) (c : Coded) → IsIn c (standing s i cs) → all_stand s c.dependencies ≡ true
-standing_stand s i [] c h = elim h [ ]
-standing_stand s i (x ∷ cs) c h =
-    also_stands s x c (standing s i cs) (standing_stand s i cs c) (not (x.name == i) && all_stand s x.dependencies) (and_second (not (x.name == i)) (all_stand s x.dependencies)) h
 
 -- behind a new definition of a name the codes that rest on it are gone
 standing_later : (i : ℕ) (symbol : Symbol) (s : State) → Later s (with_standing_codes i (with_symbol i symbol s))

@@ -19,7 +19,7 @@ use Rattle.rl_agrees.proofs.OneRunObjects.{leading, pair_leads, chained_none, ma
 use Rattle.rl_agrees.proofs.OneRunWalks.{walk_leads, equal_leads}
 use Rattle.rl_agrees.proofs.OneRunHolding.{hold_function_leads}
 use Rattle.rl_agrees.proofs.OneRunVariables.{by_name_leads, with_integer_leads, operated_leads, part_leads, with_car_leads, with_cdr_leads, append_leads, reversed_leads, list_length_leads, member_leads, memq_leads, assoc_leads, nconc_leads}
-use Rattle.rl_agrees.proofs.OneRunPrinting.{line_follows, printing_leads, print_leads, linelength_leads}
+use Rattle.rl_agrees.proofs.OneRunPrinting.{end_of_line_follows, printing_leads, print_leads, linelength_leads}
 use Rattle.rl_agrees.proofs.OneRunReading.{read_leads, readch_leads}
 
 -- ---- states
@@ -53,7 +53,7 @@ module _ {P : State → State → Type 0} (steps : Steps P) {r : State} where
 module _ {P : State → State → Type 0} (steps : Steps P) {position : Position} {r : State} where
   -- ---- vectors
 
-  places_lead : (n : ℕ) (s : State) → Follows P r s → LeadsAt P position r (made_places n s)
+  pub places_lead : (n : ℕ) (s : State) → Follows P r s → LeadsAt P position r (made_places n s)
   places_lead n s h = search (leading, made_follows)
 
   pub mkvect_leads : (v : Value) (s : State) → Follows P r s → LeadsAt P position r (mkvect v s)
@@ -62,16 +62,16 @@ module _ {P : State → State → Type 0} (steps : Steps P) {position : Position
   mkvect_leads (Int (negsuc (suc n))) s h = search leading
   mkvect_leads v s h = search leading
 
-  place_at_leads : {A : Type 0} (xs : List Value) (n : ℕ) (o : Option Value) (s : State) (next : ℕ → Value → State → Outcome A) → Follows P r s → ((n : ℕ) (x : Value) (t : State) → Follows P r t → LeadsAt P position r (next n x t)) → LeadsAt P position r (place_at xs n o s next)
+  pub place_at_leads : {A : Type 0} (xs : List Value) (n : ℕ) (o : Option Value) (s : State) (next : ℕ → Value → State → Outcome A) → Follows P r s → ((n : ℕ) (x : Value) (t : State) → Follows P r t → LeadsAt P position r (next n x t)) → LeadsAt P position r (place_at xs n o s next)
   place_at_leads xs n (Some x) s next h k = k n x s h
   place_at_leads xs n None s next h k = search leading
 
-  place_of_leads : {A : Type 0} (xs : List Value) (i : Value) (s : State) (next : ℕ → Value → State → Outcome A) → Follows P r s → ((n : ℕ) (x : Value) (t : State) → Follows P r t → LeadsAt P position r (next n x t)) → LeadsAt P position r (place_of xs i s next)
+  pub place_of_leads : {A : Type 0} (xs : List Value) (i : Value) (s : State) (next : ℕ → Value → State → Outcome A) → Follows P r s → ((n : ℕ) (x : Value) (t : State) → Follows P r t → LeadsAt P position r (next n x t)) → LeadsAt P position r (place_of xs i s next)
   place_of_leads xs (Int (pos n)) s next h k = place_at_leads xs n (slice_get xs n) s next h k
   place_of_leads xs (Int (negsuc n)) s next h k = search leading
   place_of_leads xs i s next h k = search leading
 
-  with_vector_leads : {A : Type 0} (o : Option (List Value)) (v : Value) (s : State) (next : List Value → State → Outcome A) → Follows P r s → ((xs : List Value) (t : State) → Follows P r t → LeadsAt P position r (next xs t)) → LeadsAt P position r (with_vector o v s next)
+  pub with_vector_leads : {A : Type 0} (o : Option (List Value)) (v : Value) (s : State) (next : List Value → State → Outcome A) → Follows P r s → ((xs : List Value) (t : State) → Follows P r t → LeadsAt P position r (next xs t)) → LeadsAt P position r (with_vector o v s next)
   with_vector_leads (Some xs) v s next h k = k xs s h
   with_vector_leads None v s next h k = search leading
 
@@ -101,18 +101,18 @@ module _ {P : State → State → Type 0} (steps : Steps P) {position : Position
   explode_leads (Str bytes) s h = search (made_list_leads, chained_none)
   explode_leads (Fun f place) s h = search (made_list_leads, chained_none)
 
-  atom_of_leads : (k : ℕ) (spelled : Spelled) (s : State) → Follows P r s → LeadsAt P position r (atom_of k spelled s)
+  pub atom_of_leads : (k : ℕ) (spelled : Spelled) (s : State) → Follows P r s → LeadsAt P position r (atom_of k spelled s)
   atom_of_leads k (InName name) s h = search leading
   atom_of_leads k (InNumber minus n) s h = search leading
   atom_of_leads k AtZero s h = search leading
   atom_of_leads k (AfterQuote bytes) s h = search leading
   atom_of_leads k spelled s h = search leading
 
-  compressed_leads : (n : ℕ) (c : Compressed) (s : State) → Follows P r s → LeadsAt P position r (compressed_atom n c s)
+  pub compressed_leads : (n : ℕ) (c : Compressed) (s : State) → Follows P r s → LeadsAt P position r (compressed_atom n c s)
   compressed_leads n (Spells spelled) s h = atom_of_leads n spelled s h
   compressed_leads n (Stops k) s h = search leading
 
-  compress_bytes_leads : (o : Option (List ℕ)) (l : Value) (s : State) → Follows P r s → LeadsAt P position r (compress_bytes o l s)
+  pub compress_bytes_leads : (o : Option (List ℕ)) (l : Value) (s : State) → Follows P r s → LeadsAt P position r (compress_bytes o l s)
   compress_bytes_leads (Some bytes) l s h = search compressed_leads
   compress_bytes_leads None l s h = search leading
 
@@ -132,7 +132,7 @@ module _ {P : State → State → Type 0} (steps : Steps P) {position : Position
   with_identifier_leads (Id i) s next h k = k i s h
   with_identifier_leads v s next h k = search leading
 
-  or_list_leads : {A : Type 0} (l v : Value) (s : State) (next : ℕ → State → Outcome A) → Follows P r s → ((i : ℕ) (t : State) → Follows P r t → LeadsAt P position r (next i t)) → LeadsAt P position r (or_list l v s next)
+  pub or_list_leads : {A : Type 0} (l v : Value) (s : State) (next : ℕ → State → Outcome A) → Follows P r s → ((i : ℕ) (t : State) → Follows P r t → LeadsAt P position r (next i t)) → LeadsAt P position r (or_list l v s next)
   or_list_leads l (Id i) s next h k = k i s h
   or_list_leads l v s next h k = search leading
 
@@ -142,10 +142,10 @@ module _ {P : State → State → Type 0} (steps : Steps P) {position : Position
   pub flagp_leads : (u p : Value) (s : State) → Follows P r s → LeadsAt P position r (flagp u p s)
   flagp_leads u p s h = search (leading, of_identifier_leads, look_for_leads)
 
-  add_first_leads : (i : ℕ) (element : Value) (s : State) → Follows P r s → LeadsAt P position r (add_first i element s)
+  pub add_first_leads : (i : ℕ) (element : Value) (s : State) → Follows P r s → LeadsAt P position r (add_first i element s)
   add_first_leads i element s h = search (leading, properties_follow)
 
-  put_at_leads : (i : ℕ) (p x : Value) (o : Option Value) (s : State) → Follows P r s → LeadsAt P position r (put_at i p x o s)
+  pub put_at_leads : (i : ℕ) (p x : Value) (o : Option Value) (s : State) → Follows P r s → LeadsAt P position r (put_at i p x o s)
   put_at_leads i p x (Some pair) s h = search (leading, cdr_changed_follows)
   put_at_leads i p x None s h = search (leading, add_first_leads)
 
@@ -155,18 +155,18 @@ module _ {P : State → State → Type 0} (steps : Steps P) {position : Position
   pub remprop_leads : (u p : Value) (s : State) → Follows P r s → LeadsAt P position r (remprop u p s)
   remprop_leads u p s h = search (leading, of_identifier_leads, look_for_leads, without_follows)
 
-  at_list_end_leads : (l : Value) (o : Option Value) (s : State) → Follows P r s → LeadsAt P position r (at_list_end l o s)
+  pub at_list_end_leads : (l : Value) (o : Option Value) (s : State) → Follows P r s → LeadsAt P position r (at_list_end l o s)
   at_list_end_leads l (Some end) s h = search leading
   at_list_end_leads l None s h = search leading
 
   pub for_each_leads : (act : ℕ → State → Outcome (Unit {0})) → ((i : ℕ) (s : State) → Follows P r s → LeadsAt P position r (act i s)) → (l : Value) (s : State) → Follows P r s → LeadsAt P position r (for_each act l s)
   for_each_leads act k l s h = search (leading, walk_leads, or_list_leads, at_list_end_leads, k)
 
-  flag_at_leads : (i : ℕ) (p : Value) (o : Option Value) (s : State) → Follows P r s → LeadsAt P position r (flag_at i p o s)
+  pub flag_at_leads : (i : ℕ) (p : Value) (o : Option Value) (s : State) → Follows P r s → LeadsAt P position r (flag_at i p o s)
   flag_at_leads i p (Some pair) s h = search leading
   flag_at_leads i p None s h = add_first_leads i p s h
 
-  for_flag_leads : (p : Value) (act : ℕ → State → Outcome (Unit {0})) → ((i : ℕ) (s : State) → Follows P r s → LeadsAt P position r (act i s)) → (l : Value) (s : State) → Follows P r s → LeadsAt P position r (for_flag p act l s)
+  pub for_flag_leads : (p : Value) (act : ℕ → State → Outcome (Unit {0})) → ((i : ℕ) (s : State) → Follows P r s → LeadsAt P position r (act i s)) → (l : Value) (s : State) → Follows P r s → LeadsAt P position r (for_flag p act l s)
   for_flag_leads (Id j) act k l s h = for_each_leads act k l s h
   for_flag_leads p act k l s h = then_leads _ _ (for_each_leads (λ i s. Done tt s) (λ i s h. search leading) l s h) (λ done s h. search leading)
 
@@ -185,11 +185,11 @@ module _ {P : State → State → Type 0} (steps : Steps P) {position : Position
   pub getd_leads : (f : Value) (s : State) → Follows P r s → LeadsAt P position r (getd f s)
   getd_leads f s h = search (leading, of_identifier_leads, definition_pair_leads)
 
-  with_kind_leads : {A : Type 0} (o : Option Kind) (t : Value) (s : State) (next : Kind → State → Outcome A) → Follows P r s → ((k : Kind) (t : State) → Follows P r t → LeadsAt P position r (next k t)) → LeadsAt P position r (with_kind o t s next)
+  pub with_kind_leads : {A : Type 0} (o : Option Kind) (t : Value) (s : State) (next : Kind → State → Outcome A) → Follows P r s → ((k : Kind) (t : State) → Follows P r t → LeadsAt P position r (next k t)) → LeadsAt P position r (with_kind o t s next)
   with_kind_leads (Some kind) t s next h k = k kind s h
   with_kind_leads None t s next h k = search leading
 
-  with_body_leads : {A : Type 0} (o : Option Body) (b : Value) (s : State) (next : Body → State → Outcome A) → Follows P r s → ((x : Body) (t : State) → Follows P r t → LeadsAt P position r (next x t)) → LeadsAt P position r (with_body o b s next)
+  pub with_body_leads : {A : Type 0} (o : Option Body) (b : Value) (s : State) (next : Body → State → Outcome A) → Follows P r s → ((x : Body) (t : State) → Follows P r t → LeadsAt P position r (next x t)) → LeadsAt P position r (with_body o b s next)
   with_body_leads (Some body) b s next h k = k body s h
   with_body_leads None b s next h k = search leading
 
@@ -200,7 +200,7 @@ module _ {P : State → State → Type 0} (steps : Steps P) {position : Position
   hold_lambda_leads kind levels (Some parts) s h = search hold_function_leads
   hold_lambda_leads kind levels None s h = search leading
 
-  function_of_leads : (kind : Kind) (levels : Levels) (body : Body) (s : State) → Follows P r s → LeadsAt P position r (function_of kind levels body s)
+  pub function_of_leads : (kind : Kind) (levels : Levels) (body : Body) (s : State) → Follows P r s → LeadsAt P position r (function_of kind levels body s)
   function_of_leads kind levels (Given p) s h = search leading
   function_of_leads kind levels (Lambda rest) s h = search (leading, hold_lambda_leads)
 
@@ -213,10 +213,10 @@ module _ {P : State → State → Type 0} (steps : Steps P) {position : Position
   pub remd_leads : (f : Value) (s : State) → Follows P r s → LeadsAt P position r (remd f s)
   remd_leads f s h = search (leading, with_identifier_leads, own_name_leads, definition_pair_leads, definition_follows)
 
-  declared_leads : (kind : VarKind) (i : ℕ) (s : State) → Follows P r s → LeadsAt P position r (declared kind i s)
+  pub declared_leads : (kind : VarKind) (i : ℕ) (s : State) → Follows P r s → LeadsAt P position r (declared kind i s)
   declared_leads kind i s h = search (leading, symbol_follows)
 
-  declare_leads : (kind other : VarKind) (i : ℕ) (s : State) → Follows P r s → LeadsAt P position r (declare kind other i s)
+  pub declare_leads : (kind other : VarKind) (i : ℕ) (s : State) → Follows P r s → LeadsAt P position r (declare kind other i s)
   declare_leads kind other i s h = search (leading, declared_leads)
 
   pub fluid_leads : (l : Value) (s : State) → Follows P r s → LeadsAt P position r (fluid l s)
@@ -225,7 +225,7 @@ module _ {P : State → State → Type 0} (steps : Steps P) {position : Position
   pub global_leads : (l : Value) (s : State) → Follows P r s → LeadsAt P position r (global l s)
   global_leads l s h = search (for_each_leads, declare_leads)
 
-  undeclare_leads : (i : ℕ) (s : State) → Follows P r s → LeadsAt P position r (undeclare i s)
+  pub undeclare_leads : (i : ℕ) (s : State) → Follows P r s → LeadsAt P position r (undeclare i s)
   undeclare_leads i s h = search (leading, symbol_follows)
 
   pub unfluid_leads : (l : Value) (s : State) → Follows P r s → LeadsAt P position r (unfluid l s)
@@ -277,7 +277,7 @@ module _ {P : State → State → Type 0} (steps : Steps P) {position : Position
   native_leads Prin1 levels vs s h = printing_leads steps atoms.Prin1 levels (argument vs 0) s h
   native_leads Prin2 levels vs s h = printing_leads steps atoms.Prin2 levels (argument vs 0) s h
   native_leads Print levels vs s h = print_leads steps levels (argument vs 0) s h
-  native_leads Terpri levels vs s h = search (leading, line_follows)
+  native_leads Terpri levels vs s h = search (leading, end_of_line_follows)
   native_leads Posn levels vs s h = search leading
   native_leads Linelength levels vs s h = linelength_leads steps (argument vs 0) s h
   native_leads Read levels vs s h = read_leads steps levels s h

@@ -28,11 +28,11 @@ module _ {P : State → State → Type 0} (steps : Steps P) {r : State} where
   pub event_follows : (e : Event) (s : State) → Follows P r s → Follows P r (with_event e s)
   event_follows e s h = follows_then steps r s _ h (steps.event e s)
 
-  met_follows : (b : Bool) (macro : ℕ) (s : State) → Follows P r s → Follows P r (with_recorded (met b macro s) s)
+  pub met_follows : (b : Bool) (macro : ℕ) (s : State) → Follows P r s → Follows P r (with_recorded (met b macro s) s)
   met_follows true macro s h = event_follows (Turned macro) s h
   met_follows false macro s h = h
 
-  read_follows : (o : Option Expansion) (rs : List ℕ) (s : State) → Follows P r s → Follows P r (with_recorded (event_read o rs s) s)
+  pub read_follows : (o : Option Expansion) (rs : List ℕ) (s : State) → Follows P r s → Follows P r (with_recorded (event_read o rs s) s)
   read_follows None rs s h = h
   read_follows (Some e) rs s h = met_follows (list_any (λ r. is_changed_constant s r) rs) e.macro s h
 
@@ -70,7 +70,7 @@ module _ {P : State → State → Type 0} (steps : Steps P) {position : Position
   pub symbol_leads : (name : Name) (interned : Bool) (s : State) → Follows P r s → LeadsAt P position r (made_symbol (new_symbol name interned) s)
   symbol_leads name interned s h = search (ways, named_follows)
 
-  interned_at_leads : (o : Option ℕ) (name : Name) (s : State) → Follows P r s → LeadsAt P position r (interned_at o name s)
+  pub interned_at_leads : (o : Option ℕ) (name : Name) (s : State) → Follows P r s → LeadsAt P position r (interned_at o name s)
   interned_at_leads (Some i) name s h = search ways
   interned_at_leads None name s h = symbol_leads name true s h
 
@@ -135,7 +135,7 @@ module _ {P : State → State → Type 0} (steps : Steps P) {position : Position
   pub pair_makes : (a d : Value) (s : State) → Follows P r s → Makes P position r (λ p t. IsNew r p) (made_pair a d s)
   pair_makes a d s h = room_makes steps _ 1 s _ h (λ t f. record { leads = done_leads _ _ (made_follows steps _ t f); good = record { is = steps.grows r t f.is } })
 
-  hung_makes : (chain : Chain) (p : Value) (s : State) → Chained r chain → IsNew r p → Follows P r s → Makes P position r (λ c t. Chained r c) (let h = hung chain p s in Done h.0 h.1)
+  pub hung_makes : (chain : Chain) (p : Value) (s : State) → Chained r chain → IsNew r p → Follows P r s → Makes P position r (λ c t. Chained r c) (let h = hung chain p s in Done h.0 h.1)
   hung_makes None p s chained new h = record { leads = done_leads _ _ h; good = record { last = new } }
   hung_makes (Some c) p s chained new h = record { leads = done_leads _ _ (cdr_set_follows steps c.1 p s chained.last h); good = record { last = new } }
 

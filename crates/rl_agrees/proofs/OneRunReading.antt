@@ -18,59 +18,59 @@ pub input_follows : {P : State → State → Type 0} (steps : Steps P) {r : Stat
 input_follows steps {r} rest s h = follows_then steps r s _ h (steps.input rest s)
 
 module _ {P : State → State → Type 0} (steps : Steps P) {position : Position} {r : State} where
-  atom_leads : (a : word.Atom) (s : State) → Follows P r s → LeadsAt P position r (made_atom a s)
+  pub atom_leads : (a : word.Atom) (s : State) → Follows P r s → LeadsAt P position r (made_atom a s)
   atom_leads (word.Integer z) s h = search leading
   atom_leads (word.Identifier name) s h = search leading
   atom_leads (word.String bytes) s h = search leading
 
-  byte_leads : (b : Bool) (s : State) → Follows P r s → LeadsAt P position r (byte_turn b s)
+  pub byte_leads : (b : Bool) (s : State) → Follows P r s → LeadsAt P position r (byte_turn b s)
   byte_leads true s h = search leading
   byte_leads false s h = search leading
 
-  vector_of_leads : (chain : Chain) (s : State) → Follows P r s → LeadsAt P position r (vector_of chain s)
+  pub vector_of_leads : (chain : Chain) (s : State) → Follows P r s → LeadsAt P position r (vector_of chain s)
   vector_of_leads chain s h = search leading
 
-  quoted_leads : (v : Value) (s : State) → Follows P r s → LeadsAt P position r (quoted v s)
+  pub quoted_leads : (v : Value) (s : State) → Follows P r s → LeadsAt P position r (quoted v s)
   quoted_leads v s h = search leading
 
-  ended_chain_makes : (chain : Chain) (v : Value) (s : State) → Chained r chain → Follows P r s → Makes P position r (λ c t. Chained r c) (ended_chain chain v s)
+  pub ended_chain_makes : (chain : Chain) (v : Value) (s : State) → Chained r chain → Follows P r s → Makes P position r (λ c t. Chained r c) (ended_chain chain v s)
   ended_chain_makes None v s chained h = record { leads = search leading; good = chained }
   ended_chain_makes (Some c) v s chained h = record { leads = done_leads _ _ (cdr_set_follows steps c.1 v s chained.last h); good = chained }
 
 -- ---- what is made in a state
 
 module _ (P : State → State → Type 0) (r : State) where
-  abbrev Kept : Place → Type 0
+  abbrev pub Kept : Place → Type 0
   Kept place = Follows P r place.state
 
-  abbrev Good : Chain → Type 0
+  abbrev pub Good : Chain → Type 0
   Good chain = Chained r chain
 
-  made_gives : {A : Type 0} (With : A → Type 0) (levels : Levels) (o : Outcome A) → Makes P Inside r (λ a t. With a) o → Gives Kept Good With (made_in levels o)
+  pub made_gives : {A : Type 0} (With : A → Type 0) (levels : Levels) (o : Outcome A) → Makes P Inside r (λ a t. With a) o → Gives Kept Good With (made_in levels o)
   made_gives With levels (Done a s) h = record { is = (record { is = h.leads.moves }, h.good) }
   made_gives With levels (Failed n m s) h = record { is = record { is = h.leads.moves } }
   made_gives With levels (Went l s) h = record { is = record { is = h.leads.moves } }
   made_gives With levels (Returned v s) h = record { is = record { is = h.leads.moves } }
   made_gives With levels (Stopped why s) h = record { is = record { is = h.leads.moves } }
 
-  entered_gives : (levels : Levels) (o : Outcome Levels) → Leads P r o → Gives Kept Good (λ (u : Unit {0}). Unit {0}) (entered_from levels o)
+  pub entered_gives : (levels : Levels) (o : Outcome Levels) → Leads P r o → Gives Kept Good (λ (u : Unit {0}). Unit {0}) (entered_from levels o)
   entered_gives levels (Done a s) h = record { is = (record { is = h.moves }, tt) }
   entered_gives levels (Failed n m s) h = record { is = record { is = h.moves } }
   entered_gives levels (Went l s) h = record { is = record { is = h.moves } }
   entered_gives levels (Returned v s) h = record { is = record { is = h.moves } }
   entered_gives levels (Stopped why s) h = record { is = record { is = h.moves } }
 
-  reading_leads : {position : Position} (bytes : List ℕ) (o : reader.Outcome Place Value Stop) → Reads Kept Good o → LeadsAt P position r (reading_of bytes o)
+  pub reading_leads : {position : Position} (bytes : List ℕ) (o : reader.Outcome Place Value Stop) → Reads Kept Good o → LeadsAt P position r (reading_of bytes o)
   reading_leads bytes (reader.Read v place rest) h = done_leads _ _ h.is
   reading_leads bytes (reader.NoneLeft place) h = done_leads _ _ h.is
   reading_leads bytes (reader.Refused place from) h = done_leads _ _ h.is
   reading_leads bytes (reader.Stopped why place rest) h = stopped_leads _ _ h.is
 
 module _ {P : State → State → Type 0} (steps : Steps P) (r : State) where
-  enter_gives : (place : Place) → Follows P r place.state → Gives (Kept P r) (Good P r) (λ (u : Unit {0}). Unit {0}) (enter place)
+  pub enter_gives : (place : Place) → Follows P r place.state → Gives (Kept P r) (Good P r) (λ (u : Unit {0}). Unit {0}) (enter place)
   enter_gives place h = entered_gives P r place.levels (deeper 1 place.levels place.state (λ levels. Done levels place.state)) (deeper_leads steps 1 place.levels place.state _ h (λ l. search leading))
 
-  in_state_kept : (turns : Bool) → IsKept (Kept P r) (Good P r) (in_state turns)
+  pub in_state_kept : (turns : Bool) → IsKept (Kept P r) (Good P r) (in_state turns)
   in_state_kept turns = record {
     empty = chained_none r;
     turn = λ place h. made_gives P r _ place.levels _ (makes_any _ (byte_leads steps turns place.state h));
@@ -87,7 +87,7 @@ module _ {P : State → State → Type 0} (steps : Steps P) {position : Position
   pub read_bytes_leads : (turns : Bool) (levels : Levels) (bytes : List ℕ) (s : State) → Follows P r s → LeadsAt P position r (read_bytes turns levels bytes s)
   read_bytes_leads turns levels bytes s h = reading_leads P r bytes _ (reads (Kept P r) (Good P r) (in_state turns) (in_state_kept steps r turns) (record { state = s; levels = levels }) bytes h)
 
-  read_ended_leads : (taken : ℕ) (reading : Reading) (s : State) → Follows P r s → LeadsAt P position r (read_ended taken reading s)
+  pub read_ended_leads : (taken : ℕ) (reading : Reading) (s : State) → Follows P r s → LeadsAt P position r (read_ended taken reading s)
   read_ended_leads taken (Form v rest) s h = search (leading, input_follows)
   read_ended_leads taken End s h = search (leading, input_follows)
   read_ended_leads taken (Unreadable k from) s h = fail_leads steps unreadable (byte_number (taken + k)) (with_input (drop 1 from) s) (input_follows steps (drop 1 from) s h)
@@ -95,7 +95,7 @@ module _ {P : State → State → Type 0} (steps : Steps P) {position : Position
   pub read_leads : (levels : Levels) (s : State) → Follows P r s → LeadsAt P position r (read levels s)
   read_leads levels s h = search (leading, read_bytes_leads, read_ended_leads)
 
-  readch_of_leads : (bytes : List ℕ) (s : State) → Follows P r s → LeadsAt P position r (readch_of bytes s)
+  pub readch_of_leads : (bytes : List ℕ) (s : State) → Follows P r s → LeadsAt P position r (readch_of bytes s)
   readch_of_leads [] s h = search leading
   readch_of_leads (b ∷ bs) s h = search (leading, input_follows)
 

@@ -13,7 +13,7 @@ use Rattle.rl_meaning.specs.Evaluation.{longest_chain, Inside}
 use Rattle.rl_meaning.specs.Run.{Ran, held_evaluated, statement, after_statement, print_atom, print_unreadable, behind_line, goes_on, read_and_run, run_within, run_bytes, source_of, run_file}
 use Rattle.rl_agrees.proofs.OneRun.{Steps, Follows, Leads, done_leads, stopped_leads, then_leads}
 use Rattle.rl_agrees.proofs.OneRunHolding.{hold_form_leads}
-use Rattle.rl_agrees.proofs.OneRunPrinting.{more_same, atom_more, page_follows, mark_follows, line_follows, fresh_line_follows, print_error_leads}
+use Rattle.rl_agrees.proofs.OneRunPrinting.{more_same, atom_more, page_follows, print_mark_follows, end_of_line_follows, fresh_line_follows, print_error_leads}
 use Rattle.rl_agrees.proofs.OneRunReading.{read_bytes_leads}
 use Rattle.rl_agrees.proofs.OneRunForms.{eval_leads}
 use Rattle.rl_agrees.proofs.OneRunMachine.{the_jobs_keep}
@@ -43,7 +43,7 @@ module _ {P : State → State → Type 0} (steps : Steps P) {r : State} where
 
   pub print_unreadable_follows : (k : ℕ) (s : State) → Follows P r s → Follows P r (print_unreadable k s)
   print_unreadable_follows k s h =
-      line_follows steps _ (print_atom_follows (error_text unreadable) _ (mark_follows steps (32 ∷ []) _ (print_atom_follows (decimal (min k (2 ^ 59 - 1))) _ (mark_follows steps (codes "***** ") _ (fresh_line_follows steps s h)))))
+      end_of_line_follows steps _ (print_atom_follows (error_text unreadable) _ (print_mark_follows steps (32 ∷ []) _ (print_atom_follows (decimal (min k (2 ^ 59 - 1))) _ (print_mark_follows steps (codes "***** ") _ (fresh_line_follows steps s h)))))
 
   -- ---- runs
 

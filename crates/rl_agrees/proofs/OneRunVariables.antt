@@ -37,23 +37,23 @@ module _ {P : State → State → Type 0} (steps : Steps P) {r : State} where
   strays_follows true x s h = event_follows steps _ s h
   strays_follows false x s h = h
 
-  with_value_follows : (o : Option Nearest) (x : ℕ) (v : Value) (s : State) → Follows P r s → Follows P r (with_value o x v s)
+  pub with_value_follows : (o : Option Nearest) (x : ℕ) (v : Value) (s : State) → Follows P r s → Follows P r (with_value o x v s)
   with_value_follows None x v s h = top_follows steps x v s h
   with_value_follows (Some b) x v s h = bindings_follow _ s h
 
 module _ {P : State → State → Type 0} (steps : Steps P) {position : Position} {r : State} where
-  top_value_leads : (o : Option Value) (x : ℕ) (s : State) → Follows P r s → LeadsAt P position r (top_value o x s)
+  pub top_value_leads : (o : Option Value) (x : ℕ) (s : State) → Follows P r s → LeadsAt P position r (top_value o x s)
   top_value_leads (Some v) x s h = search leading
   top_value_leads None x s h = search leading
 
-  used_leads : (o : Option Nearest) (x : ℕ) (s : State) → Follows P r s → LeadsAt P position r (used o x s)
+  pub used_leads : (o : Option Nearest) (x : ℕ) (s : State) → Follows P r s → LeadsAt P position r (used o x s)
   used_leads None x s h = search top_value_leads
   used_leads (Some b) x s h = search (leading, strays_follows)
 
   pub variable_leads : (x : ℕ) (s : State) → Follows P r s → LeadsAt P position r (variable x s)
   variable_leads x s h = used_leads (nearest x s) x s h
 
-  set_by_leads : (test : Nearest → Bool) (x : ℕ) (v : Value) (s : State) → Follows P r s → LeadsAt P position r (set_by test x v s)
+  pub set_by_leads : (test : Nearest → Bool) (x : ℕ) (v : Value) (s : State) → Follows P r s → LeadsAt P position r (set_by test x v s)
   set_by_leads test x v s h = search (leading, with_value_follows, strays_follows)
 
   pub assigned_leads : (x : ℕ) (v : Value) (s : State) → Follows P r s → LeadsAt P position r (assigned x v s)
@@ -62,7 +62,7 @@ module _ {P : State → State → Type 0} (steps : Steps P) {position : Position
   pub by_name_leads : (x : ℕ) (v : Value) (s : State) → Follows P r s → LeadsAt P position r (assigned_by_name x v s)
   by_name_leads x v s h = search set_by_leads
 
-  bound_as_leads : (k : VarKind) (x : ℕ) (v : Value) (s : State) → Follows P r s → LeadsAt P position r (bound_as k x v s)
+  pub bound_as_leads : (k : VarKind) (x : ℕ) (v : Value) (s : State) → Follows P r s → LeadsAt P position r (bound_as k x v s)
   bound_as_leads kind.Plain x v s h = search (leading, binding_follows)
   bound_as_leads kind.Fluid x v s h = search (leading, binding_follows)
   bound_as_leads kind.Global x v s h = search leading
@@ -88,17 +88,17 @@ module _ {P : State → State → Type 0} (steps : Steps P) {position : Position
 
   -- ---- numbers
 
-  integer_leads : (o : Operation) (z : ℤ) (s : State) → Follows P r s → LeadsAt P position r (integer o z s)
+  pub integer_leads : (o : Operation) (z : ℤ) (s : State) → Follows P r s → LeadsAt P position r (integer o z s)
   integer_leads o z s h = search leading
 
-  power_leads : (o : Operation) (u : ℤ) (n : ℕ) (s : State) → Follows P r s → LeadsAt P position r (power o u n s)
+  pub power_leads : (o : Operation) (u : ℤ) (n : ℕ) (s : State) → Follows P r s → LeadsAt P position r (power o u n s)
   power_leads o u n s h = search (leading, integer_leads)
 
-  raised_to_leads : (o : Operation) (u z : ℤ) (s : State) → Follows P r s → LeadsAt P position r (raised_to o u z s)
+  pub raised_to_leads : (o : Operation) (u z : ℤ) (s : State) → Follows P r s → LeadsAt P position r (raised_to o u z s)
   raised_to_leads o u (pos n) s h = power_leads o u n s h
   raised_to_leads o u (negsuc n) s h = search leading
 
-  of_two_leads : (o : Operation) (u z : ℤ) (s : State) → Follows P r s → LeadsAt P position r (of_two o u z s)
+  pub of_two_leads : (o : Operation) (u z : ℤ) (s : State) → Follows P r s → LeadsAt P position r (of_two o u z s)
   of_two_leads names.Difference u z s h = search (leading, integer_leads)
   of_two_leads names.Plus2 u z s h = search (leading, integer_leads)
   of_two_leads names.Times2 u z s h = search (leading, integer_leads)
@@ -112,7 +112,7 @@ module _ {P : State → State → Type 0} (steps : Steps P) {position : Position
   of_two_leads names.Lessp u z s h = search leading
   of_two_leads o u z s h = search leading
 
-  of_one_leads : (o : Operation) (u : ℤ) (s : State) → Follows P r s → LeadsAt P position r (of_one o u s)
+  pub of_one_leads : (o : Operation) (u : ℤ) (s : State) → Follows P r s → LeadsAt P position r (of_one o u s)
   of_one_leads names.Abs (pos n) s h = search leading
   of_one_leads names.Abs (negsuc n) s h = search (leading, integer_leads)
   of_one_leads names.Add1 u s h = search (leading, integer_leads)
@@ -131,7 +131,7 @@ module _ {P : State → State → Type 0} (steps : Steps P) {position : Position
 
   -- ---- lists
 
-  with_pair_leads : {A : Type 0} (o : Option (Value × Value)) (v : Value) (s : State) (next : Value × Value → State → Outcome A) → Follows P r s → ((p : Value × Value) (t : State) → Follows P r t → LeadsAt P position r (next p t)) → LeadsAt P position r (with_pair o v s next)
+  pub with_pair_leads : {A : Type 0} (o : Option (Value × Value)) (v : Value) (s : State) (next : Value × Value → State → Outcome A) → Follows P r s → ((p : Value × Value) (t : State) → Follows P r t → LeadsAt P position r (next p t)) → LeadsAt P position r (with_pair o v s next)
   with_pair_leads (Some p) v s next h k = k p s h
   with_pair_leads None v s next h k = search leading
 
@@ -145,7 +145,7 @@ module _ {P : State → State → Type 0} (steps : Steps P) {position : Position
   pub with_cdr_leads : (u v : Value) (s : State) → Follows P r s → LeadsAt P position r (with_cdr u v s)
   with_cdr_leads u v s h = search (leading, with_pair_leads, changed_follows)
 
-  and_goes_makes : {A : Type 0} (Good : A → Type 0) (o : Outcome A) → Makes P position r (λ a t. Good a) o → Makes P position r (FurtherIs Good) (and_goes o)
+  pub and_goes_makes : {A : Type 0} (Good : A → Type 0) (o : Outcome A) → Makes P position r (λ a t. Good a) o → Makes P position r (FurtherIs Good) (and_goes o)
   and_goes_makes Good o h = then_makes (λ a t. Good a) (FurtherIs Good) _ _ h (λ a t f good. done_makes (FurtherIs Good) (Goes a) t f good)
 
   pub append_leads : (u v : Value) (s : State) → Follows P r s → LeadsAt P position r (append u v s)
@@ -160,7 +160,7 @@ module _ {P : State → State → Type 0} (steps : Steps P) {position : Position
   pub list_length_leads : (u : Value) (s : State) → Follows P r s → LeadsAt P position r (list_length u s)
   list_length_leads u s h = search (leading, walk_leads)
 
-  first_pair_leads : (test : Value → Value → State → Outcome Bool) → ((p x : Value) (s : State) → Follows P r s → LeadsAt P position r (test p x s)) → (l : Value) (s : State) → Follows P r s → LeadsAt P position r (first_pair test l s)
+  pub first_pair_leads : (test : Value → Value → State → Outcome Bool) → ((p x : Value) (s : State) → Follows P r s → LeadsAt P position r (test p x s)) → (l : Value) (s : State) → Follows P r s → LeadsAt P position r (first_pair test l s)
   first_pair_leads test k l s h = search (leading, walk_leads, k)
 
   pub member_leads : (levels : Levels) (x l : Value) (s : State) → Follows P r s → LeadsAt P position r (member levels x l s)
@@ -169,14 +169,14 @@ module _ {P : State → State → Type 0} (steps : Steps P) {position : Position
   pub memq_leads : (x l : Value) (s : State) → Follows P r s → LeadsAt P position r (memq x l s)
   memq_leads x l s h = search (leading, first_pair_leads)
 
-  associated_leads : (levels : Levels) (x l y : Value) (o : Option (Value × Value)) (s : State) → Follows P r s → LeadsAt P position r (associated levels x l y o s)
+  pub associated_leads : (levels : Levels) (x l y : Value) (o : Option (Value × Value)) (s : State) → Follows P r s → LeadsAt P position r (associated levels x l y o s)
   associated_leads levels x l y (Some parts) s h = search (leading, equal_leads)
   associated_leads levels x l y None s h = search leading
 
   pub assoc_leads : (levels : Levels) (x l : Value) (s : State) → Follows P r s → LeadsAt P position r (assoc levels x l s)
   assoc_leads levels x l s h = search (leading, walk_leads, associated_leads)
 
-  joined_leads : (u : Value) (o : Option Value) (v : Value) (s : State) → Follows P r s → LeadsAt P position r (joined u o v s)
+  pub joined_leads : (u : Value) (o : Option Value) (v : Value) (s : State) → Follows P r s → LeadsAt P position r (joined u o v s)
   joined_leads u None v s h = search leading
   joined_leads u (Some last) v s h = search (leading, cdr_changed_follows)
 
