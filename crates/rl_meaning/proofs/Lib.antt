@@ -7,6 +7,7 @@ mod RowsCounts
 mod RowsPrinting
 mod RowsPrelude
 mod RowsExamples
+mod RowsCode
 mod Spending
 mod SpendingObjects
 mod SpendingWalks
