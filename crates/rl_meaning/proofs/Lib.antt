@@ -8,6 +8,8 @@ mod RowsPrinting
 mod RowsPrelude
 mod RowsExamples
 mod RowsCode
+mod RowsLinks
+mod RowsCoded
 mod Spending
 mod SpendingObjects
 mod SpendingWalks
