@@ -10,6 +10,7 @@ mod RowsExamples
 mod RowsCode
 mod RowsLinks
 mod RowsCoded
+mod RowsFunctions
 mod Spending
 mod SpendingObjects
 mod SpendingWalks
