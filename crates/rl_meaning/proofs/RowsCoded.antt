@@ -1,14 +1,14 @@
 -- Which applications run code, and when a code is gone. The code of F answers another value than its walk, so that rows can tell the two.
-use Rattle.std.proofs.Common.{◌≡◌, ℕ, false, List, [], ◌∷◌, length, Option, Some, None, refl}
+use Rattle.std.proofs.Common.{◌≡◌, ℕ, false, List, [], ◌++◌, ◌∷◌, length, Option, Some, None, refl}
 use Rattle.std.specs.Prelude.{codes, pos}
 use Rattle.std.specs.Fmt.{digits}
 use Rattle.rl_tags.specs.Opening.{opening_rows, byte_names}
-use Rattle.rl_tree.specs.Value.{Int}
+use Rattle.rl_tree.specs.Value.{Int, Id}
 use Rattle.rl_tree.specs.declared.held.Kind.{Kind}
 use Rattle.rl_tree.specs.declared.held.Kind.TheVariants.{Expr, Macro}
 use Rattle.rl_meaning.specs.Names.{special_rows, native_rows}
 use Rattle.rl_meaning.specs.State.{State, Expansion, Function, HeldFunction, Held, Atom, Dependency, Called, Fexpr, Whole}
-use Rattle.rl_meaning.specs.CMacros.{Constant, Entry, Load, Link, Exit}
+use Rattle.rl_meaning.specs.CMacros.{Constant, Entry, Load, Link, Self, CallNative, JumpNe, Label, Exit}
 use Rattle.rl_meaning.specs.Errors.{error_texts}
 use Rattle.rl_meaning.specs.Symbols.{nil}
 use Rattle.rl_meaning.specs.Holding.{function_at}
@@ -16,7 +16,7 @@ use Rattle.rl_meaning.specs.Evaluation.{with_expansion, walked}
 use Rattle.rl_meaning.specs.Machine.{run_code}
 use Rattle.rl_meaning.specs.Jobs.{job, jobs, the_compiler}
 use Rattle.rl_meaning.specs.Opening.{bare_state, state_of}
-use Rattle.rl_meaning.proofs.Runs.{run_from, lines, of_name, function_of, Written, with_code, after, after_with_code, printed_from}
+use Rattle.rl_meaning.proofs.Runs.{run_from, lines, of_name, function_of, Written, with_code, rests_on_nothing, after, after_with_code, printed_from}
 
 abbrev eight_code : Written
 eight_code s i = Entry i 0 ∷ Load 1 (Constant (Int (pos 8))) ∷ Exit ∷ []
@@ -146,3 +146,27 @@ running_code s i = Entry i 0 ∷ Link (of_name s (codes "R")) 0 ∷ Load 1 (Cons
 code_goes_on : printed_from (with_code (codes "F") running_code (whole Macro (codes "M1")) (after running)) (codes "(PRINT (F)) (PRINT (F))") ≡ lines (codes "8" ∷ codes "9" ∷ [])
 unfolding bare_state opening_rows byte_names special_rows native_rows digits error_texts job
 code_goes_on = refl
+
+-- and so does its call of itself in last place, as long as the name has this function
+abbrev counting : List ℕ → List ℕ
+counting change = codes "(DM M1 (U) ''OLD) (DE R NIL " ++ (change ++ codes ") (DE C (N) (COND ((EQ N 0) (M1)) ((EQ N 2) (PROGN (R) (C 1))) (T (C (SUB1 N)))))")
+
+abbrev counting_code : Written
+counting_code s i =
+    Entry i 1 ∷ JumpNe 1 (Constant (Int (pos 0))) ∷ Load 1 (Constant (Id (of_name s (codes "OLD")))) ∷ Exit ∷
+    Label 1 ∷ JumpNe 2 (Constant (Int (pos 2))) ∷ Link (of_name s (codes "R")) 0 ∷ Load 1 (Constant (Int (pos 1))) ∷ Self 1 0 ∷
+    Label 2 ∷ CallNative (of_name s (codes "SUB1")) 1 ∷ Self 1 0 ∷ []
+
+code_without_its_dependency : printed_from (with_code (codes "C") counting_code (whole Macro (codes "M1")) (after (counting (codes "(DM M1 (U) ''NEW)")))) (codes "(PRINT (C 1)) (PRINT (C 3)) (PRINT (C 1))") ≡ lines (codes "OLD" ∷ codes "OLD" ∷ codes "NEW" ∷ [])
+unfolding bare_state opening_rows byte_names special_rows native_rows digits error_texts job
+code_without_its_dependency = refl
+
+-- here M1 is another macro before, so that code and walk differ
+code_of_a_function_that_was_given_back : printed_from (with_code (codes "C") counting_code rests_on_nothing (after (counting (codes "(PUTD 'C 'EXPR (CDR (GETD 'C)))")))) (codes "(DM M1 (U) ''NEW) (PRINT (C 1)) (PRINT (C 3)) (PRINT (C 1))") ≡ lines (codes "OLD" ∷ codes "OLD" ∷ codes "NEW" ∷ [])
+unfolding bare_state opening_rows byte_names special_rows native_rows digits error_texts job
+code_of_a_function_that_was_given_back = refl
+
+-- with an equal definition the name has another function
+code_behind_an_equal_definition : printed_from (with_code (codes "C") counting_code rests_on_nothing (after (counting (codes "(DE C (N) (COND ((EQ N 0) (M1)) ((EQ N 2) (PROGN (R) (C 1))) (T (C (SUB1 N)))))")))) (codes "(DM M1 (U) ''NEW) (PRINT (C 1)) (PRINT (C 3))") ≡ lines (codes "OLD" ∷ codes "NEW" ∷ [])
+unfolding bare_state opening_rows byte_names special_rows native_rows digits error_texts job
+code_behind_an_equal_definition = refl

@@ -123,7 +123,7 @@ abbrev by_list : List ℕ → List ℕ → Seen × Seen
 by_list args forms = let define_it = codes "(SETQ V '" ++ (args ++ (codes ") (DE F NIL (DE . " ++ (args ++ codes "))"))) in
     both_ways define_it (codes "F") (λ s i. Entry i 0 ∷ Load 1 (Variable (of_name s (codes "V"))) ∷ Link (of_name s (codes "DE")) 1 ∷ Exit ∷ []) forms
 
-a_definition_by_a_list : by_list (codes "(G (X Y) (PRINT X) '(1) (LIST X 'Y))") (codes "(PRINT (F)) (PRINT (G 5 6))") ≡ twice (finished (codes "G" ∷ codes "5" ∷ codes "(5 Y)" ∷ []) 973)
+a_definition_by_a_list : by_list (codes "(G (X Y) (PRINT X) '(1) (LIST X 'Y (FUNCTION (LAMBDA (Z) (CAR Z)))))") (codes "(PRINT (F)) (PRINT (G 5 6))") ≡ twice (finished (codes "G" ∷ codes "5" ∷ codes "(5 Y #[function])" ∷ []) 963)
 unfolding bare_state opening_rows byte_names special_rows native_rows digits error_texts job
 a_definition_by_a_list = refl
 
