@@ -8,13 +8,11 @@ use Rattle.rl_meaning.specs.Names.{special_rows, native_rows}
 use Rattle.rl_meaning.specs.State.{State, Recorded, Turned}
 use Rattle.rl_meaning.specs.CMacros.{Constant, Entry, Load, Exit}
 use Rattle.rl_meaning.specs.Errors.{error_texts}
-use Rattle.rl_meaning.specs.Outcome.{Cells}
 use Rattle.rl_meaning.specs.Symbols.{with_top}
 use Rattle.rl_meaning.specs.Holding.{pointer_value}
 use Rattle.rl_meaning.specs.Jobs.{job}
 use Rattle.rl_meaning.specs.Opening.{bare_state}
-use Rattle.rl_meaning.specs.Run.{Finished, Stops}
-use Rattle.rl_meaning.proofs.Runs.{run, printed, seen, bounds_of_cells, lines, of_name, function_of, part_of, after, printed_from, both_ways, twice, finished}
+use Rattle.rl_meaning.proofs.Runs.{run, printed, lines, of_name, function_of, part_of, after, printed_from, both_ways, twice, finished}
 
 -- ---- one function pointer for each place in a held body
 
@@ -39,26 +37,17 @@ a_literal_in_a_literal : printed (codes "(DE F NIL (FUNCTION (LAMBDA (X) (LIST X
 unfolding bare_state opening_rows byte_names special_rows native_rows digits error_texts job
 a_literal_in_a_literal = refl
 
--- lists (FUNCTION (LAMBDA ..)) that are no forms: clauses of COND, and a list of parameters, which has two pairs
-clauses_that_begin_with_function : printed (codes "(COND (FUNCTION (LAMBDA (X) X))) (SETQ FUNCTION NIL) (PRINT (COND (FUNCTION (LAMBDA (X) X)) (T 2))) (SETQ FUNCTION 1) (DE X NIL 3) (SETQ X 4) (DE LAMBDA (A B) (CONS A B)) (PRINT (COND (FUNCTION (LAMBDA (X) X)) (T 2))) ((LAMBDA (FUNCTION (LAMBDA (X) X)) 1) 2)")
+-- lists (FUNCTION (LAMBDA ..)) that are no forms: clauses of COND, and a list of parameters
+lists_like_literals : printed (codes "(COND (FUNCTION (LAMBDA (X) X))) (SETQ FUNCTION NIL) (PRINT (COND (FUNCTION (LAMBDA (X) X)) (T 2))) (SETQ FUNCTION 1) (DE X NIL 3) (SETQ X 4) (DE LAMBDA (A B) (CONS A B)) (PRINT (COND (FUNCTION (LAMBDA (X) X)) (T 2))) ((LAMBDA (FUNCTION (LAMBDA (X) X)) 1) 2)")
     ≡ lines (codes "***** FUNCTION is unbound" ∷ codes "2" ∷ codes "(3 . 4)" ∷ codes "***** LAMBDA is badly formed" ∷ [])
 unfolding bare_state opening_rows byte_names special_rows native_rows digits error_texts job
-clauses_that_begin_with_function = refl
-
-parameters_that_begin_with_function : seen (run 1000 1000 [] (codes "(DE G (FUNCTION (LAMBDA (X) X)) 1)")) ≡ finished (codes "***** LAMBDA is badly formed" ∷ []) 986
-unfolding bare_state opening_rows byte_names special_rows native_rows digits error_texts job
-parameters_that_begin_with_function = refl
+lists_like_literals = refl
 
 -- a held form of a statement stays behind it, and each EVAL and each expansion holds a form of its own
 literals_of_forms : printed (codes "(SETQ P (FUNCTION (LAMBDA (X) (ADD1 X)))) (PRINT (APPLY P '(1))) (SETQ E '(FUNCTION (LAMBDA NIL 6))) (PRINT (EQ (EVAL E) (EVAL E))) (PRINT (APPLY (EVAL E) NIL)) (DM M (U) '(FUNCTION (LAMBDA NIL 7))) (DE G NIL (M)) (PRINT (EQ (G) (G))) (PRINT (APPLY (G) NIL))")
     ≡ lines (codes "2" ∷ codes "NIL" ∷ codes "6" ∷ codes "NIL" ∷ codes "7" ∷ [])
 unfolding bare_state opening_rows byte_names special_rows native_rows digits error_texts job
 literals_of_forms = refl
-
--- 10 cells for the pairs of the form, 8 and 20 for its holding, 8 and 12 for that of F, and none for the literal
-cells_of_a_literal : bounds_of_cells (codes "(DE F NIL (FUNCTION (LAMBDA (X) X)))") 58 ≡ (Finished, Stops Cells)
-unfolding bare_state opening_rows byte_names special_rows native_rows digits error_texts job
-cells_of_a_literal = refl
 
 -- ---- definitions and calls by their pointers
 

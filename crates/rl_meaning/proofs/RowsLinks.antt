@@ -1,10 +1,11 @@
 -- Code that copies forms and makes definitions, beside the walk of the same function.
-use Rattle.std.proofs.Common.{◌≡◌, ℕ, List, [], ◌++◌, ◌∷◌, refl}
+use Rattle.std.proofs.Common.{◌≡◌, ℕ, List, [], ◌++◌, ◌∷◌, Option, Some, refl}
 use Rattle.std.specs.Prelude.{codes}
 use Rattle.std.specs.Fmt.{digits}
 use Rattle.rl_tags.specs.Opening.{opening_rows, byte_names}
 use Rattle.rl_tree.specs.Value.{Id}
 use Rattle.rl_meaning.specs.Names.{special_rows, native_rows}
+use Rattle.rl_meaning.specs.State.{State}
 use Rattle.rl_meaning.specs.CMacros.{Constant, Variable, Entry, Load, Move, Copy, Link, LinkE, CallNative, Exit}
 use Rattle.rl_meaning.specs.Errors.{error_texts}
 use Rattle.rl_meaning.specs.Outcome.{Turns}
@@ -12,7 +13,7 @@ use Rattle.rl_meaning.specs.Symbols.{nil}
 use Rattle.rl_meaning.specs.Jobs.{job}
 use Rattle.rl_meaning.specs.Opening.{bare_state}
 use Rattle.rl_meaning.specs.Run.{Stops}
-use Rattle.rl_meaning.proofs.Runs.{Seen, lines, of_name, part_of, Written, after_with_code, seen_from, printed_from, both_ways, twice, finished}
+use Rattle.rl_meaning.proofs.Runs.{Seen, run_from, lines, of_name, part_of, Written, after, after_with_code, seen_from, printed_from, both_ways, twice, finished}
 
 -- ---- copies
 
@@ -155,3 +156,26 @@ two_arguments_of_a_definition = refl
 other_special_forms : printed_from (after_with_code defines (codes "F") (linked_code (codes "COND") 1)) (codes "(F)") ++ printed_from (after_with_code defines (codes "F") (linked_code (codes "LIST") 0)) (codes "(F)") ≡ lines (codes "***** COND is of a wrong type" ∷ codes "***** LIST is of a wrong type" ∷ [])
 unfolding bare_state opening_rows byte_names special_rows native_rows digits error_texts job
 other_special_forms = refl
+
+-- ---- cells
+
+-- those that are left behind a call by code, and behind a walk
+abbrev cells_left : State → Option ℕ
+cells_left s = (run_from s 1000 1000 1000 [] (codes "(F)")).state.counts.cells
+
+abbrev cells_both_ways : List ℕ → Written → Option ℕ × Option ℕ
+cells_both_ways definition code = (cells_left (after_with_code definition (codes "F") code), cells_left (after definition))
+
+-- 11 for the statement, 7 for the copy
+cells_of_a_copy : cells_both_ways fexpr_call (copy_code (codes "Q") 2) ≡ (Some 982, Some 982)
+unfolding bare_state opening_rows byte_names special_rows native_rows digits error_texts job
+cells_of_a_copy = refl
+
+cells_of_a_definition : cells_both_ways defines (definition_code (codes "DE")) ≡ (Some 947, Some 947)
+unfolding bare_state opening_rows byte_names special_rows native_rows digits error_texts job
+cells_of_a_definition = refl
+
+-- an error makes its message
+cells_of_an_error : cells_both_ways (codes "(DE F NIL (DE CAR (X) X))") (definition_code (codes "DE")) ≡ (Some 987, Some 987)
+unfolding bare_state opening_rows byte_names special_rows native_rows digits error_texts job
+cells_of_an_error = refl
