@@ -8,11 +8,13 @@ use Rattle.rl_meaning.specs.Names.{special_rows, native_rows}
 use Rattle.rl_meaning.specs.State.{State, Recorded, Turned}
 use Rattle.rl_meaning.specs.CMacros.{Constant, Entry, Load, Exit}
 use Rattle.rl_meaning.specs.Errors.{error_texts}
+use Rattle.rl_meaning.specs.Outcome.{Depth}
 use Rattle.rl_meaning.specs.Symbols.{with_top}
 use Rattle.rl_meaning.specs.Holding.{pointer_value}
 use Rattle.rl_meaning.specs.Jobs.{job}
 use Rattle.rl_meaning.specs.Opening.{bare_state}
-use Rattle.rl_meaning.proofs.Runs.{run, printed, lines, of_name, function_of, part_of, after, printed_from, both_ways, twice, finished}
+use Rattle.rl_meaning.specs.Run.{Ending, Finished, Stops}
+use Rattle.rl_meaning.proofs.Runs.{run, printed, bounds_of_levels, lines, of_name, function_of, part_of, after, printed_from, both_ways, twice, finished}
 
 -- ---- one function pointer for each place in a held body
 
@@ -48,6 +50,35 @@ literals_of_forms : printed (codes "(SETQ P (FUNCTION (LAMBDA (X) (ADD1 X)))) (P
     ≡ lines (codes "2" ∷ codes "NIL" ∷ codes "6" ∷ codes "NIL" ∷ codes "7" ∷ [])
 unfolding bare_state opening_rows byte_names special_rows native_rows digits error_texts job
 literals_of_forms = refl
+
+-- a copy and a definition take for (FUNCTION (LAMBDA ..)) the turns, cells and levels that they take for (LIST (LAMBDA ..))
+abbrev copied_form : List ℕ → List ℕ
+copied_form head = codes "(DF Q (U) 1) (DE G NIL (Q (" ++ (head ++ codes " (LAMBDA (X) (CAR (CAR X)))) 5)) (G)")
+
+abbrev defined_form : List ℕ → List ℕ
+defined_form head = codes "(DE G NIL (DE H NIL (" ++ (head ++ codes " (LAMBDA (X) (CAR (CAR X)))))) (G)")
+
+abbrev turns_and_cells : List ℕ → ℕ × Option ℕ
+turns_and_cells source = let counts = (run 1000 1000 [] source).state.counts in (counts.turns, counts.cells)
+
+copied_as_a_list : turns_and_cells (copied_form (codes "FUNCTION")) ≡ turns_and_cells (copied_form (codes "LIST"))
+unfolding bare_state opening_rows byte_names special_rows native_rows digits error_texts job
+copied_as_a_list = refl
+
+defined_as_a_list : turns_and_cells (defined_form (codes "FUNCTION")) ≡ turns_and_cells (defined_form (codes "LIST"))
+unfolding bare_state opening_rows byte_names special_rows native_rows digits error_texts job
+defined_as_a_list = refl
+
+abbrev levels_of_both : (List ℕ → List ℕ) → ℕ → (Ending × Ending) × (Ending × Ending)
+levels_of_both form n = (bounds_of_levels (form (codes "FUNCTION")) n, bounds_of_levels (form (codes "LIST")) n)
+
+levels_of_a_copied_literal : levels_of_both copied_form 7 ≡ ((Finished, Stops Depth), (Finished, Stops Depth))
+unfolding bare_state opening_rows byte_names special_rows native_rows digits error_texts job
+levels_of_a_copied_literal = refl
+
+levels_of_a_defined_literal : levels_of_both defined_form 6 ≡ ((Finished, Stops Depth), (Finished, Stops Depth))
+unfolding bare_state opening_rows byte_names special_rows native_rows digits error_texts job
+levels_of_a_defined_literal = refl
 
 -- ---- definitions and calls by their pointers
 
