@@ -26,5 +26,11 @@ pub mod Evaluation
 pub mod Machine
 pub mod Jobs
 pub mod Opening
+pub mod TwoRunsLinks
+pub mod TwoRunsValues
+pub mod TwoRunsStates
+pub mod TwoRunsEnds
+pub mod Right
+pub mod Tidy
 pub mod Run
 pub mod Laws

@@ -1,0 +1,52 @@
+-- How two runs side by side end: alike; or apart, where the right one has an event, or one of the two met its bound on cells or levels, and then all that was printed and noted until that moment was so by both (this project's).
+use Rattle.std.specs.Prelude.{◌≡◌, ℕ, ℤ, List, ◌++◌, take, Some}
+use Rattle.rl_tree.specs.Value.{Value}
+use Rattle.rl_meaning.specs.State.{State, Outside, Recorded}
+use Rattle.rl_meaning.specs.Outcome.{Outcome, Done, Failed, Went, Returned, Stopped, Stop, Cells, Depth}
+use Rattle.rl_meaning.specs.Opening.{state_of}
+use Rattle.rl_meaning.specs.TwoRunsValues.{Names, Grows, SameValue}
+use Rattle.rl_meaning.specs.TwoRunsStates.{Place, Like}
+
+-- ---- apart
+
+-- one list begins with another
+pub record Begins (front whole : List ℕ) : Type 0 where
+  pub rest : List ℕ
+  pub is : whole ≡ front ++ rest
+
+-- what was printed and noted begins with this
+pub record HasShown (printed noted : List ℕ) (outside : Outside) : Type 0 where
+  pub output : Begins printed outside.output
+  pub notes : Begins noted outside.notes
+
+-- a stop that comes where a run has fewer cells or levels
+pub data IsShort : Stop → Type 0 where
+  short_of_cells : IsShort Cells
+  short_of_levels : IsShort Depth
+
+pub data Parted {A : Type 0} : Outcome A → Outcome A → Type 0 where
+  -- the right run has an event
+  by_event : (o p : Outcome A) (r : Recorded) → (state_of p).watched.event ≡ Some r → HasShown (take r.printed (state_of p).outside.output) (take r.noted (state_of p).outside.notes) (state_of o).outside → Parted o p
+  -- the right run stops, and the left one may go on; or the other way round
+  right_short : (o : Outcome A) (why : Stop) (t : State) → IsShort why → HasShown t.outside.output t.outside.notes (state_of o).outside → Parted o (Stopped why t)
+  left_short : (why : Stop) (s : State) (p : Outcome A) → IsShort why → HasShown s.outside.output s.outside.notes (state_of p).outside → Parted (Stopped why s) p
+
+-- ---- the ends
+
+-- of a run that stops only this is to be seen
+pub record SameSeen (s t : State) : Type 0 where
+  pub outside : s.outside ≡ t.outside
+  pub turns : s.counts.turns ≡ t.counts.turns
+
+-- Apart: what is said of outcomes that are apart. Results are the same by R; links grow, and the same bindings are hidden as before
+pub data Related {A : Type 0} (Apart : Outcome A → Outcome A → Type 0) (R : Names → A → A → Type 0) (n : Names) (ps : List Place) : Outcome A → Outcome A → Type 0 where
+  done : (m : Names) (a b : A) (s t : State) → Grows n m → R m a b → Like m ps s t → Related Apart R n ps (Done a s) (Done b t)
+  failed : (m : Names) (z : ℤ) (v w : Value) (s t : State) → Grows n m → SameValue m v w → Like m ps s t → Related Apart R n ps (Failed z v s) (Failed z w t)
+  went : (m : Names) (l : ℕ) (s t : State) → Grows n m → Like m ps s t → Related Apart R n ps (Went l s) (Went l t)
+  returned : (m : Names) (v w : Value) (s t : State) → Grows n m → SameValue m v w → Like m ps s t → Related Apart R n ps (Returned v s) (Returned w t)
+  stopped : (why : Stop) (s t : State) → SameSeen s t → Related Apart R n ps (Stopped why s) (Stopped why t)
+  parted : (o p : Outcome A) → Apart o p → Related Apart R n ps o p
+
+-- the ends of two evaluations
+abbrev pub Ends : Names → List Place → Outcome Value → Outcome Value → Type 0
+Ends n ps = Related Parted SameValue n ps
