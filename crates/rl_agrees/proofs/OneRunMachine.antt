@@ -13,7 +13,7 @@ use Rattle.rl_meaning.specs.Variables.{with_mark, binding_levels}
 use Rattle.rl_meaning.specs.Forms.{fits}
 use Rattle.rl_meaning.specs.Evaluation.{Job, Run, Onward, Call_, From, In, Rec, Machine, Frame, kind_of_definition}
 use Rattle.rl_meaning.specs.Machine as machine
-use Rattle.rl_meaning.specs.Machine.{register, with_register, after_link, with_slot, allocated, deallocated, content, bound, freed, undone, one_more, ended, at_entry, is_same, behind, behind_entry, part_linked, list_linked, definition_linked, form_linked, function_linked, linked_to, linked, again, run, seek, run_code}
+use Rattle.rl_meaning.specs.Machine.{as_list, proper_elements, register, with_register, after_link, with_slot, allocated, deallocated, content, bound, freed, undone, one_more, ended, at_entry, is_same, behind, behind_entry, part_linked, list_linked, definition_linked, form_linked, function_linked, linked_to, linked, again, run, seek, run_code}
 use Rattle.rl_meaning.specs.Compiling.{Compiler}
 use Rattle.rl_meaning.specs.Jobs.{run_held, code_of, job_done, rank, job_at, job, jobs, the_compiler}
 use Rattle.rl_agrees.proofs.OneRun.{Steps, Prints, Follows, LeadsAt, Leads, follows_same, stopped_leads, done_leads, then_leads, choose_leads, turn_leads, deeper_leads}
@@ -54,8 +54,8 @@ module _ {P : State → State → Type 0} {rec : Rec} (keeps : RecLeads P rec) {
   list_linked_leads form i levels list other s h = fail_leads keeps.steps badly_formed (Id i) s h
 
   pub definition_linked_leads : (form : Special) (i : ℕ) (levels : Levels) (vs : List Value) (s : State) → Follows P r s → Leads P r (definition_linked rec form i levels vs s)
-  definition_linked_leads form i levels (Fun f place ∷ []) s h = part_linked_leads form i levels (form_at s (Fun f place)) s h
-  definition_linked_leads form i levels (list ∷ []) s h = list_linked_leads form i levels list (list_elements s list) s h
+  definition_linked_leads form i levels (Fun f place ∷ []) s h = part_linked_leads form i levels (as_list (form_at s (Fun f place))) s h
+  definition_linked_leads form i levels (list ∷ []) s h = list_linked_leads form i levels list (proper_elements s list) s h
   definition_linked_leads form i levels vs s h = fail_leads keeps.steps wrong_count (Id i) s h
 
   pub form_linked_leads : (form : Special) (i : ℕ) (levels : Levels) (vs : List Value) (s : State) → Follows P r s → Leads P r (form_linked rec form i levels vs s)
