@@ -3,3 +3,5 @@ mod TwoRunsGrowth
 mod TwoRunsWays
 mod TwoRunsObjects
 mod PlainWays
+mod PlainObjects
+mod PlainNatives
