@@ -5,3 +5,5 @@ mod TwoRunsObjects
 mod PlainWays
 mod PlainObjects
 mod PlainNatives
+mod PlainHolding
+mod PlainVariables
