@@ -7,3 +7,5 @@ mod PlainObjects
 mod PlainNatives
 mod PlainHolding
 mod PlainVariables
+mod PlainHeads
+mod PlainEvaluation
