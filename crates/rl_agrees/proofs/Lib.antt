@@ -9,3 +9,4 @@ mod PlainHolding
 mod PlainVariables
 mod PlainHeads
 mod PlainEvaluation
+mod PlainAlone
