@@ -1,22 +1,21 @@
 -- An expansion of a plain macro on the right side alone leaves two runs side by side.
-use Rattle.std.proofs.Common.{◌≡◌, ◌≤◌, ◌<◌, ℕ, zero, suc, Bool, true, false, List, [], ◌∷◌, ◌++◌, length, slice_get, slice_index_or, Option, Some, None, refl, sym, ◌∙◌, ap, subst, arith, length-append}
-use Rattle.rl_tree.specs.Value.{Value, Store}
+use Rattle.std.proofs.Common.{◌≡◌, ◌≤◌, ◌<◌, ℕ, zero, suc, Bool, true, false, List, [], ◌∷◌, length, slice_index_or, Option, Some, None, refl, sym, ◌∙◌, ap, subst, arith, length-append}
+use Rattle.rl_tree.specs.Value.{Store}
 use Rattle.rl_tree.specs.declared.held.Kind.TheVariants.{Expr, Macro}
-use Rattle.rl_meaning.specs.State.{State, Code, Coded, Expansion, Counts, Tree, Held, Pointer, Symbol, Definition, Function}
-use Rattle.rl_meaning.specs.Outcome.{Outcome, Done, Failed, Went, Returned, Stopped, Levels}
+use Rattle.rl_meaning.specs.State.{State, Coded, Expansion, Tree, Pointer, Symbol, Definition, Function}
+use Rattle.rl_meaning.specs.Outcome.{Outcome, Done, Failed, Went, Returned, Stopped}
 use Rattle.rl_meaning.specs.Symbols.{symbol_at, new_symbol}
-use Rattle.rl_meaning.specs.Evaluation.{Here, Job, Run, From, opened_expansion, with_expansion, closed_expansion, without_expansion, closed, expansion_of}
+use Rattle.rl_meaning.specs.Evaluation.{Here, Run, From, opened_expansion, with_expansion, closed_expansion, without_expansion, closed, expansion_of}
 use Rattle.rl_meaning.specs.Jobs.{code_outside, code_of, run_held, job_at, job, jobs, rank, the_compiler}
 use Rattle.rl_meaning.specs.Opening.{state_of}
-use Rattle.rl_meaning.specs.TwoRunsLinks.{Linked}
 use Rattle.rl_meaning.specs.TwoRunsValues.{Names, Maybe, nothing, just, Each, end, more, SameSymbol, same_symbol, SameDefinition, same_definition, same_pointer}
-use Rattle.rl_meaning.specs.TwoRunsStates.{SameStore, SameFunctions, Place, SameExpansion, SameCounts, IsRoomier, SameCompilation, Like}
-use Rattle.rl_meaning.specs.Plain.{have_plain, is_plain_held, IsPlain, IsLonger, NoMore, OnlyMakes, PlainExpandsAlone}
+use Rattle.rl_meaning.specs.TwoRunsStates.{SameStore, SameFunctions, Place, IsRoomier, Like}
+use Rattle.rl_meaning.specs.Plain.{have_plain, IsPlain, IsLonger, NoMore, OnlyMakes, PlainExpandsAlone}
 use Rattle.rl_agrees.proofs.TwoRunsLinked.{get_left}
-use Rattle.rl_agrees.proofs.PlainWays.{Ends, then_ends, IsOutermost, Spent, no_more_refl, Stays, Leaves}
+use Rattle.rl_agrees.proofs.PlainWays.{then_ends, IsOutermost, no_more_refl, Stays, Leaves}
 use Rattle.rl_agrees.proofs.PlainObjects.{longer_refl}
 use Rattle.rl_agrees.proofs.PlainHolding.{hold_expansion_stays, copied_stays}
-use Rattle.rl_agrees.proofs.PlainVariables.{Framed, Same, InFrame}
+use Rattle.rl_agrees.proofs.PlainVariables.{Same}
 use Rattle.rl_agrees.proofs.PlainHeads.{InRange}
 use Rattle.rl_agrees.proofs.PlainEvaluation.{and_left, definition_target, walking, Asks, called_stays, walked_stays, statements_stay}
 
@@ -96,7 +95,7 @@ expansion_makes t u i f here form ranged e p h =
     closed_makes t u f _ e
     (then_ends _ _ _ _ _ (copied_stays t (Same t.bindings) _ here.levels form (with_expansion i t) (opened_stays t i e)) (λ list s k.
     then_ends _ _ _ _ _ (called_stays t p.exprs ranged p.are (job the_compiler) (asks_job t p.exprs ranged p.are) (Same t.bindings) i here.levels (list ∷ []) s
-        (definition_target t p.exprs Macro (symbol_at t i).definition (and_left _ true p.is)) k) (λ v s k.
+    (definition_target t p.exprs Macro (symbol_at t i).definition (and_left _ true p.is)) k) (λ v s k.
     hold_expansion_stays t (Same t.bindings) _ here.levels here.kept v s k))) h
 
 -- ---- side by side

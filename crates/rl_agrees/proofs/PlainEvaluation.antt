@@ -1,24 +1,24 @@
 -- A plain form only makes objects, and sets the variables of its own function.
-use Rattle.std.proofs.Common.{◌≡◌, ◌<◌, ◌==◌, ◌&&◌, ◌||◌, ◌/◌, if◌then◌else◌, ℕ, zero, suc, pos, Bool, true, false, List, [], ◌∷◌, ◌++◌, length, Option, Some, None, refl, sym, ◌∙◌, ap, subst, arith}
+use Rattle.std.proofs.Common.{◌≡◌, ◌<◌, ◌==◌, ◌&&◌, ◌||◌, if◌then◌else◌, ℕ, Bool, true, false, List, [], ◌∷◌, ◌++◌, length, Option, Some, None, refl, sym, subst, arith}
 use Rattle.std.proofs.lemmas.Bool.Decides.{nat_tests}
-use Rattle.rl_tree.specs.Value.{Value, Int, Id, Str, Ref, Fun}
+use Rattle.rl_tree.specs.Value.{Value, Id}
 use Rattle.rl_tree.specs.declared.held.Kind.{Kind}
 use Rattle.rl_tree.specs.declared.held.Kind.TheVariants.{Expr, Fexpr, Macro}
 use Rattle.rl_meaning.specs.Names.{Special, Quote, Cond, Progn, And, Or, Setq, Prog, Go, Return, List_, Plus, Times, Max, Min, De, Df, Dm, arguments_of}
 use Rattle.rl_meaning.specs.Names as names
 use Rattle.rl_meaning.specs.State.{State, Entry, Mark, Tree, Atom, Quoted, Pair, Literal, Held, Pointer, Definition, Function, SpecialForm, NativeFunction, HeldFunction}
-use Rattle.rl_meaning.specs.Outcome.{Outcome, Done, Failed, Went, Returned, Stopped, Levels, choose, then_do}
+use Rattle.rl_meaning.specs.Outcome.{Outcome, Done, Failed, Went, Returned, Stopped, Levels, choose}
 use Rattle.rl_meaning.specs.Symbols.{nil, is_nil, truth, return_id, symbol_at}
-use Rattle.rl_meaning.specs.Errors.{fail, undefined, wrong_count, wrong_type, misplaced, badly_formed}
+use Rattle.rl_meaning.specs.Errors.{wrong_count, misplaced, badly_formed}
 use Rattle.rl_meaning.specs.Constants.{is_among}
-use Rattle.rl_meaning.specs.Holding.{is_list, function_at, tree_identifiers}
+use Rattle.rl_meaning.specs.Holding.{is_list, function_at}
 use Rattle.rl_meaning.specs.Reach.{same_kind}
-use Rattle.rl_meaning.specs.Forms.{Head, Form, Call, Applied, Bad, head_of, count_of, call_levels, fits, after_label}
+use Rattle.rl_meaning.specs.Forms.{Form, Call, Applied, Bad, head_of, fits, after_label}
 use Rattle.rl_meaning.specs.Compiling.{no_compiler}
-use Rattle.rl_meaning.specs.Evaluation.{Position, Statement, Inside, Here, Job, Run, From, Rec, bad_form, misplaced_at, deeper_here, operation_of, of_none, held_applied, native_applied, counted, called_as, function_applied, applied, name_applied, called, jumped, in_prog, going, quoted, atom_in, identifiers_in, eval, arguments, progn, clauses, clause, conjunction, disjunction, setq, returning, prog, statements, listed, combined, combined_rest, walked}
+use Rattle.rl_meaning.specs.Evaluation.{Position, Statement, Inside, Here, Job, Run, From, Rec, bad_form, misplaced_at, deeper_here, operation_of, held_applied, counted, function_applied, name_applied, called, jumped, in_prog, going, quoted, atom_in, eval, arguments, progn, clauses, clause, conjunction, disjunction, setq, returning, prog, statements, listed, combined, combined_rest, walked}
 use Rattle.rl_meaning.specs.Plain.{is_pure, is_pure_function, calls_pure, in_scope, variables_of, is_plain_call, is_plain, are_plain, are_plain_clauses, is_plain_clause, sets_plainly, is_plain_prog, are_plain_statements, is_plain_held, is_plain_function, is_plain_definition, have_plain}
-use Rattle.rl_agrees.proofs.PlainWays.{Ends, ends_weaken, then_ends, Stays, Leaves, then_stays, with_bindings_stays}
-use Rattle.rl_agrees.proofs.PlainObjects.{choose_stays, fail_stays, pair_stays, turn_stays, deeper_stays, staying}
+use Rattle.rl_agrees.proofs.PlainWays.{ends_weaken, Stays, Leaves, then_stays, with_bindings_stays}
+use Rattle.rl_agrees.proofs.PlainObjects.{choose_stays, fail_stays, pair_stays, turn_stays, deeper_stays}
 use Rattle.rl_agrees.proofs.PlainNatives.{operated_stays, native_stays}
 use Rattle.rl_agrees.proofs.PlainVariables.{Framed, variable_stays, assigned_stays, InFrame, binding_stays, Same, marked_stays}
 use Rattle.rl_agrees.proofs.PlainHeads.{lambda_form, call_form, special_form, list_form, plain_special, plain_list, InRange, symbol_same, function_same, head_same}
@@ -210,7 +210,7 @@ module _ (b : State) (plain : List ℕ) (ranged : InRange b) (exprs : have_plain
             | Bad culprit ↦ λ e. bad_stays scope here culprit s k
             | Call kind i ↦ λ e.
                 (elim (is_list args) as (λ c. (if c then is_plain_call b plain kind i && are_plain b plain scope args else true) ≡ true
-                    → In scope (choose c s (λ s. call_form rec here position head args s i kind) (λ s. deeper_here 1 here s (λ here. bad_form (Id i) s)))) [
+                → In scope (choose c s (λ s. call_form rec here position head args s i kind) (λ s. deeper_here 1 here s (λ here. bad_form (Id i) s)))) [
                   | true ↦ λ e.
                       (elim kind as (λ x. (is_plain_call b plain x i && are_plain b plain scope args) ≡ true → In scope (call_form rec here position head args s i x)) [
                         | Expr ↦ λ e. deeper_stays b _ _ _ here.levels s _ (λ l.

@@ -1,5 +1,5 @@
 -- The cases of the head of a list, as they stand in evaluation and in the definition of plain forms, each by its name; and that a head stays what it was.
-use Rattle.std.proofs.Common.{◌≡◌, ◌<◌, ◌==◌, ◌&&◌, ◌||◌, if◌then◌else◌, ℕ, zero, suc, Bool, true, false, List, [], ◌∷◌, ◌++◌, length, slice_index_or, Option, Some, None, refl, sym, ◌∙◌, ap, subst, arith}
+use Rattle.std.proofs.Common.{◌≡◌, ◌<◌, ◌&&◌, if◌then◌else◌, ℕ, zero, suc, Bool, true, false, List, [], ◌∷◌, ◌++◌, length, slice_index_or, Option, Some, None, refl, ◌∙◌, ap, arith}
 use Rattle.rl_tree.specs.Value.{Value, Int, Id, Str, Ref, Fun}
 use Rattle.rl_tree.specs.declared.held.Kind.{Kind}
 use Rattle.rl_tree.specs.declared.held.Kind.TheVariants.{Expr, Fexpr, Macro}
@@ -7,11 +7,11 @@ use Rattle.rl_meaning.specs.Names.{Special, Quote, Cond, Progn, And, Or, Setq, P
 use Rattle.rl_meaning.specs.Names as names
 use Rattle.rl_meaning.specs.State.{State, Entry, Tree, Atom, Quoted, Pair, Literal, Pointer, Definition, Function, SpecialForm, NativeFunction, HeldFunction}
 use Rattle.rl_meaning.specs.Outcome.{Outcome, Done, choose}
-use Rattle.rl_meaning.specs.Symbols.{nil, truth, lambda_id, new_symbol, symbol_at}
+use Rattle.rl_meaning.specs.Symbols.{nil, truth, new_symbol, symbol_at}
 use Rattle.rl_meaning.specs.Holding.{is_list, no_function, function_in, function_at}
 use Rattle.rl_meaning.specs.Forms.{Head, Form, Call, Applied, Bad, head_in, head_of, count_of, call_levels, fits, lambda_parameters}
 use Rattle.rl_meaning.specs.Evaluation.{Position, Here, Rec, bad_form, deeper_here, called, fexpr_called, macro_called, in_chain, define_function, going, quoted, function_named, atom_in, arguments, applied_lambda, progn, clauses, conjunction, disjunction, setq, returning, prog, listed, combined}
-use Rattle.rl_meaning.specs.Plain.{is_plain_call, are_plain, are_plain_clauses, sets_plainly, is_plain_prog, IsLonger}
+use Rattle.rl_meaning.specs.Plain.{is_plain_call, are_plain, are_plain_clauses, sets_plainly, is_plain_prog}
 use Rattle.rl_agrees.proofs.PlainWays.{Stays}
 
 -- ---- evaluation

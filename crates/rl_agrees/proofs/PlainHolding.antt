@@ -1,13 +1,12 @@
 -- Copying the form of a macro, and holding the value of its expansion, only make objects and a function.
-use Rattle.std.proofs.Common.{ℕ, zero, suc, Bool, true, false, List, [], ◌∷◌, ◌++◌, Option, Some, None}
+use Rattle.std.proofs.Common.{ℕ, zero, suc, Bool, true, false, List, Option, Some, None}
 use Rattle.rl_tree.specs.Value.{Value, Id}
 use Rattle.rl_tree.specs.Value as object
 use Rattle.rl_meaning.specs.State.{State, Entry, Tree, Atom, Quoted, Pair, Literal, Kept}
 use Rattle.rl_meaning.specs.Outcome.{Outcome, Done, turns_left, Levels}
 use Rattle.rl_meaning.specs.Symbols.{nil, pair_at}
-use Rattle.rl_meaning.specs.Constants.{reading}
 use Rattle.rl_meaning.specs.Holding.{function_id, Reader, read_quoted, quoted_part, read_parts, list_within, read_list, read_form, hold_tree, hold_expansion}
-use Rattle.rl_meaning.specs.Copying.{with_object, copied_parts, copied_pair, copied_at, copied}
+use Rattle.rl_meaning.specs.Copying.{copied_parts, copied_pair, copied_at, copied}
 use Rattle.rl_agrees.proofs.PlainWays.{then_ends, Stays, Leaves, pair_turn_ends, room_ends}
 use Rattle.rl_agrees.proofs.PlainObjects.{IsNew, longer_more, with_functions_stays, object_stays, pair_new, staying}
 

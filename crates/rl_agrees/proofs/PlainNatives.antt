@@ -1,22 +1,20 @@
 -- Pure natives only make objects.
-use Rattle.std.proofs.Common.{◌≡◌, ◌==◌, ℤ, pos, negsuc, ℕ, zero, suc, Bool, true, false, List, [], ◌∷◌, length, Option, Some, None, refl, arith}
-use Rattle.std.specs.Prelude.{neg_ℤ, nat_le, nat_lt, unsigned_abs}
+use Rattle.std.proofs.Common.{◌≡◌, ◌==◌, ℤ, pos, negsuc, ℕ, zero, suc, Bool, true, false, List, [], ◌∷◌, length, Option, Some, None}
 use Rattle.rl_tree.specs.Value.{Value, Int, Id, Str, Ref, Fun, Object}
 use Rattle.rl_meaning.specs.Names.{Test, Operation, Native, Tests, Eq, Equal, Part, Cons, Append, Reverse, Length, Member, Memq, Assoc, Number, Error}
 use Rattle.rl_meaning.specs.Names as names
 use Rattle.rl_meaning.specs.State.{State, Entry}
-use Rattle.rl_meaning.specs.Outcome.{Outcome, Done, turns_left, Levels, then_do}
+use Rattle.rl_meaning.specs.Outcome.{Outcome, turns_left, Levels}
 use Rattle.rl_meaning.specs.Symbols.{nil, same, pair_at, vector_at}
-use Rattle.rl_meaning.specs.Errors.{fail}
 use Rattle.rl_meaning.specs.Constants.{reading}
 use Rattle.rl_meaning.specs.Walks.{Further, Goes, Walked, walk_on, walk_pair, walk_within, walk, Comparison, both, reading_both, places_equal, vectors_equal, objects_equal, equal_at, equal_within, equal}
 use Rattle.rl_meaning.specs.Walks as walks
-use Rattle.rl_meaning.specs.Numbers.{is_in_range, fails_as, integer, power, raised_to, divided, quotient_and_remainder, of_two, of_one, with_integer, operated, is_zero}
-use Rattle.rl_meaning.specs.Lists.{with_pair, part, cdr_set, Chain, hung, extended, ended, append, reversed, list_length, first_pair, member, memq, associated, assoc, and_goes}
-use Rattle.rl_meaning.specs.Natives.{argument, native}
+use Rattle.rl_meaning.specs.Numbers.{integer, power, of_two, of_one, with_integer, operated}
+use Rattle.rl_meaning.specs.Lists.{with_pair, part, cdr_set, Chain, hung, extended, ended, append, reversed, list_length, first_pair, associated, assoc, and_goes}
+use Rattle.rl_meaning.specs.Natives.{argument}
 use Rattle.rl_meaning.specs.Evaluation.{Rec, native_applied}
 use Rattle.rl_meaning.specs.Plain.{is_pure}
-use Rattle.rl_agrees.proofs.PlainWays.{Ends, then_ends, ends_weaken, Stays, Leaves, then_stays, watched_stays, turn_ends, deeper_ends, descends_ends, pair_turn_ends}
+use Rattle.rl_agrees.proofs.PlainWays.{Ends, then_ends, ends_weaken, Stays, Leaves, then_stays, watched_stays, turn_ends, descends_ends, pair_turn_ends}
 use Rattle.rl_agrees.proofs.PlainObjects.{IsNew, object_stays, pair_new, staying, choose_stays, reading_stays}
 
 module _ (b : State) (B : List Entry → Type 0) (Q : State → Type 0) where

@@ -1,10 +1,10 @@
 -- What an expansion makes: objects and functions behind those that were there; and the objects that it makes may be changed.
-use Rattle.std.proofs.Common.{◌≡◌, ◌≤◌, ◌+◌, ◌-◌, ℤ, ℕ, zero, suc, Bool, true, false, List, [], ◌∷◌, ◌++◌, length, slice_set, Option, Some, None, refl, sym, ◌∙◌, ap, subst, arith}
+use Rattle.std.proofs.Common.{◌≡◌, ◌≤◌, ◌+◌, ◌-◌, ℕ, suc, Bool, true, false, List, [], ◌∷◌, ◌++◌, length, slice_set, sym, ◌∙◌, ap, subst, arith}
 use Rattle.std.proofs.Common.{length-append}
 use Rattle.std.proofs.lemmas.List.{append_assoc, append-nil}
 use Rattle.rl_tree.specs.Value.{Value, Int, Id, Str, Ref, Fun, Object, Store}
 use Rattle.rl_meaning.specs.State.{State, Entry, Function}
-use Rattle.rl_meaning.specs.Outcome.{Outcome, Done, then_do, choose, turn, Levels, deeper, pair_turn, made_pair}
+use Rattle.rl_meaning.specs.Outcome.{Outcome, choose, turn, Levels, deeper, pair_turn, made_pair}
 use Rattle.rl_meaning.specs.Symbols.{nil}
 use Rattle.rl_meaning.specs.Errors.{fail}
 use Rattle.rl_meaning.specs.Constants.{reading}

@@ -1,18 +1,18 @@
 -- The bindings of a running plain function: its own variables stand above its mark, and what stands from the mark down stays.
-use Rattle.std.proofs.Common.{◌≡◌, ◌+◌, ◌-◌, ◌==◌, ◌||◌, if◌then◌else◌, ℕ, zero, suc, Bool, true, false, List, [], ◌∷◌, ◌++◌, length, drop, Option, Some, None, refl, sym, ◌∙◌, subst, arith, length-append}
+use Rattle.std.proofs.Common.{◌≡◌, ◌+◌, ◌-◌, ◌==◌, ◌||◌, if◌then◌else◌, ℕ, suc, Bool, true, false, List, [], ◌∷◌, ◌++◌, length, drop, Option, Some, None, refl, sym, ◌∙◌, subst, arith, length-append}
 use Rattle.std.proofs.lemmas.List.{append_assoc}
 use Rattle.rl_tree.specs.Value.{Value, Id}
 use Rattle.rl_tree.specs.declared.held.VarKind.{VarKind}
 use Rattle.rl_tree.specs.declared.held.VarKind.TheVariants as kind
 use Rattle.rl_meaning.specs.State.{State, Entry, Binding, Mark, Scope, Local, Fluid, Kept, Pointer}
 use Rattle.rl_meaning.specs.Outcome.{Outcome, Done, Failed, Went, Returned, Stopped, then_do, choose, Levels}
-use Rattle.rl_meaning.specs.Symbols.{nil, symbol_at, is_constant}
+use Rattle.rl_meaning.specs.Symbols.{nil, is_constant}
 use Rattle.rl_meaning.specs.Errors.{fail, not_bindable}
 use Rattle.rl_meaning.specs.Constants.{is_among}
 use Rattle.rl_meaning.specs.Holding.{kept_kind}
-use Rattle.rl_meaning.specs.Variables.{Nearest, nearest_from, nearest, strays, top_value, used, variable, with_nearest, with_value, stray_of, use_strays, set_by, assigned, bound_as, bind, bind_all, with_oldest, with_mark, restored, binding, binding_levels}
+use Rattle.rl_meaning.specs.Variables.{Nearest, nearest_from, nearest, strays, top_value, used, variable, with_nearest, with_value, stray_of, use_strays, assigned, bound_as, bind, bind_all, with_mark, restored, binding}
 use Rattle.rl_meaning.specs.Plain.{in_scope}
-use Rattle.rl_agrees.proofs.PlainWays.{Ends, ends_weaken, then_ends, Stays, Leaves, with_bindings_stays, watched_stays, choose_ends, deeper_ends}
+use Rattle.rl_agrees.proofs.PlainWays.{Ends, then_ends, Stays, Leaves, with_bindings_stays, watched_stays, deeper_ends}
 use Rattle.rl_agrees.proofs.PlainObjects.{fail_ends, choose_stays, staying}
 
 -- ---- frames

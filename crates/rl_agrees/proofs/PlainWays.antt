@@ -1,10 +1,9 @@
 -- What an expansion does to the state at every step, with the one it began in as it was: turns, levels, cells and what is watched.
-use Rattle.std.proofs.Common.{◌≡◌, ◌≤◌, ◌-◌, ℤ, ℕ, zero, suc, Bool, true, false, List, [], ◌∷◌, ◌++◌, length, Option, Some, None, refl, subst, arith}
+use Rattle.std.proofs.Common.{◌≡◌, ◌≤◌, ◌-◌, ℤ, ℕ, zero, suc, Bool, true, false, List, Option, Some, None, refl, subst, arith}
 use Rattle.std.specs.Prelude.{nat_le}
-use Rattle.std.proofs.lemmas.Bool.Decides.{nat_tests}
-use Rattle.rl_tree.specs.Value.{Value, Int, Id, Str, Ref, Fun}
+use Rattle.rl_tree.specs.Value.{Value}
 use Rattle.rl_meaning.specs.State.{State, Entry, Counts, Expansion, Watched}
-use Rattle.rl_meaning.specs.Outcome.{Outcome, Done, Failed, Went, Returned, Stopped, Stop, then_do, choose, run_turn, expansion_turn, turn_of, turn, Levels, entered, deeper, descends, pair_turn, cells_within, run_room, expansion_within, expansion_room, room}
+use Rattle.rl_meaning.specs.Outcome.{Outcome, Done, Failed, Went, Returned, Stopped, Stop, then_do, choose, expansion_turn, turn_of, turn, Levels, entered, deeper, descends, pair_turn, cells_within, run_room, expansion_within, expansion_room, room}
 use Rattle.rl_meaning.specs.Plain.{IsLonger, NoMore}
 
 -- ---- outcomes: what is said of a result and of a GO or RETURN; nothing is said of an error and of a stop, since an expansion that meets one is none
