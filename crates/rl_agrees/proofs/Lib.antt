@@ -10,3 +10,4 @@ mod PlainVariables
 mod PlainHeads
 mod PlainEvaluation
 mod PlainAlone
+mod PlainRows

@@ -66,7 +66,7 @@ pure_names : (b : State) (plain : List ℕ) (system : Bool) (o : Option Definiti
 pure_names b plain system None h = never h
 pure_names b plain system (Some d) h = pure_target b plain (function_at b d.function) (and_right system _ h)
 
-among_plain : (b : State) (plain : List ℕ) (kind : Kind) (xs : List ℕ) (i : ℕ) → have_plain b plain kind xs ≡ true → is_among i xs ≡ true → is_plain_definition b plain kind (symbol_at b i).definition ≡ true
+pub among_plain : (b : State) (plain : List ℕ) (kind : Kind) (xs : List ℕ) (i : ℕ) → have_plain b plain kind xs ≡ true → is_among i xs ≡ true → is_plain_definition b plain kind (symbol_at b i).definition ≡ true
 among_plain b plain kind [] i h a = never a
 among_plain b plain kind (x ∷ xs) i h a = at (i == x) refl a (λ a. among_plain b plain kind xs i (and_right (is_plain_definition b plain kind (symbol_at b x).definition) _ h) a)
   where
