@@ -2,6 +2,15 @@ mod TwoRunsLinked
 mod TwoRunsGrowth
 mod TwoRunsWays
 mod TwoRunsObjects
+mod TwoRunsWalks
+mod TwoRunsLists
+mod TwoRunsNumbers
+mod TwoRunsSpine
+mod TwoRunsAtoms
+mod TwoRunsProperties
+mod TwoRunsReading
+mod TwoRunsPrinting
+mod TwoRunsNatives
 mod PlainWays
 mod PlainObjects
 mod PlainNatives
