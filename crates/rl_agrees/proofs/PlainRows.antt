@@ -9,7 +9,7 @@ use Rattle.rl_meaning.specs.State.{State}
 use Rattle.rl_meaning.specs.Symbols.{named_from, symbol_at}
 use Rattle.rl_meaning.specs.Errors.{error_texts}
 use Rattle.rl_meaning.specs.Jobs.{job}
-use Rattle.rl_meaning.specs.Opening.{bare_state}
+use Rattle.rl_meaning.specs.Opening.{bare_state, prelude_texts, opened_state}
 use Rattle.rl_meaning.specs.Run.{run_bytes}
 use Rattle.rl_meaning.specs.Constants.{is_among}
 use Rattle.rl_agrees.proofs.PlainEvaluation.{among_plain}
@@ -106,3 +106,22 @@ opens_another = refl
 applies : alone (codes "(DM M (U) ((LAMBDA (V) V) U))") ≡ false
 unfolding bare_state opening_rows byte_names special_rows native_rows digits error_texts job
 applies = refl
+
+-- ---- the prelude
+
+abbrev numbers : List (List ℕ) → State → List ℕ
+numbers [] s = []
+numbers (name ∷ names) s = number name s ∷ numbers names s
+
+-- these are plain together
+abbrev together : List (List ℕ) → Bool
+together names = let es = numbers names opened_state in have_plain opened_state es Expr es
+
+of_the_prelude : together (codes "SUBLIS" ∷ codes "SUBST" ∷ codes "DELETE" ∷ codes "PAIR" ∷ codes "EXPAND" ∷ codes "PROG2" ∷ []) ≡ true
+unfolding bare_state opened_state prelude_texts opening_rows byte_names special_rows native_rows digits error_texts job
+of_the_prelude = refl
+
+-- APPLY, PUT and EVAL are not pure
+not_of_the_prelude : (together (codes "MAPCAR" ∷ []) ∷ together (codes "DEFLIST" ∷ []) ∷ together (codes "EVLIS" ∷ []) ∷ []) ≡ false ∷ false ∷ false ∷ []
+unfolding bare_state opened_state prelude_texts opening_rows byte_names special_rows native_rows digits error_texts job
+not_of_the_prelude = refl
