@@ -1,9 +1,8 @@
 -- What an expansion does to the state at every step, with the one it began in as it was: turns, levels, cells and what is watched.
-use Rattle.std.proofs.Common.{◌≡◌, ◌≤◌, ◌-◌, ℤ, ℕ, zero, suc, Bool, true, false, List, Option, Some, None, refl, subst, arith}
+use Rattle.std.proofs.Common.{◌≡◌, ◌≤◌, ◌-◌, ℕ, zero, suc, Bool, true, false, List, Option, Some, None, refl, subst, arith}
 use Rattle.std.specs.Prelude.{nat_le}
-use Rattle.rl_tree.specs.Value.{Value}
 use Rattle.rl_meaning.specs.State.{State, Entry, Counts, Expansion, Watched}
-use Rattle.rl_meaning.specs.Outcome.{Outcome, Done, Failed, Went, Returned, Stopped, Stop, then_do, choose, expansion_turn, turn_of, turn, Levels, entered, deeper, descends, pair_turn, cells_within, run_room, expansion_within, expansion_room, room}
+use Rattle.rl_meaning.specs.Outcome.{Outcome, Done, Failed, Went, Returned, Stopped, then_do, expansion_turn, turn_of, turn, Levels, entered, deeper, descends, pair_turn, cells_within, run_room, expansion_within, expansion_room, room}
 use Rattle.rl_meaning.specs.Plain.{IsLonger, NoMore}
 
 -- ---- outcomes: what is said of a result and of a GO or RETURN; nothing is said of an error and of a stop, since an expansion that meets one is none
@@ -17,15 +16,6 @@ EndsAs P Q (Stopped why t) = Unit {0}
 
 pub record Ends {A : Type 0} (P : A → State → Type 0) (Q : State → Type 0) (o : Outcome A) : Type 0 where
   pub ends : EndsAs P Q o
-
-pub done_ends : {A : Type 0} (P : A → State → Type 0) (Q : State → Type 0) (a : A) (t : State) → P a t → Ends P Q (Done a t)
-done_ends P Q a t h = record { ends = h }
-
-pub stopped_ends : {A : Type 0} (P : A → State → Type 0) (Q : State → Type 0) (why : Stop) (t : State) → Ends P Q (Stopped why t)
-stopped_ends P Q why t = record { ends = tt }
-
-pub failed_ends : {A : Type 0} (P : A → State → Type 0) (Q : State → Type 0) (n : ℤ) (m : Value) (t : State) → Ends P Q (Failed n m t)
-failed_ends P Q n m t = record { ends = tt }
 
 -- and then
 pub then_ends : {A B : Type 0} (P : A → State → Type 0) (R : B → State → Type 0) (Q : State → Type 0) (o : Outcome A) (next : A → State → Outcome B) → Ends P Q o → ((a : A) (t : State) → P a t → Ends R Q (next a t)) → Ends R Q (then_do o next)
@@ -92,10 +82,6 @@ pub then_stays : {A B' : Type 0} (b : State) (B : List Entry → Type 0) (Q : St
 then_stays b B Q o next h k = then_ends _ _ Q o next h k
 
 module _ {A : Type 0} (b : State) (B : List Entry → Type 0) (P : A → State → Type 0) (Q : State → Type 0) where
-  pub choose_ends : (c : Bool) (s : State) (f g : State → Outcome A) → Ends P Q (f s) → Ends P Q (g s) → Ends P Q (choose c s f g)
-  choose_ends true s f g h k = h
-  choose_ends false s f g h k = k
-
   -- ---- turns: they are those of the expansion
 
   pub turn_ends : (s : State) (next : State → Outcome A) → Stays b B s → ((t : State) → Stays b B t → Ends P Q (next t)) → Ends P Q (turn s next)
