@@ -30,3 +30,12 @@ mod LaterStands
 mod OneRunLater
 mod OneRunQuiet
 mod OneRunLaws
+mod PlainWays
+mod PlainObjects
+mod PlainNatives
+mod PlainHolding
+mod PlainVariables
+mod PlainHeads
+mod PlainEvaluation
+mod PlainAlone
+mod PlainRows

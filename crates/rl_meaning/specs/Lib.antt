@@ -30,6 +30,7 @@ pub mod TwoRunsLinks
 pub mod TwoRunsValues
 pub mod TwoRunsStates
 pub mod TwoRunsEnds
+pub mod Plain
 pub mod Right
 pub mod Tidy
 pub mod Run
