@@ -6,7 +6,7 @@ use Rattle.rl_meaning.specs.State.{State, Code, Tree, Held, Pointer, Definition,
 use Rattle.rl_meaning.specs.State as state
 use Rattle.rl_meaning.specs.CMacros.{Operand, Slot, Constant, Variable, Register, Entry, Alloc, Dealloc, Load, Store, SetVar, Move, Copy, Link, LinkE, Self, CallNative, Jump, JumpNil, JumpT, JumpEq, JumpNe, Label, GoTo, Bind, ProgBind, Free, Exit, Raise}
 use Rattle.rl_meaning.specs.Outcome.{Outcome, Levels}
-use Rattle.rl_meaning.specs.Symbols.{nil, is_nil, same, symbol_at, cdr_at, list_elements}
+use Rattle.rl_meaning.specs.Symbols.{nil, is_nil, same, symbol_at, cdr_at}
 use Rattle.rl_meaning.specs.Errors.{wrong_count, wrong_type, badly_formed}
 use Rattle.rl_meaning.specs.Holding.{function_at, form_at}
 use Rattle.rl_meaning.specs.Variables.{with_mark, binding_levels}

@@ -10,7 +10,8 @@ use Rattle.rl_meaning.specs.Jobs.{code_outside, code_of, run_held, job_at, job, 
 use Rattle.rl_meaning.specs.Opening.{state_of}
 use Rattle.rl_meaning.specs.TwoRunsValues.{Names, Maybe, nothing, just, Each, end, more, SameSymbol, same_symbol, SameDefinition, same_definition, same_pointer}
 use Rattle.rl_meaning.specs.TwoRunsStates.{SameStore, SameFunctions, Place, IsRoomier, Like}
-use Rattle.rl_meaning.specs.Plain.{have_plain, IsPlain, IsLonger, NoMore, OnlyMakes, PlainExpandsAlone}
+use Rattle.rl_meaning.specs.Plain.{have_plain, IsPlain}
+use Rattle.rl_agrees.specs.Expanding.{IsLonger, NoMore, OnlyMakes, PlainExpandsAlone}
 use Rattle.rl_agrees.proofs.TwoRunsLinked.{get_left}
 use Rattle.rl_agrees.proofs.PlainWays.{then_ends, IsOutermost, no_more_refl, Stays, Leaves}
 use Rattle.rl_agrees.proofs.PlainObjects.{longer_refl}

@@ -9,7 +9,7 @@ use Rattle.rl_meaning.specs.Symbols.{nil}
 use Rattle.rl_meaning.specs.Errors.{fail}
 use Rattle.rl_meaning.specs.Constants.{reading}
 use Rattle.rl_meaning.specs.Copying.{with_object}
-use Rattle.rl_meaning.specs.Plain.{IsLonger}
+use Rattle.rl_agrees.specs.Expanding.{IsLonger}
 use Rattle.rl_agrees.proofs.PlainWays.{Ends, then_ends, Stays, Leaves, done_stays, then_stays, watched_stays, turn_ends, deeper_ends, pair_turn_ends, room_ends}
 
 -- ---- longer lists

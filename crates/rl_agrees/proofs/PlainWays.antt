@@ -3,7 +3,7 @@ use Rattle.std.proofs.Common.{◌≡◌, ◌≤◌, ◌-◌, ℕ, zero, suc, Boo
 use Rattle.std.specs.Prelude.{nat_le}
 use Rattle.rl_meaning.specs.State.{State, Entry, Counts, Expansion, Watched}
 use Rattle.rl_meaning.specs.Outcome.{Outcome, Done, Failed, Went, Returned, Stopped, then_do, expansion_turn, turn_of, turn, Levels, entered, deeper, descends, pair_turn, cells_within, run_room, expansion_within, expansion_room, room}
-use Rattle.rl_meaning.specs.Plain.{IsLonger, NoMore}
+use Rattle.rl_agrees.specs.Expanding.{IsLonger, NoMore}
 
 -- ---- outcomes: what is said of a result and of a GO or RETURN; nothing is said of an error and of a stop, since an expansion that meets one is none
 

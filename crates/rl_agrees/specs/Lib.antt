@@ -1,3 +1,4 @@
 pub mod Later
 pub mod Leaving
 pub mod Laws
+pub mod Expanding

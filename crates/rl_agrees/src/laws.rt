@@ -1,6 +1,6 @@
 //! Laws of one run, and of two. A law is the contract of a function that does nothing.
 ghost use Rattle.rl_agrees.specs.Laws.{RunsGoOn, OnlyStatementsLeave};
-ghost use Rattle.rl_meaning.specs.Plain.{PlainExpandsAlone};
+ghost use Rattle.rl_agrees.specs.Expanding.{PlainExpandsAlone};
 
 /// The state behind a job, and behind a run, is later than the one before: what was printed and noted, the first event, functions and noted changes stay, and the codes that are left stand.
 pub fn runs_go_on()

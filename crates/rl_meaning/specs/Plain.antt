@@ -1,21 +1,16 @@
 -- Plain macros: their bodies use only what makes objects and binds their own variables, so that an expansion changes nothing that was there (this project's).
-use Rattle.std.specs.Prelude.{◌≡◌, ◌≤◌, ℕ, Bool, true, false, ◌&&◌, ◌||◌, if◌then◌else◌, List, [], ◌∷◌, ◌++◌, Option, Some, None}
+use Rattle.std.specs.Prelude.{◌≡◌, ℕ, Bool, true, false, ◌&&◌, ◌||◌, if◌then◌else◌, List, [], ◌∷◌, Option, Some, None}
 use Rattle.rl_tree.specs.Value.{Value, Id}
 use Rattle.rl_tree.specs.declared.held.Kind.{Kind}
 use Rattle.rl_tree.specs.declared.held.Kind.TheVariants.{Expr, Fexpr, Macro}
 use Rattle.rl_meaning.specs.Names.{Test, Digit, Liter, Fluidp, Globalp, Special, Quote, Cond, Progn, And, Or, Setq, Prog, Go, Return, List_, Plus, Times, Max, Min, De, Df, Dm, Native, Tests, Eq, Equal, Part, Cons, Append, Reverse, Length, Member, Memq, Assoc, Number, Error}
 use Rattle.rl_meaning.specs.Names as names
-use Rattle.rl_meaning.specs.State.{State, Tree, Atom, Quoted, Pair, Literal, Held, Definition, Function, SpecialForm, NativeFunction, HeldFunction, Expansion, Counts}
-use Rattle.rl_meaning.specs.Outcome.{Done}
+use Rattle.rl_meaning.specs.State.{State, Tree, Atom, Quoted, Pair, Literal, Held, Definition, Function, SpecialForm, NativeFunction, HeldFunction}
 use Rattle.rl_meaning.specs.Symbols.{is_constant, symbol_at}
 use Rattle.rl_meaning.specs.Constants.{is_among}
 use Rattle.rl_meaning.specs.Holding.{is_list, tree_identifiers, function_at}
 use Rattle.rl_meaning.specs.Reach.{same_kind}
 use Rattle.rl_meaning.specs.Forms.{Form, Call, Applied, Bad, head_of, fits}
-use Rattle.rl_meaning.specs.Evaluation.{Here, expansion_of}
-use Rattle.rl_meaning.specs.Jobs.{jobs, the_compiler}
-use Rattle.rl_meaning.specs.TwoRunsValues.{Names}
-use Rattle.rl_meaning.specs.TwoRunsStates.{Place, Like}
 
 -- ---- pure natives: they look at objects and make new ones
 
@@ -158,34 +153,3 @@ pub record IsPlain (s : State) (i : ℕ) : Type 0 where
   pub exprs : List ℕ
   pub are : have_plain s exprs Expr exprs ≡ true
   pub is : have_plain s exprs Macro (i ∷ []) ≡ true
-
--- ---- what an expansion leaves of the state
-
-pub record IsLonger {A : Type 0} (old new : List A) : Type 0 where
-  pub more : List A
-  pub is : new ≡ old ++ more
-
--- there is no more left of it, where there is a bound
-abbrev pub NoMore : Option ℕ → Option ℕ → Type 0
-NoMore None None = Unit {0}
-NoMore (Some old) (Some new) = new ≤ old
-NoMore old new = ⊥
-
--- objects and functions were made, of which nothing that was there knows, and cells were taken; whatever is watched may have been met
-pub record OnlyMakes (s t : State) : Type 0 where
-  pub store : IsLonger s.store t.store
-  pub functions : IsLonger s.functions t.functions
-  pub symbols : t.symbols ≡ s.symbols
-  pub bindings : t.bindings ≡ s.bindings
-  pub given : t.counts.given ≡ s.counts.given
-  pub turns : t.counts.turns ≡ s.counts.turns
-  pub cells : NoMore s.counts.cells t.counts.cells
-  pub expansion : t.counts.expansion ≡ s.counts.expansion
-  pub outside : t.outside ≡ s.outside
-  pub gensyms : t.gensyms ≡ s.gensyms
-  pub compilation : t.compilation ≡ s.compilation
-
--- where two runs stand side by side, the right one may expand a plain macro, and they stand so still
-pub record PlainExpandsAlone : Type 0 where
-  pub expands : (n : Names) (ps : List Place) (s t u : State) (i f : ℕ) (here : Here) (form : Tree) → Like n ps s t → t.counts.expansion ≡ None → IsPlain t i
-      → expansion_of (jobs the_compiler) i here form t ≡ Done f u → OnlyMakes t u × Like n ps s u
