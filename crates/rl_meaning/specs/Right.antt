@@ -19,7 +19,7 @@ use Rattle.rl_meaning.specs.Opening.{state_of}
 use Rattle.rl_meaning.specs.TwoRunsLinks.{Linked}
 use Rattle.rl_meaning.specs.TwoRunsValues.{Names, Each, SameValue, SameCode}
 use Rattle.rl_meaning.specs.TwoRunsStates.{Like, all_both}
-use Rattle.rl_meaning.specs.TwoRunsEnds.{Ends}
+use Rattle.rl_meaning.specs.TwoRunsEnds.{EndsByRight}
 
 -- ---- constants as they stood
 
@@ -134,7 +134,7 @@ pub record Right (compiler : Compiler) (lowered : State) (entry : Coded) (held :
       → s.counts.expansion ≡ None
       → all_stand s entry.dependencies ≡ true
       → AllAsTheyStood s stood
-      → Ends known (all_both s.bindings) (run_code (jobs compiler) levels (Some entry.function) held entry.code vs s) (walked (jobs compiler) levels entry.function.function (Some entry.function) held vs s)
+      → EndsByRight known (all_both s.bindings) (run_code (jobs compiler) levels (Some entry.function) held entry.code vs s) (walked (jobs compiler) levels entry.function.function (Some entry.function) held vs s)
       × NoLater (event_of (run_code (jobs compiler) levels (Some entry.function) held entry.code vs s)) (event_of (walked (jobs compiler) levels entry.function.function (Some entry.function) held vs s))
   pub binds : all_of (may_bind held.kept) (variables_bound_by entry.code) ≡ true
   pub links : all_of (λ i. is_among i (reached_names lowered held)) (links_of entry.code) ≡ true
