@@ -1,11 +1,11 @@
 -- When code is right for a held function: in every state in which its dependencies stand and its constants are as they were, what its c-macros do agrees with the walk, until the walk has an event (this project's).
-use Rattle.std.specs.Prelude.{◌≡◌, ◌⊎◌, ◌≤◌, ℕ, Bool, true, false, ◌&&◌, ◌||◌, ◌==◌, nat_lt, List, [], ◌∷◌, ◌++◌, length, map, flat_map, slice_get, Option, Some, None}
+use Rattle.std.specs.Prelude.{◌≡◌, ◌⊎◌, ◌≤◌, ℕ, Bool, true, false, ◌&&◌, ◌||◌, ◌==◌, nat_lt, List, [], ◌∷◌, ◌++◌, length, map, flat_map, slice_get, take, Option, Some, None}
 use Rattle.std.specs.List.{list_any}
 use Rattle.rl_tree.specs.Value.{Value, Int, Id, Ref, Fun, Object}
 use Rattle.rl_tree.specs.declared.held.VarKind.TheVariants as vars
 use Rattle.rl_meaning.specs.CMacros.{Operand, Constant, Load, Copy, JumpEq, JumpNe, Link, LinkE, Bind, ProgBind}
-use Rattle.rl_meaning.specs.State.{State, Code, Coded, Dependency, Whole, Held, Pointer, HeldFunction, Tree, Quoted, Kept, Recorded}
-use Rattle.rl_meaning.specs.Outcome.{Outcome, Levels}
+use Rattle.rl_meaning.specs.State.{State, Code, Coded, Dependency, Whole, Held, Pointer, HeldFunction, Tree, Quoted, Kept, Entry, Recorded}
+use Rattle.rl_meaning.specs.Outcome.{Outcome, Stopped, Stop, Levels}
 use Rattle.rl_meaning.specs.Symbols.{same, is_constant}
 use Rattle.rl_meaning.specs.Constants.{is_among, objects_of, constants_in, constants_of, changed_at}
 use Rattle.rl_meaning.specs.Holding.{kept_kind, function_at, form_at}
@@ -19,7 +19,7 @@ use Rattle.rl_meaning.specs.Opening.{state_of}
 use Rattle.rl_meaning.specs.TwoRunsLinks.{Linked}
 use Rattle.rl_meaning.specs.TwoRunsValues.{Names, Each, SameValue, SameCode}
 use Rattle.rl_meaning.specs.TwoRunsStates.{Like, all_both}
-use Rattle.rl_meaning.specs.TwoRunsEnds.{EndsByRight}
+use Rattle.rl_meaning.specs.TwoRunsEnds.{HasShown, IsShort, Related}
 
 -- ---- constants as they stood
 
@@ -108,21 +108,27 @@ pub record IsIdentity (known : Names) : Type 0 where
   pub objects : (r q : ℕ) → Linked known.objects r q → r ≡ q
   pub functions : (f g : ℕ) → Linked known.functions f g → f ≡ g
 
--- an event of the code's run is one of the walk, which comes no later
-abbrev pub NoLater : Option Recorded → Option Recorded → Type 0
-NoLater None walk = Unit {0}
-NoLater (Some c) None = ⊥
-NoLater (Some c) (Some w) = (w.printed ≤ c.printed) × (w.noted ≤ c.noted)
+-- where the code's run may leave the walk: the walk has an event, or has met its bound on cells or levels, and all that it printed and noted until then was so by the code. The code never meets these bounds first
+pub data Leaves : Outcome Value → Outcome Value → Type 0 where
+  at_event : (o p : Outcome Value) (r : Recorded) → (state_of p).watched.event ≡ Some r → HasShown (take r.printed (state_of p).outside.output) (take r.noted (state_of p).outside.notes) (state_of o).outside → Leaves o p
+  at_bound : (o : Outcome Value) (why : Stop) (t : State) → IsShort why → HasShown t.outside.output t.outside.notes (state_of o).outside → Leaves o (Stopped why t)
 
-abbrev pub event_of : Outcome Value → Option Recorded
-event_of o = (state_of o).watched.event
+-- an event of the code's run: the walk has one that comes no later, or has met its bound before
+pub data IsForeseen (c : Recorded) : Outcome Value → Type 0 where
+  as_event : (p : Outcome Value) (w : Recorded) → (state_of p).watched.event ≡ Some w → w.printed ≤ c.printed → w.noted ≤ c.noted → IsForeseen c p
+  past_bound : (why : Stop) (t : State) → IsShort why → length t.outside.output ≤ c.printed → length t.outside.notes ≤ c.noted → IsForeseen c (Stopped why t)
+
+-- the code's run o and the walk p from a state with these bindings agree
+pub record AgreesWith (known : Names) (bindings : List Entry) (o p : Outcome Value) : Type 0 where
+  pub ends : Related Leaves SameValue known (all_both bindings) o p
+  pub events : (c : Recorded) → (state_of o).watched.event ≡ Some c → IsForeseen c p
 
 -- a state that comes to these objects and functions alone, and to these values
 pub record Knows (known : Names) (vs : List Value) (code : Code) (s : State) : Type 0 where
   pub identity : IsIdentity known
   pub state : Like known (all_both s.bindings) s s
   pub values : Each (SameValue known) vs vs
-  pub code_ : SameCode known code code
+  pub constants : SameCode known code code
 
 -- the code of a name, lowered in this state, for its held form, where these objects stood in its constants
 pub record Right (compiler : Compiler) (lowered : State) (entry : Coded) (held : Held) (stood : List Stood) : Type 0 where
@@ -134,8 +140,7 @@ pub record Right (compiler : Compiler) (lowered : State) (entry : Coded) (held :
       → s.counts.expansion ≡ None
       → all_stand s entry.dependencies ≡ true
       → AllAsTheyStood s stood
-      → EndsByRight known (all_both s.bindings) (run_code (jobs compiler) levels (Some entry.function) held entry.code vs s) (walked (jobs compiler) levels entry.function.function (Some entry.function) held vs s)
-      × NoLater (event_of (run_code (jobs compiler) levels (Some entry.function) held entry.code vs s)) (event_of (walked (jobs compiler) levels entry.function.function (Some entry.function) held vs s))
+      → AgreesWith known s.bindings (run_code (jobs compiler) levels (Some entry.function) held entry.code vs s) (walked (jobs compiler) levels entry.function.function (Some entry.function) held vs s)
   pub binds : all_of (may_bind held.kept) (variables_bound_by entry.code) ≡ true
   pub links : all_of (λ i. is_among i (reached_names lowered held)) (links_of entry.code) ≡ true
   pub constants : all_of (is_right_constant lowered entry.function (known_constants lowered held entry.dependencies)) (constants_of_code entry.code) ≡ true

@@ -14,11 +14,12 @@ use Rattle.rl_meaning.specs.Evaluation.{longest_chain}
 use Rattle.rl_meaning.specs.Jobs.{evaluate}
 use Rattle.rl_meaning.specs.Opening.{opened_state}
 
--- the bounds of a run; no number of cells, and no levels, is no bound
+-- the bounds of a run, and the levels that the expansions of its verdicts have; no number of cells, and no levels, is no bound
 pub record Limits : Type 0 where
   pub turns : ℕ
   pub cells : Option ℕ
   pub levels : Levels
+  pub verdicts : Levels
 
 -- the source was read to its end, or the run stopped
 pub data Ending : Type 0 where
@@ -90,7 +91,7 @@ abbrev pub started : Limits → Files → List ℕ → State → State
 started limits files input s = record s {
   counts = record { given = limits.turns; turns = limits.turns; cells = limits.cells; expansion = None };
   outside = record s.outside { files = files; input = input };
-  compilation = record s.compilation { levels = limits.levels };
+  compilation = record s.compilation { levels = limits.verdicts };
 }
 
 -- the bytes of a file that are its source: no more are read

@@ -40,11 +40,6 @@ pub data Parted {A : Type 0} : Outcome A → Outcome A → Type 0 where
   -- both stop, and which of them comes first is not said
   both_short : (why other : Stop) (s t : State) → IsShort why → IsShort other → OneBegins t.outside.output s.outside.output → OneBegins t.outside.notes s.outside.notes → Parted (Stopped why s) (Stopped other t)
 
--- where the left run has as many cells and levels and takes no more, it does not stop short alone
-pub data PartedByRight {A : Type 0} : Outcome A → Outcome A → Type 0 where
-  right_event : (o p : Outcome A) (r : Recorded) → (state_of p).watched.event ≡ Some r → HasShown (take r.printed (state_of p).outside.output) (take r.noted (state_of p).outside.notes) (state_of o).outside → PartedByRight o p
-  right_stops : (o : Outcome A) (why : Stop) (t : State) → IsShort why → HasShown t.outside.output t.outside.notes (state_of o).outside → PartedByRight o (Stopped why t)
-
 -- ---- the ends
 
 -- of a run that stops only this is to be seen
@@ -64,7 +59,3 @@ pub data Related {A : Type 0} (Apart : Outcome A → Outcome A → Type 0) (R : 
 -- the ends of two evaluations
 abbrev pub Ends : Names → List Place → Outcome Value → Outcome Value → Type 0
 Ends n ps = Related Parted SameValue n ps
-
--- and those where the left one takes no more
-abbrev pub EndsByRight : Names → List Place → Outcome Value → Outcome Value → Type 0
-EndsByRight n ps = Related PartedByRight SameValue n ps
