@@ -4,3 +4,5 @@ mod TwoRunsWays
 mod TwoRunsObjects
 mod TwoRunsJoined
 mod TwoRunsKnown
+mod TwoRunsReady
+mod TwoRunsAssumed

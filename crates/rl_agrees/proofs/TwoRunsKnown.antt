@@ -189,7 +189,7 @@ module _ (n : Names) where
 
   -- the right state knows what it has from the left
   pub knows : (ps : List Place) (s t : State) (vs ws : List Value) (a b : Code) → IsWhole ps → Like n ps s t → Each (SameValue n) vs ws → SameCode n a b → Knows K ws b t
-  knows ps s t vs ws a b w l r c = record { identity = right_identity n; state = like_right ps s t w l; values = each_right _ _ value_right vs ws r; code_ = code_right a b c }
+  knows ps s t vs ws a b w l r c = record { identity = right_identity n; state = like_right ps s t w l; values = each_right _ _ value_right vs ws r; constants = code_right a b c }
 
 -- all places are of both
 pub whole_places : (n : Names) (ps : List Place) (xs ys : List Entry) → IsWhole ps → Aligned n ps xs ys → ps ≡ all_both ys
