@@ -6,3 +6,4 @@ mod TwoRunsJoined
 mod TwoRunsKnown
 mod TwoRunsReady
 mod TwoRunsAssumed
+mod TwoRunsComposed
