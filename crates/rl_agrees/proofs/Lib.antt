@@ -7,3 +7,4 @@ mod TwoRunsKnown
 mod TwoRunsReady
 mod TwoRunsAssumed
 mod TwoRunsComposed
+mod TwoRunsGoes
