@@ -2,9 +2,11 @@ mod TwoRunsLinked
 mod TwoRunsGrowth
 mod TwoRunsWays
 mod TwoRunsObjects
+mod TwoRunsForms
 mod TwoRunsJoined
 mod TwoRunsKnown
 mod TwoRunsReady
 mod TwoRunsAssumed
 mod TwoRunsComposed
 mod TwoRunsGoes
+mod TwoRunsEnding
