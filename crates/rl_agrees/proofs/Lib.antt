@@ -39,3 +39,11 @@ mod PlainHeads
 mod PlainEvaluation
 mod PlainAlone
 mod PlainRows
+mod TwoRunsForms
+mod TwoRunsJoined
+mod TwoRunsKnown
+mod TwoRunsReady
+mod TwoRunsAssumed
+mod TwoRunsComposed
+mod TwoRunsGoes
+mod TwoRunsEnding

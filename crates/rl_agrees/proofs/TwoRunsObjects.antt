@@ -61,7 +61,7 @@ equal_test false true h k = k refl
 numbers_same : (r p q o : ℕ) → (r ≡ p → q ≡ o) → (q ≡ o → r ≡ p) → (r == p) ≡ (q == o)
 numbers_same r p q o h k = grind (arith, nat_tests, h, k)
 
-linked_same : (ls : Links) (r p q o : ℕ) → OneToOne ls → Linked ls r q → Linked ls p o → (r == p) ≡ (q == o)
+pub linked_same : (ls : Links) (r p q o : ℕ) → OneToOne ls → Linked ls r q → Linked ls p o → (r == p) ≡ (q == o)
 linked_same ls r p q o one h k = numbers_same r p q o (λ e. one.right p q o (subst (λ x. Linked ls x q) e h) k) (λ e. one.left r p o (subst (λ x. Linked ls r x) e h) k)
 
 pub same_same : (n : Names) (u v x y : Value) → OneToOne n.objects → OneToOne n.functions → SameValue n u v → SameValue n x y → same u x ≡ same v y

@@ -1,5 +1,5 @@
 -- How two runs side by side end: alike; or apart, where the right one has an event, or one of the two met its bound on cells or levels, and then all that was printed and noted until that moment was so by both (this project's).
-use Rattle.std.specs.Prelude.{◌≡◌, ℕ, ℤ, List, ◌++◌, take, Some}
+use Rattle.std.specs.Prelude.{◌≡◌, ◌⊎◌, ℕ, ℤ, List, ◌++◌, take, Some}
 use Rattle.rl_tree.specs.Value.{Value}
 use Rattle.rl_meaning.specs.State.{State, Outside, Recorded}
 use Rattle.rl_meaning.specs.Outcome.{Outcome, Done, Failed, Went, Returned, Stopped, Stop, Cells, Depth}
@@ -24,12 +24,21 @@ pub data IsShort : Stop → Type 0 where
   short_of_cells : IsShort Cells
   short_of_levels : IsShort Depth
 
+-- of two lists one begins with the other
+abbrev pub OneBegins : List ℕ → List ℕ → Type 0
+OneBegins xs ys = Begins xs ys ⊎ Begins ys xs
+
 pub data Parted {A : Type 0} : Outcome A → Outcome A → Type 0 where
   -- the right run has an event
   by_event : (o p : Outcome A) (r : Recorded) → (state_of p).watched.event ≡ Some r → HasShown (take r.printed (state_of p).outside.output) (take r.noted (state_of p).outside.notes) (state_of o).outside → Parted o p
   -- the right run stops, and the left one may go on; or the other way round
   right_short : (o : Outcome A) (why : Stop) (t : State) → IsShort why → HasShown t.outside.output t.outside.notes (state_of o).outside → Parted o (Stopped why t)
   left_short : (why : Stop) (s : State) (p : Outcome A) → IsShort why → HasShown s.outside.output s.outside.notes (state_of p).outside → Parted (Stopped why s) p
+  -- the left run stops, and the right one has an event: which of the two comes first is not said
+  short_by_event : (why : Stop) (s : State) (p : Outcome A) (r : Recorded) → IsShort why → (state_of p).watched.event ≡ Some r
+      → OneBegins (take r.printed (state_of p).outside.output) s.outside.output → OneBegins (take r.noted (state_of p).outside.notes) s.outside.notes → Parted (Stopped why s) p
+  -- both stop, and which of them comes first is not said
+  both_short : (why other : Stop) (s t : State) → IsShort why → IsShort other → OneBegins t.outside.output s.outside.output → OneBegins t.outside.notes s.outside.notes → Parted (Stopped why s) (Stopped other t)
 
 -- ---- the ends
 

@@ -1,0 +1,100 @@
+-- When two jobs of two runs side by side are the same, when they may start, and how they end: the left run may run code, the right one walks all functions (this project's).
+use Rattle.std.specs.Prelude.{◌≡◌, ◌≤◌, ◌<◌, ℕ, true, is_some, List, [], ◌∷◌, length, Option, Some, None}
+use Rattle.rl_tree.specs.Value.{Value}
+use Rattle.rl_meaning.specs.State.{State, Code, Coded, Kept, Held, Pointer, Tree, HeldFunction, Recorded}
+use Rattle.rl_meaning.specs.Outcome.{Outcome, Levels}
+use Rattle.rl_meaning.specs.Holding.{function_at}
+use Rattle.rl_meaning.specs.Standing.{all_stand}
+use Rattle.rl_meaning.specs.Evaluation.{Position, Here, Bound, Machine, Frame, Job, Run, Onward, Call_, From, In}
+use Rattle.rl_meaning.specs.Compiling.{Compiler}
+use Rattle.rl_meaning.specs.TwoRunsLinks.{Linked}
+use Rattle.rl_meaning.specs.TwoRunsValues.{Names, Maybe, Each, SameValue, SameTree, SameHeld, SamePointer, SameCode}
+use Rattle.rl_meaning.specs.TwoRunsStates.{Place, Both, Like, Roomier}
+use Rattle.rl_meaning.specs.TwoRunsEnds.{Ends}
+use Rattle.rl_meaning.specs.Right.{Stood, AllAsTheyStood, Right}
+use Rattle.rl_agrees.specs.Later.{Later, IsIn}
+
+-- ---- on one run
+
+-- an event was recorded when no more was printed and noted
+pub record EventWithin (s : State) : Type 0 where
+  pub printed : (r : Recorded) → s.watched.event ≡ Some r → r.printed ≤ length s.outside.output
+  pub noted : (r : Recorded) → s.watched.event ≡ Some r → r.noted ≤ length s.outside.notes
+
+-- what a run does from one state to another, whatever it does
+pub record Goes (s t : State) : Type 0 where
+  pub later : Later s t
+  pub within : EventWithin s → EventWithin t
+  pub bounded : is_some s.counts.cells ≡ is_some t.counts.cells
+
+-- ---- jobs
+
+pub data SameBound : Bound → Bound → Type 0 where
+  same_bound : (count : ℕ) (l m : Levels) → Roomier l m → SameBound (record { count = count; levels = l }) (record { count = count; levels = m })
+
+pub data SameMachine (n : Names) : Machine → Machine → Type 0 where
+  same_machine : (rs qs xs ys : List Value) (bs cs : List Bound) (l m : Levels) → Each (SameValue n) rs qs → Each (SameValue n) xs ys → Each SameBound bs cs → Roomier l m
+      → SameMachine n (record { registers = rs; slots = xs; bound = bs; levels = l }) (record { registers = qs; slots = ys; bound = cs; levels = m })
+
+pub data SameFrame (n : Names) : Frame → Frame → Type 0 where
+  same_frame : (name : ℕ) (f g : Option Pointer) (h k : Held) (c d : Code) (depth : ℕ) (l m : Levels) → Maybe (SamePointer n) f g → SameHeld n h k → SameCode n c d → Roomier l m
+      → SameFrame n (record { name = name; function = f; held = h; code = c; depth = depth; outside = l }) (record { name = name; function = g; held = k; code = d; depth = depth; outside = m })
+
+pub data SameHere (n : Names) : Here → Here → Type 0 where
+  same_here : (chain : ℕ) (kept : List Kept) (l m : Levels) (h g : ℕ) → Roomier l m → Linked n.functions h g
+      → SameHere n (record { levels = l; chain = chain; kept = kept; holder = h }) (record { levels = m; chain = chain; kept = kept; holder = g })
+
+pub data SameJob (n : Names) : Job → Job → Type 0 where
+  same_run : (name : Option ℕ) (l m : Levels) (h g : ℕ) (p q : Option Pointer) (a b : Held) (vs ws : List Value) → Roomier l m → Linked n.functions h g → Maybe (SamePointer n) p q → SameHeld n a b → Each (SameValue n) vs ws
+      → SameJob n (Run name l h p a vs) (Run name m g q b ws)
+  same_onward : (f g : Frame) (m k : Machine) (c d : Code) → SameFrame n f g → SameMachine n m k → SameCode n c d → SameJob n (Onward f m c) (Onward g k d)
+  same_call : (name : Option ℕ) (l m : Levels) (p q : Pointer) (vs ws : List Value) → Roomier l m → SamePointer n p q → Each (SameValue n) vs ws → SameJob n (Call_ name l p vs) (Call_ name m q ws)
+  same_from : (h g : Here) (a b c d : Tree) → SameHere n h g → SameTree n a b → SameTree n c d → SameJob n (From h a c) (From g b d)
+  same_in : (h g : Here) (position : Position) (a b : Tree) → SameHere n h g → SameTree n a b → SameJob n (In h position a) (In g position b)
+
+-- ---- the state of the right run
+
+-- a code of the map is right, and all that it rests on is as it was
+pub record ReadyCode (compiler : Compiler) (t : State) (c : Coded) : Type 0 where
+  pub lowered : State
+  pub held : Held
+  pub stood : List Stood
+  pub right : Right compiler lowered c held stood
+  pub is : function_at t c.function ≡ HeldFunction held
+  pub stands : all_stand t c.dependencies ≡ true
+  pub constants : AllAsTheyStood t stood
+  pub older : (x : Stood) → IsIn x stood → x.holder < length t.functions
+
+pub record Ready (compiler : Compiler) (t : State) : Type 0 where
+  pub codes : (c : Coded) → IsIn c t.compilation.coded → ReadyCode compiler t c
+  pub event : EventWithin t
+
+-- an application of a function that its mark names is that of a function of the state
+abbrev pub IsOfState : Job → State → Type 0
+IsOfState (Run name l holder (Some p) held vs) t = (function_at t p ≡ HeldFunction held) × (holder ≡ p.function) × (length vs ≡ length held.parameters)
+IsOfState j t = Unit {0}
+
+-- ---- two jobs side by side
+
+-- no binding is lacking
+abbrev pub IsWhole : List Place → Type 0
+IsWhole [] = Unit {0}
+IsWhole (Both ∷ ps) = IsWhole ps
+IsWhole (p ∷ ps) = ⊥
+
+pub record Starts (compiler : Compiler) (n : Names) (ps : List Place) (j : Job) (s : State) (k : Job) (t : State) : Type 0 where
+  pub same : SameJob n j k
+  pub like : Like n ps s t
+  pub whole : IsWhole ps
+  pub of_state : IsOfState k t
+  pub ready : Ready compiler t
+
+-- code that goes on may leave other bindings, of which all are there on both sides
+pub record EndsSomewhere (n : Names) (o p : Outcome Value) : Type 0 where
+  pub places : List Place
+  pub whole : IsWhole places
+  pub ends : Ends n places o p
+
+abbrev pub EndsOf : Job → Names → List Place → Outcome Value → Outcome Value → Type 0
+EndsOf (Onward f m code) n ps o p = EndsSomewhere n o p
+EndsOf j n ps o p = Ends n ps o p
