@@ -2,3 +2,4 @@ mod TwoRunsLinked
 mod TwoRunsGrowth
 mod TwoRunsWays
 mod TwoRunsObjects
+mod TwoRunsForms
