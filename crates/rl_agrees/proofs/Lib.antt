@@ -3,3 +3,4 @@ mod TwoRunsGrowth
 mod TwoRunsWays
 mod TwoRunsObjects
 mod TwoRunsForms
+mod TwoRunsWalks
