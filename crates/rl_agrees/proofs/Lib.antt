@@ -4,3 +4,6 @@ mod TwoRunsWays
 mod TwoRunsObjects
 mod TwoRunsForms
 mod TwoRunsWalks
+mod TwoRunsLists
+mod TwoRunsNumbers
+mod TwoRunsSpine
