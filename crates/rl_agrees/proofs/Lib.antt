@@ -7,3 +7,5 @@ mod TwoRunsWalks
 mod TwoRunsLists
 mod TwoRunsNumbers
 mod TwoRunsSpine
+mod TwoRunsHolding
+mod TwoRunsCopying
