@@ -9,3 +9,5 @@ mod TwoRunsNumbers
 mod TwoRunsSpine
 mod TwoRunsHolding
 mod TwoRunsCopying
+mod TwoRunsQuiet
+mod TwoRunsVariables
