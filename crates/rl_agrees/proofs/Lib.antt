@@ -11,3 +11,4 @@ mod TwoRunsHolding
 mod TwoRunsCopying
 mod TwoRunsQuiet
 mod TwoRunsVariables
+mod TwoRunsBinding
