@@ -7,6 +7,8 @@ mod TwoRunsWalks
 mod TwoRunsLists
 mod TwoRunsNumbers
 mod TwoRunsSpine
+mod TwoRunsAtoms
+mod TwoRunsProperties
 mod TwoRunsHolding
 mod TwoRunsCopying
 mod TwoRunsQuiet

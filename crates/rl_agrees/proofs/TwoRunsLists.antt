@@ -1,10 +1,10 @@
 -- Natives on lists, of two runs side by side.
-use Rattle.std.proofs.Common.{◌≡◌, ℕ, suc, pos, Bool, true, false, List, [], ◌∷◌, Option, Some, None}
+use Rattle.std.proofs.Common.{ℕ, suc, pos, Bool, true, false, List, [], ◌∷◌, Option, Some, None}
 use Rattle.rl_tree.specs.Value.{Value, Int}
 use Rattle.rl_tree.specs.Value as object
 use Rattle.rl_meaning.specs.State.{State}
 use Rattle.rl_meaning.specs.Outcome.{Outcome, Done, Levels}
-use Rattle.rl_meaning.specs.Symbols.{pair_at, nil, same, car_at, cdr_at}
+use Rattle.rl_meaning.specs.Symbols.{pair_at, nil, same}
 use Rattle.rl_meaning.specs.Walks.{Goes}
 use Rattle.rl_meaning.specs.Lists.{part_of, with_pair, part, with_car, with_cdr, cdr_set, Chain, hung, extended, ended, made_list, and_goes, append, reversed, list_length, found_at, first_pair, member, memq, associated, assoc, joined, nconc}
 use Rattle.rl_meaning.specs.Copying.{with_object}

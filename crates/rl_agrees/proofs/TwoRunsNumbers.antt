@@ -1,5 +1,5 @@
 -- Operations on integers, of two runs side by side.
-use Rattle.std.proofs.Common.{◌≡◌, ℤ, pos, negsuc, ℕ, Bool, true, false, List, Option, Some, None, subst}
+use Rattle.std.proofs.Common.{ℤ, pos, negsuc, ℕ, Bool, true, false, List, Option, Some, None, subst}
 use Rattle.rl_tree.specs.Value.{Value}
 use Rattle.rl_meaning.specs.Names.{Operation}
 use Rattle.rl_meaning.specs.Names as names

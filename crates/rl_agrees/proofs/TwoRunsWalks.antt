@@ -3,7 +3,6 @@ use Rattle.std.proofs.Common.{◌≡◌, ◌==◌, zero, suc, Bool, true, false,
 use Rattle.rl_tree.specs.Value.{Value}
 use Rattle.rl_meaning.specs.State.{State}
 use Rattle.rl_meaning.specs.Outcome.{Outcome, then_do, turns_left, Levels}
-use Rattle.rl_meaning.specs.Constants.{reading}
 use Rattle.rl_meaning.specs.Walks.{Further, Goes, Ends, Walked, walk_on, walk_pair, walk_within, walk, Comparison, both, reading_both, places_equal, vectors_equal, objects_equal, equal_at, equal_within, equal}
 use Rattle.rl_meaning.specs.TwoRunsValues.{Names, Grows, Maybe, nothing, just, Each, end, more, SameValue, SameParts, same_parts}
 use Rattle.rl_meaning.specs.TwoRunsStates.{Place, Like, Roomier}
