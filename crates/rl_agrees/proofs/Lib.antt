@@ -14,3 +14,4 @@ mod TwoRunsCopying
 mod TwoRunsQuiet
 mod TwoRunsVariables
 mod TwoRunsBinding
+mod TwoRunsDefinitions

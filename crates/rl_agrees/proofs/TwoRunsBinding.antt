@@ -126,6 +126,10 @@ abbrev pub bound_places : List ℕ → List Place → List Place
 bound_places [] ps = ps
 bound_places (x ∷ xs) ps = bound_places xs (Both ∷ ps)
 
+-- only the bindings are others
+pub record Rebound (s a : State) : Type 0 where
+  pub is : a ≡ record s { bindings = a.bindings }
+
 bound_like : (n : Names) (ps : List Place) (x : ℕ) (scope : Scope) (v w : Value) (s t : State) → SameValue n v w → Like n ps s t → Like n (Both ∷ ps) (with_binding x scope v s) (with_binding x scope w t)
 bound_like n ps x scope v w s t r l = bindings_like n ps (Both ∷ ps) s t _ _ l (both _ _ ps _ _ (same_binding x scope v w r) l.bindings)
 
@@ -180,19 +184,19 @@ module _ {A : Type 0} {R : Names → A → A → Type 0} (n : Names) (ps : List 
   bound_step m qs x a b u v f g f' g' o r k h kind.Global false = refused m qs x u v (λ done s. f s) (λ done s. g s) (λ done s. f' s) (λ done s. g' s) o k
 
   bound_all : (kept : List Kept) (xs : List ℕ) (vs ws : List Value) (m : Names) (qs : List Place) (u v : State) (f g : State → Outcome A) → Above ps qs → Each (SameValue m) vs ws → Like m qs u v
-      → ((k : Names) (a b : State) → Grows m k → Like k (bound_places xs qs) a b → (Shown qs v.bindings → Shown (bound_places xs qs) b.bindings) → Related Parted R k (bound_places xs qs) (f a) (g b))
+      → ((k : Names) (a b : State) → Grows m k → Like k (bound_places xs qs) a b → Rebound u a → Rebound v b → (Shown qs v.bindings → Shown (bound_places xs qs) b.bindings) → Related Parted R k (bound_places xs qs) (f a) (g b))
       → Related Parted R m ps (restored (length s.bindings) (then_do (bind_all kept xs vs u) (λ done s. f s))) (restored (length t.bindings) (then_do (bind_all kept xs ws v) (λ done s. g s)))
-  bound_all kept [] vs ws m qs u v f g o e k h = restored_related n ps s t l m qs _ _ o (h m u v (grows_refl m) k (λ w. w))
+  bound_all kept [] vs ws m qs u v f g o e k h = restored_related n ps s t l m qs _ _ o (h m u v (grows_refl m) k (record { is = refl }) (record { is = refl }) (λ w. w))
   bound_all kept (x ∷ xs) _ _ m qs u v f g o (more a b vs ws r e) k h =
-      bound_step m qs x a b u v (λ s. bind_all kept xs vs s) (λ s. bind_all kept xs ws s) f g o r k (λ scope. bound_all kept xs vs ws m (Both ∷ qs) _ _ f g (over Both qs o) e (bound_like m qs x scope a b u v r k) h) (kept_kind kept x) (is_constant x)
+      bound_step m qs x a b u v (λ s. bind_all kept xs vs s) (λ s. bind_all kept xs ws s) f g o r k (λ scope. bound_all kept xs vs ws m (Both ∷ qs) _ _ f g (over Both qs o) e (bound_like m qs x scope a b u v r k) (λ i c d w y left right z. h i c d w y (record { is = left.is }) (record { is = right.is }) z)) (kept_kind kept x) (is_constant x)
   bound_all kept (x ∷ xs) _ _ m qs u v f g o end k h =
-      bound_step m qs x nil nil u v (λ s. bind_all kept xs [] s) (λ s. bind_all kept xs [] s) f g o (same_id nil_id) k (λ scope. bound_all kept xs [] [] m (Both ∷ qs) _ _ f g (over Both qs o) end (bound_like m qs x scope nil nil u v (same_id nil_id) k) h) (kept_kind kept x) (is_constant x)
+      bound_step m qs x nil nil u v (λ s. bind_all kept xs [] s) (λ s. bind_all kept xs [] s) f g o (same_id nil_id) k (λ scope. bound_all kept xs [] [] m (Both ∷ qs) _ _ f g (over Both qs o) end (bound_like m qs x scope nil nil u v (same_id nil_id) k) (λ i c d w y left right z. h i c d w y (record { is = left.is }) (record { is = right.is }) z)) (kept_kind kept x) (is_constant x)
 
--- what goes on behind the bindings has them in both runs, at their places; it leaves what was printed before, on either side
+-- what goes on behind the bindings has them in both runs, at their places, and leaves what was printed before, on either side: of a stop for lack of levels no more is known
 pub binding_related : {A : Type 0} {R : Names → A → A → Type 0} (n : Names) (ps : List Place) (l m : Levels) (kept : List Kept) (xs : List ℕ) (vs ws : List Value) (s t : State) (f g : Levels → State → Outcome A) → Roomier l m → Each (SameValue n) vs ws → Like n ps s t
     → ((l : Levels) → Prints (λ s. f l s)) → ((m : Levels) → Prints (λ t. g m t))
-    → ((k : Names) (l m : Levels) (a b : State) → Grows n k → Roomier l m → Like k (bound_places xs ps) a b → (Shown ps t.bindings → Shown (bound_places xs ps) b.bindings) → Related Parted R k (bound_places xs ps) (f l a) (g m b))
+    → ((k : Names) (l m : Levels) (a b : State) → Grows n k → Roomier l m → Like k (bound_places xs ps) a b → Rebound s a → Rebound t b → (Shown ps t.bindings → Shown (bound_places xs ps) b.bindings) → Related Parted R k (bound_places xs ps) (f l a) (g m b))
     → Related Parted R n ps (binding l kept xs vs s f) (binding m kept xs ws t g)
 binding_related n ps l m kept xs vs ws s t f g r e k left right h =
     deeper_ends n ps s t _ _ k.outside (λ l. all_show kept xs vs s (λ s. f l s) (left l)) (λ m. all_show kept xs ws t (λ s. g m s) (right m)) (binding_levels (length xs)) l m r (λ l m r.
-    bound_all n ps s t k kept xs vs ws n ps s t (λ s. f l s) (λ s. g m s) level e k (λ i a b w z y. h i l m a b w r z y))
+    bound_all n ps s t k kept xs vs ws n ps s t (λ s. f l s) (λ s. g m s) level e k (λ i a b w z left right y. h i l m a b w r z left right y))

@@ -212,7 +212,7 @@ mutual
   numbered_same n _ _ (same_quoted v w h) i j q = same_quoted v w h
   numbered_same n _ _ (same_literal k x y h) i j q = same_literal k x y h
 
-  rest_same : (n : Names) (x y : Tree) → SameTree n x y → (i j : ℕ) → i ≡ j → SameTree n (numbered_rest i x) (numbered_rest j y)
+  pub rest_same : (n : Names) (x y : Tree) → SameTree n x y → (i j : ℕ) → i ≡ j → SameTree n (numbered_rest i x) (numbered_rest j y)
   rest_same n _ _ (same_node x c y d h r) i j q = same_node _ _ _ _ (numbered_same n x y h _ _ (ap suc q)) (rest_same n c d r _ _ (λ z. suc (q z) + nodes_same n x y h z))
   rest_same n _ _ (same_atom v w h) i j q = same_atom v w h
   rest_same n _ _ (same_quoted v w h) i j q = same_quoted v w h
