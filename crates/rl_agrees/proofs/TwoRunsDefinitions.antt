@@ -99,8 +99,8 @@ standing_same n ps i _ _ s t l (more _ _ cs ds (same_coded name loaded p q a b x
 compilation_like : (n : Names) (ps : List Place) (s t : State) (c d : Compilation) → Like n ps s t → SameCompilation n c d → Like n ps (record s { compilation = c }) (record t { compilation = d })
 compilation_like n ps s t c d l h = record { store = l.store; functions = l.functions; symbols = l.symbols; bindings = l.bindings; counts = l.counts; outside = l.outside; gensyms = l.gensyms; compilation = h }
 
-pub standing_like : (n : Names) (ps : List Place) (i : ℕ) (s t : State) → Like n ps s t → Like n ps (with_standing_codes i s) (with_standing_codes i t)
-standing_like n ps i s t l = compilation_like n ps s t _ _ l (record {
+pub with_standing_like : (n : Names) (ps : List Place) (i : ℕ) (s t : State) → Like n ps s t → Like n ps (with_standing_codes i s) (with_standing_codes i t)
+with_standing_like n ps i s t l = compilation_like n ps s t _ _ l (record {
   walks = l.compilation.walks;
   coded = standing_same n ps i _ _ s t l l.compilation.coded;
   answers = l.compilation.answers;
@@ -112,8 +112,8 @@ standing_like n ps i s t l = compilation_like n ps s t _ _ l (record {
 -- ---- a name that is defined
 
 -- only what is watched changes
-pub change_like : (n : Names) (ps : List Place) (i : ℕ) (o p : Option Definition) (s t : State) → Like n ps s t → Like n ps (with_change i o s) (with_change i p t)
-change_like n ps i o p s t l = at (turns i o s) (turns i p t)
+pub with_change_like : (n : Names) (ps : List Place) (i : ℕ) (o p : Option Definition) (s t : State) → Like n ps s t → Like n ps (with_change i o s) (with_change i p t)
+with_change_like n ps i o p s t l = at (turns i o s) (turns i p t)
   where
     at : (b c : Bool) → Like n ps (if b then with_event (Turned i) s else s) (if c then with_event (Turned i) t else t)
     at true true = watched_like n ps s t _ _ l
@@ -124,11 +124,11 @@ change_like n ps i o p s t l = at (turns i o s) (turns i p t)
 definition_set : (n : Names) (x y : Symbol) (o p : Option Definition) → SameSymbol n x y → Maybe (SameDefinition n) o p → SameSymbol n (record x { definition = o }) (record y { definition = p })
 definition_set n _ _ o p (same_symbol name interned system kind a b c d e f h k l) r = same_symbol name interned system kind a b c d o p h k r
 
-pub definition_like : (n : Names) (ps : List Place) (i : ℕ) (o p : Option Definition) (s t : State) → Maybe (SameDefinition n) o p → Like n ps s t → Like n ps (with_definition i o s) (with_definition i p t)
-definition_like n ps i o p s t h l = standing_like n ps i _ _ (with_symbol_like n ps i _ _ _ _ (change_like n ps i o p s t l) (definition_set n _ _ o p (symbol_same n ps s t i l) h))
+pub with_definition_like : (n : Names) (ps : List Place) (i : ℕ) (o p : Option Definition) (s t : State) → Maybe (SameDefinition n) o p → Like n ps s t → Like n ps (with_definition i o s) (with_definition i p t)
+with_definition_like n ps i o p s t h l = with_standing_like n ps i _ _ (with_symbol_like n ps i _ _ _ _ (with_change_like n ps i o p s t l) (definition_set n _ _ o p (symbol_same n ps s t i l) h))
 
 pub define_like : (n : Names) (ps : List Place) (i : ℕ) (kind : Kind) (p q : Pointer) (s t : State) → SamePointer n p q → Like n ps s t → Like n ps (define i kind p s) (define i kind q t)
-define_like n ps i kind p q s t h l = definition_like n ps i _ _ s t (just _ _ (same_definition kind p q h)) l
+define_like n ps i kind p q s t h l = with_definition_like n ps i _ _ s t (just _ _ (same_definition kind p q h)) l
 
 -- ---- GETD, REMD and PUTD
 
@@ -153,7 +153,7 @@ getd_related n ps u v s t h l = of_identifier_related n ps u v nil nil s t _ _ h
 pub remd_related : (n : Names) (ps : List Place) (u v : Value) (s t : State) → SameValue n u v → Like n ps s t → Beside SameValue n ps (remd u s) (remd v t)
 remd_related n ps u v s t h l =
     with_identifier_related n ps u v s t _ _ h l (λ i. own_name_related n ps i s t _ _ l (
-    then_value n ps _ _ _ _ (definition_pair_related n ps _ _ s t (defined_same n ps i s t l) l) (λ m a b s t g r l. done_now m ps a b _ _ r (definition_like m ps i None None s t nothing l))))
+    then_value n ps _ _ _ _ (definition_pair_related n ps _ _ s t (defined_same n ps i s t l) l) (λ m a b s t g r l. done_now m ps a b _ _ r (with_definition_like m ps i None None s t nothing l))))
 
 pub hold_lambda_related : (n : Names) (ps : List Place) (kind : Kind) (l m : Levels) (o p : Option (Value × Value)) (s t : State) → Roomier l m → Maybe (SameParts n) o p → Like n ps s t → Beside SameNumber n ps (hold_lambda kind l o s) (hold_lambda kind m p t)
 hold_lambda_related n ps kind l m _ _ s t r (just _ _ (same_parts a d b c h k)) e = hold_function_related n ps kind l m a b d c s t r h k e
