@@ -12,7 +12,7 @@ use Rattle.rl_meaning.specs.Opening.{state_of}
 use Rattle.rl_meaning.specs.Variables.{with_binding, with_mark, bound_as, bind_all, binding_levels, with_oldest, restored, binding}
 use Rattle.rl_meaning.specs.TwoRunsValues.{Names, Grows, Maybe, Each, end, more, SameValue, same_id, SamePointer}
 use Rattle.rl_meaning.specs.TwoRunsStates.{Place, Both, Hidden, HiddenMark, same_binding, same_mark, Aligned, bottom, both, hidden, hidden_mark, Shown, Like, Roomier}
-use Rattle.rl_meaning.specs.TwoRunsEnds.{HasShown, Parted, by_event, right_short, left_short, Related, done, failed, went, returned, stopped, parted}
+use Rattle.rl_meaning.specs.TwoRunsEnds.{HasShown, OneBegins, Parted, by_event, right_short, left_short, short_by_event, both_short, Related, done, failed, went, returned, stopped, parted}
 use Rattle.rl_agrees.proofs.TwoRunsGrowth.{grows_refl}
 use Rattle.rl_agrees.proofs.TwoRunsWays.{then_related}
 use Rattle.rl_agrees.proofs.TwoRunsObjects.{fail_related}
@@ -95,6 +95,10 @@ restored_parted i j o p (by_event _ _ r e h) =
     (subst (λ y. HasShown (take r.printed (state_of p).outside.output) (take r.noted (state_of p).outside.notes) y) (sym (restored_outside i o)) h))
 restored_parted i j o _ (right_short _ why t e h) = right_short (restored i o) why t e (subst (λ y. HasShown t.outside.output t.outside.notes y) (sym (restored_outside i o)) h)
 restored_parted i j _ p (left_short why s _ e h) = left_short why s (restored j p) e (subst (λ y. HasShown s.outside.output s.outside.notes y) (sym (restored_outside j p)) h)
+restored_parted i j _ p (short_by_event why s _ r e f h k) =
+    short_by_event why s (restored j p) r e (ap (λ w. w.event) (restored_watched j p) ∙ f) (subst (λ y. OneBegins (take r.printed y.output) s.outside.output) (sym (restored_outside j p)) h)
+    (subst (λ y. OneBegins (take r.noted y.notes) s.outside.notes) (sym (restored_outside j p)) k)
+restored_parted i j _ _ (both_short why other s t e f h k) = both_short why other s t e f h k
 
 module _ (n : Names) (ps : List Place) (s t : State) (l : Like n ps s t) where
   oldest_like : (m : Names) (qs : List Place) (a b : State) → Above ps qs → Like m qs a b → Like m ps (with_oldest (length s.bindings) a) (with_oldest (length t.bindings) b)
