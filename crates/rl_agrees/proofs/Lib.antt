@@ -3,11 +3,18 @@ mod TwoRunsGrowth
 mod TwoRunsWays
 mod TwoRunsObjects
 mod TwoRunsWalks
+mod TwoRunsForms
+mod TwoRunsSpine
 mod TwoRunsLists
 mod TwoRunsNumbers
-mod TwoRunsSpine
 mod TwoRunsAtoms
 mod TwoRunsProperties
+mod TwoRunsHolding
+mod TwoRunsCopying
+mod TwoRunsQuiet
+mod TwoRunsVariables
+mod TwoRunsBinding
+mod TwoRunsDefinitions
 mod TwoRunsReading
 mod TwoRunsPrinting
 mod TwoRunsNatives
@@ -39,7 +46,6 @@ mod PlainHeads
 mod PlainEvaluation
 mod PlainAlone
 mod PlainRows
-mod TwoRunsForms
 mod TwoRunsJoined
 mod TwoRunsKnown
 mod TwoRunsReady
