@@ -7,6 +7,10 @@ mod RowsCounts
 mod RowsPrinting
 mod RowsPrelude
 mod RowsExamples
+mod RowsCode
+mod RowsLinks
+mod RowsCoded
+mod RowsFunctions
 mod Spending
 mod SpendingObjects
 mod SpendingWalks

@@ -2,12 +2,12 @@
 use Rattle.std.specs.Prelude.{ℕ, zero, suc, ◌-◌, Bool, true, false, ◌&&◌, nat_lt, ◌==◌, List, [], ◌∷◌, ◌++◌, length, map, take, drop, slice_set, slice_index_or, Option, Some, None}
 use Rattle.rl_tree.specs.Value.{Value, Id, Fun}
 use Rattle.rl_meaning.specs.Names.{Special, De, Df, Dm}
-use Rattle.rl_meaning.specs.State.{State, Code, Tree, Held, Pointer, Definition, Function, SpecialForm}
+use Rattle.rl_meaning.specs.State.{State, Code, Tree, Atom, Pair, Literal, Held, Pointer, Definition, Function, SpecialForm}
 use Rattle.rl_meaning.specs.CMacros.{Operand, Slot, Constant, Variable, Register, Entry, Alloc, Dealloc, Load, Store, SetVar, Move, Copy, Link, LinkE, Self, CallNative, Jump, JumpNil, JumpT, JumpEq, JumpNe, Label, GoTo, Bind, ProgBind, Free, Exit, Raise}
 use Rattle.rl_meaning.specs.Outcome.{Outcome, Done, then_do, choose, turn, Levels, deeper}
 use Rattle.rl_meaning.specs.Symbols.{nil, is_nil, same, symbol_at, cdr_at, list_elements}
 use Rattle.rl_meaning.specs.Errors.{fail, wrong_count, wrong_type, badly_formed}
-use Rattle.rl_meaning.specs.Holding.{hold_function, same_pointer, function_at, form_at}
+use Rattle.rl_meaning.specs.Holding.{function_id, is_improper, hold_function, same_pointer, function_at, form_at}
 use Rattle.rl_meaning.specs.Copying.{copied}
 use Rattle.rl_meaning.specs.Variables.{variable, assigned, with_mark, bind_all, binding_levels, with_oldest, restored}
 use Rattle.rl_meaning.specs.Definitions.{own_name}
@@ -110,6 +110,19 @@ abbrev pub behind_entry : Code → Code
 behind_entry [] = []
 behind_entry (c ∷ rest) = rest
 
+-- a FUNCTION form as the list that it is
+abbrev pub as_list : Tree → Tree
+as_list (Literal n e) = Pair (Atom (Id function_id)) (Pair e (Atom nil))
+as_list t = t
+
+abbrev pub unless : {A : Type 0} → Bool → Option A → Option A
+unless true o = None
+unless false o = o
+
+-- the elements of a list that ends in NIL
+abbrev pub proper_elements : State → Value → Option (List Value)
+proper_elements s list = unless (is_improper s list) (list_elements s list)
+
 module _ (rec : Rec) where
   -- ---- links to special forms: a definition by its list of arguments, and an error
 
@@ -117,15 +130,15 @@ module _ (rec : Rec) where
   abbrev pub part_linked : Special → ℕ → Levels → Tree → State → Outcome Value
   part_linked form i levels args s = choose (fits form args) s (λ s. define_function rec form levels args s) (λ s. fail badly_formed (Id i) s)
 
-  -- and one that is a list of these objects
+  -- and one that is a list of objects, with these elements
   abbrev pub list_linked : Special → ℕ → Levels → Value → Option (List Value) → State → Outcome Value
   list_linked form i levels list (Some (Id name ∷ parameters ∷ forms)) s =
       own_name name s (λ s. function_defined rec form name (hold_function (kind_of_definition form) levels parameters (cdr_at s (cdr_at s list)) s))
   list_linked form i levels list other s = fail badly_formed (Id i) s
 
   abbrev pub definition_linked : Special → ℕ → Levels → List Value → State → Outcome Value
-  definition_linked form i levels (Fun f place ∷ []) s = part_linked form i levels (form_at s (Fun f place)) s
-  definition_linked form i levels (list ∷ []) s = list_linked form i levels list (list_elements s list) s
+  definition_linked form i levels (Fun f place ∷ []) s = part_linked form i levels (as_list (form_at s (Fun f place))) s
+  definition_linked form i levels (list ∷ []) s = list_linked form i levels list (proper_elements s list) s
   definition_linked form i levels vs s = fail wrong_count (Id i) s
 
   abbrev pub form_linked : Special → ℕ → Levels → List Value → State → Outcome Value

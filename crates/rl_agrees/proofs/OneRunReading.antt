@@ -1,0 +1,103 @@
+-- Reading in a state keeps a law on one run: lists that are not whole yet end in a pair that is new.
+use Rattle.std.proofs.Common.{◌+◌, drop, ℕ, Bool, true, false, List, [], ◌∷◌, Some, None}
+use Rattle.rl_tree.specs.Value.{Value}
+use Rattle.rl_text.specs.Word as word
+use Rattle.rl_text.specs.Reader.{read_by}
+use Rattle.rl_text.specs.Reader as reader
+use Rattle.rl_meaning.specs.State.{State}
+use Rattle.rl_meaning.specs.Outcome.{Outcome, Done, Failed, Went, Returned, Stopped, Stop, Levels, deeper}
+use Rattle.rl_meaning.specs.Lists.{Chain}
+use Rattle.rl_meaning.specs.Errors.{unreadable}
+use Rattle.rl_meaning.specs.Input.{with_input, byte_number, Place, made_in, made_atom, byte_turn, entered_from, enter, ended_chain, vector_of, quoted, in_state, Reading, Form, End, Unreadable, reading_of, read_bytes, read_ended, read, readch_of, readch}
+use Rattle.rl_meaning.specs.Evaluation.{Position, Inside}
+use Rattle.rl_agrees.proofs.OneRun.{Steps, Follows, LeadsAt, Leads, Makes, follows_then, done_leads, stopped_leads, makes_any, deeper_leads}
+use Rattle.rl_agrees.proofs.OneRunObjects.{leading, fail_leads, Chained, chained_none, cdr_set_follows, extended_makes}
+use Rattle.rl_agrees.proofs.OneRunReader.{Gives, IsKept, Reads, reads}
+
+pub input_follows : {P : State → State → Type 0} (steps : Steps P) {r : State} (rest : List ℕ) (s : State) → Follows P r s → Follows P r (with_input rest s)
+input_follows steps {r} rest s h = follows_then steps r s _ h (steps.input rest s)
+
+module _ {P : State → State → Type 0} (steps : Steps P) {position : Position} {r : State} where
+  pub atom_leads : (a : word.Atom) (s : State) → Follows P r s → LeadsAt P position r (made_atom a s)
+  atom_leads (word.Integer z) s h = search leading
+  atom_leads (word.Identifier name) s h = search leading
+  atom_leads (word.String bytes) s h = search leading
+
+  pub byte_leads : (b : Bool) (s : State) → Follows P r s → LeadsAt P position r (byte_turn b s)
+  byte_leads true s h = search leading
+  byte_leads false s h = search leading
+
+  pub vector_of_leads : (chain : Chain) (s : State) → Follows P r s → LeadsAt P position r (vector_of chain s)
+  vector_of_leads chain s h = search leading
+
+  pub quoted_leads : (v : Value) (s : State) → Follows P r s → LeadsAt P position r (quoted v s)
+  quoted_leads v s h = search leading
+
+  pub ended_chain_makes : (chain : Chain) (v : Value) (s : State) → Chained r chain → Follows P r s → Makes P position r (λ c t. Chained r c) (ended_chain chain v s)
+  ended_chain_makes None v s chained h = record { leads = search leading; good = chained }
+  ended_chain_makes (Some c) v s chained h = record { leads = done_leads _ _ (cdr_set_follows steps c.1 v s chained.last h); good = chained }
+
+-- ---- what is made in a state
+
+module _ (P : State → State → Type 0) (r : State) where
+  abbrev pub Kept : Place → Type 0
+  Kept place = Follows P r place.state
+
+  abbrev pub Good : Chain → Type 0
+  Good chain = Chained r chain
+
+  pub made_gives : {A : Type 0} (With : A → Type 0) (levels : Levels) (o : Outcome A) → Makes P Inside r (λ a t. With a) o → Gives Kept Good With (made_in levels o)
+  made_gives With levels (Done a s) h = record { is = (record { is = h.leads.moves }, h.good) }
+  made_gives With levels (Failed n m s) h = record { is = record { is = h.leads.moves } }
+  made_gives With levels (Went l s) h = record { is = record { is = h.leads.moves } }
+  made_gives With levels (Returned v s) h = record { is = record { is = h.leads.moves } }
+  made_gives With levels (Stopped why s) h = record { is = record { is = h.leads.moves } }
+
+  pub entered_gives : (levels : Levels) (o : Outcome Levels) → Leads P r o → Gives Kept Good (λ (u : Unit {0}). Unit {0}) (entered_from levels o)
+  entered_gives levels (Done a s) h = record { is = (record { is = h.moves }, tt) }
+  entered_gives levels (Failed n m s) h = record { is = record { is = h.moves } }
+  entered_gives levels (Went l s) h = record { is = record { is = h.moves } }
+  entered_gives levels (Returned v s) h = record { is = record { is = h.moves } }
+  entered_gives levels (Stopped why s) h = record { is = record { is = h.moves } }
+
+  pub reading_leads : {position : Position} (bytes : List ℕ) (o : reader.Outcome Place Value Stop) → Reads Kept Good o → LeadsAt P position r (reading_of bytes o)
+  reading_leads bytes (reader.Read v place rest) h = done_leads _ _ h.is
+  reading_leads bytes (reader.NoneLeft place) h = done_leads _ _ h.is
+  reading_leads bytes (reader.Refused place from) h = done_leads _ _ h.is
+  reading_leads bytes (reader.Stopped why place rest) h = stopped_leads _ _ h.is
+
+module _ {P : State → State → Type 0} (steps : Steps P) (r : State) where
+  pub enter_gives : (place : Place) → Follows P r place.state → Gives (Kept P r) (Good P r) (λ (u : Unit {0}). Unit {0}) (enter place)
+  enter_gives place h = entered_gives P r place.levels (deeper 1 place.levels place.state (λ levels. Done levels place.state)) (deeper_leads steps 1 place.levels place.state _ h (λ l. search leading))
+
+  pub in_state_kept : (turns : Bool) → IsKept (Kept P r) (Good P r) (in_state turns)
+  in_state_kept turns = record {
+    empty = chained_none r;
+    turn = λ place h. made_gives P r _ place.levels _ (makes_any _ (byte_leads steps turns place.state h));
+    enter = λ place h. enter_gives place h;
+    leave = λ place h. h;
+    atom = λ a place h. made_gives P r _ place.levels _ (makes_any _ (atom_leads steps a place.state h));
+    extended = λ chain v place good h. made_gives P r (Good P r) place.levels _ (extended_makes steps chain v place.state good h);
+    ended = λ chain v place good h. made_gives P r (Good P r) place.levels _ (ended_chain_makes steps chain v place.state good h);
+    vector = λ chain place h. made_gives P r _ place.levels _ (makes_any _ (vector_of_leads steps chain place.state h));
+    quoted = λ v place h. made_gives P r _ place.levels _ (makes_any _ (quoted_leads steps v place.state h));
+  }
+
+module _ {P : State → State → Type 0} (steps : Steps P) {position : Position} {r : State} where
+  pub read_bytes_leads : (turns : Bool) (levels : Levels) (bytes : List ℕ) (s : State) → Follows P r s → LeadsAt P position r (read_bytes turns levels bytes s)
+  read_bytes_leads turns levels bytes s h = reading_leads P r bytes _ (reads (Kept P r) (Good P r) (in_state turns) (in_state_kept steps r turns) (record { state = s; levels = levels }) bytes h)
+
+  pub read_ended_leads : (taken : ℕ) (reading : Reading) (s : State) → Follows P r s → LeadsAt P position r (read_ended taken reading s)
+  read_ended_leads taken (Form v rest) s h = search (leading, input_follows)
+  read_ended_leads taken End s h = search (leading, input_follows)
+  read_ended_leads taken (Unreadable k from) s h = fail_leads steps unreadable (byte_number (taken + k)) (with_input (drop 1 from) s) (input_follows steps (drop 1 from) s h)
+
+  pub read_leads : (levels : Levels) (s : State) → Follows P r s → LeadsAt P position r (read levels s)
+  read_leads levels s h = search (leading, read_bytes_leads, read_ended_leads)
+
+  pub readch_of_leads : (bytes : List ℕ) (s : State) → Follows P r s → LeadsAt P position r (readch_of bytes s)
+  readch_of_leads [] s h = search leading
+  readch_of_leads (b ∷ bs) s h = search (leading, input_follows)
+
+  pub readch_leads : (s : State) → Follows P r s → LeadsAt P position r (readch s)
+  readch_leads s h = readch_of_leads s.outside.input s h

@@ -1,0 +1,5 @@
+use Rattle.rl_agrees.proofs.OneRunLaws.{job_plain}
+use Rattle.rl_agrees.proofs.laws.only_statements_leave.Goals as goal
+
+pub returns : goal.returns
+returns c = record { plain = job_plain }
