@@ -1,4 +1,4 @@
--- What an expansion does to the state at every step, with the one it began in as it was: turns, levels, cells and what is watched.
+-- What stays, at each step of an expansion, of the state in which it began: turns, levels, cells and what is watched.
 use Rattle.std.proofs.Common.{◌≡◌, ◌≤◌, ◌-◌, ℕ, zero, suc, Bool, true, false, List, Option, Some, None, refl, subst, arith}
 use Rattle.std.specs.Prelude.{nat_le}
 use Rattle.rl_meaning.specs.State.{State, Entry, Counts, Expansion, Watched}
@@ -50,7 +50,7 @@ pub no_more_refl : (o : Option ℕ) → NoMore o o
 no_more_refl None = tt
 no_more_refl (Some c) = omega arith
 
--- ---- what stays since this state: and of the bindings this holds
+-- ---- what stays of a state in a later one, whose bindings are as this says
 
 pub record Stays (b : State) (B : List Entry → Type 0) (t : State) : Type 0 where
   pub store : IsLonger b.store t.store

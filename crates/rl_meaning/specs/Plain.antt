@@ -1,11 +1,11 @@
 -- Plain macros: their bodies use only what makes objects and binds their own variables, so that an expansion changes nothing that was there (this project's).
 use Rattle.std.specs.Prelude.{◌≡◌, ℕ, Bool, true, false, ◌&&◌, ◌||◌, if◌then◌else◌, List, [], ◌∷◌, Option, Some, None}
-use Rattle.rl_tree.specs.Value.{Value, Id}
+use Rattle.rl_tree.specs.Value.{Id}
 use Rattle.rl_tree.specs.declared.held.Kind.{Kind}
 use Rattle.rl_tree.specs.declared.held.Kind.TheVariants.{Expr, Fexpr, Macro}
 use Rattle.rl_meaning.specs.Names.{Test, Digit, Liter, Fluidp, Globalp, Special, Quote, Cond, Progn, And, Or, Setq, Prog, Go, Return, List_, Plus, Times, Max, Min, De, Df, Dm, Native, Tests, Eq, Equal, Part, Cons, Append, Reverse, Length, Member, Memq, Assoc, Number, Error}
 use Rattle.rl_meaning.specs.Names as names
-use Rattle.rl_meaning.specs.State.{State, Tree, Atom, Quoted, Pair, Literal, Held, Definition, Function, SpecialForm, NativeFunction, HeldFunction}
+use Rattle.rl_meaning.specs.State.{State, Tree, Atom, Quoted, Pair, Literal, Held, Definition, Function, NativeFunction, HeldFunction}
 use Rattle.rl_meaning.specs.Symbols.{is_constant, symbol_at}
 use Rattle.rl_meaning.specs.Constants.{is_among}
 use Rattle.rl_meaning.specs.Holding.{is_list, tree_identifiers, function_at}
