@@ -8,6 +8,7 @@ mod TwoRunsReady
 mod TwoRunsAssumed
 mod TwoRunsComposed
 mod TwoRunsGoes
+mod TwoRunsForms
 mod TwoRunsWalks
 mod TwoRunsLists
 mod TwoRunsNumbers
@@ -17,3 +18,9 @@ mod TwoRunsProperties
 mod TwoRunsReading
 mod TwoRunsPrinting
 mod TwoRunsNatives
+mod TwoRunsHolding
+mod TwoRunsCopying
+mod TwoRunsQuiet
+mod TwoRunsVariables
+mod TwoRunsBinding
+mod TwoRunsDefinitions
