@@ -24,3 +24,4 @@ mod TwoRunsQuiet
 mod TwoRunsVariables
 mod TwoRunsBinding
 mod TwoRunsDefinitions
+mod TwoRunsMachine
