@@ -2,6 +2,7 @@ mod TwoRunsLinked
 mod TwoRunsGrowth
 mod TwoRunsWays
 mod TwoRunsObjects
+mod TwoRunsHeads
 mod TwoRunsForms
 mod TwoRunsJoined
 mod TwoRunsKnown
@@ -10,3 +11,5 @@ mod TwoRunsAssumed
 mod TwoRunsComposed
 mod TwoRunsGoes
 mod TwoRunsEnding
+mod TwoRunsAsked
+mod TwoRunsEvaluation
