@@ -2,12 +2,16 @@ mod TwoRunsLinked
 mod TwoRunsGrowth
 mod TwoRunsWays
 mod TwoRunsObjects
+mod TwoRunsHeads
 mod TwoRunsJoined
 mod TwoRunsKnown
 mod TwoRunsReady
 mod TwoRunsAssumed
 mod TwoRunsComposed
 mod TwoRunsGoes
+mod TwoRunsEnding
+mod TwoRunsAsked
+mod TwoRunsEvaluation
 mod TwoRunsForms
 mod TwoRunsWalks
 mod TwoRunsLists

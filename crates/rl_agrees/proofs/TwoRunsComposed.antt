@@ -25,13 +25,13 @@ use Rattle.rl_agrees.proofs.TwoRunsObjects.{linked_same}
 use Rattle.rl_agrees.proofs.TwoRunsKnown.{names_on_right, right_covers, knows, whole_places, all_both_whole}
 use Rattle.rl_agrees.proofs.TwoRunsJoined.{joined}
 use Rattle.rl_agrees.proofs.TwoRunsAssumed.{Ask, AskGoes, GoesOn}
+use Rattle.rl_agrees.proofs.TwoRunsAsked as asked
 
-abbrev pub by : Ask → Rec
-by ask = record { compiler = the_compiler; ask = ask }
+abbrev by : Ask → Rec
+by ask = asked.by the_compiler ask
 
--- what is asked for respects the relation
-abbrev pub Respects : Ask → Ask → Type 0
-Respects ask ask' = (n : Names) (ps : List Place) (j : Job) (s : State) (k : Job) (t : State) → Starts the_compiler n ps j s k t → EndsOf j n ps (ask j s) (ask' k t)
+abbrev Respects : Ask → Ask → Type 0
+Respects ask ask' = asked.Respects the_compiler ask ask'
 
 -- a job that walks
 abbrev pub walk_done : Rec → Job → State → Outcome Value
@@ -231,7 +231,7 @@ module _
         (code_respects (below i) (below i) (below_goes i) (below_goes i) (below_respects i ih) n ps l m p (Some f) a b code entry.code vs ws s t r pq hh same vv st.like st.whole st.ready)) in
         subst (λ qs. Ends n qs (job the_compiler j s) (job the_compiler k t)) (sym (whole_places n ps s.bindings t.bindings st.whole st.like.bindings))
         (joined n (names_on_right n) (right_covers n) first.places (all_both t.bindings) first.whole (all_both_whole t.bindings) (job the_compiler j s) P (job the_compiler k t)
-        ((job_goes k t).within st.ready.event) second.events (sym (code_goes m (Some f) b entry.code ws t).bounded ∙ (job_goes k t).bounded) first.ends second.ends)
+        ((job_goes k t).goes.within st.ready.event) second.events (sym (code_goes m (Some f) b entry.code ws t).goes.bounded ∙ (job_goes k t).goes.bounded) first.ends second.ends)
 
     code_agrees : (i : ℕ) → Below i → (n : Names) (ps : List Place) (name : Option ℕ) (l m : Levels) (h g : ℕ) (p q : Option Pointer) (a b : Held) (vs ws : List Value) (s t : State) (code : Code)
         → Starts the_compiler n ps (Run name l h p a vs) s (Run name m g q b ws) t → Roomier l m → Maybe (SamePointer n) p q → SameHeld n a b → Each (SameValue n) vs ws

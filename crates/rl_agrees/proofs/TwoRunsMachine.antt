@@ -1,54 +1,58 @@
 -- C-macros respect that two runs stand side by side: codes that are the same, from frames and machines that are, end alike or apart.
-use Rattle.std.proofs.Common.{◌≡◌, ◌≤◌, ◌-◌, ◌==◌, ◌&&◌, nat_lt, nat_le, ℕ, ℤ, zero, suc, Bool, true, false, List, [], ◌∷◌, ◌++◌, length, map, take, drop, slice_index_or, Option, Some, None, refl, sym, ap, subst, append-nil, arith}
+use Rattle.std.proofs.Common.{◌≡◌, ◌≤◌, ◌-◌, ◌==◌, ◌&&◌, nat_lt, nat_le, ℕ, zero, suc, Bool, true, false, List, [], ◌∷◌, ◌++◌, length, map, take, drop, slice_index_or, Option, Some, None, refl, sym, ap, subst, arith}
 use Rattle.std.proofs.lemmas.Bool.Decides.{nat_tests}
-use Rattle.rl_tree.specs.Value.{Value, Id, Str, Fun}
-use Rattle.rl_tree.specs.declared.held.Kind.{Kind}
+use Rattle.rl_tree.specs.Value.{Value, Id}
 use Rattle.rl_tree.specs.declared.held.VarKind.{VarKind}
 use Rattle.rl_tree.specs.declared.held.VarKind.TheVariants as kind
 use Rattle.rl_meaning.specs.Names.{Special, De, Df, Dm}
-use Rattle.rl_meaning.specs.State.{State, Code, Counts, Expansion, Tree, Kept, Held, Pointer, Definition, Function, Entry, Binding, Mark, Scope, Local, Fluid, Outside}
+use Rattle.rl_meaning.specs.State.{State, Code, Counts, Expansion, Tree, Kept, Held, Pointer, Definition, Function, Entry, Scope, Local, Fluid}
 use Rattle.rl_meaning.specs.CMacros.{Operand, CMacro, Alloc, Dealloc, Load, Store, SetVar, Move, Copy, Link, LinkE, Self, CallNative, Jump, JumpNil, JumpT, JumpEq, JumpNe, Label, GoTo, Bind, ProgBind, Free, Exit, Raise}
 use Rattle.rl_meaning.specs.CMacros as macros
-use Rattle.rl_meaning.specs.Outcome.{Outcome, Done, Failed, Went, Returned, Stopped, Stop, Depth, then_do, choose, run_turn, expansion_turn, turn_of, turn, Levels, entered, deeper, made_pair}
-use Rattle.rl_meaning.specs.Symbols.{nil, nil_id, message_id, is_nil, same, is_constant, symbol_at, cdr_at, list_elements}
-use Rattle.rl_meaning.specs.Errors.{fail, error_text, wrong_count, wrong_type, badly_formed, not_bindable, system_name}
-use Rattle.rl_meaning.specs.Holding.{kept_kind, hold_function, pointer_to, function_at, form_at}
+use Rattle.rl_meaning.specs.Outcome.{Outcome, Done, Stopped, Stop, Depth, then_do, choose, run_turn, expansion_turn, turn_of, turn, Levels, entered, deeper}
+use Rattle.rl_meaning.specs.Symbols.{nil, nil_id, same, is_constant, symbol_at, list_elements}
+use Rattle.rl_meaning.specs.Errors.{fail, wrong_count, wrong_type, badly_formed, not_bindable, system_name}
+use Rattle.rl_meaning.specs.Holding.{kept_kind, hold_function, form_at}
 use Rattle.rl_meaning.specs.Copying.{copied}
 use Rattle.rl_meaning.specs.Variables.{assigned, with_binding, with_mark, bound_as, bind, bind_all, binding_levels, with_oldest, restored}
-use Rattle.rl_meaning.specs.Definitions.{own_name, define}
-use Rattle.rl_meaning.specs.Forms.{fits, hold_part}
+use Rattle.rl_meaning.specs.Definitions.{own_name}
+use Rattle.rl_meaning.specs.Forms.{fits}
 use Rattle.rl_meaning.specs.Opening.{state_of}
 use Rattle.rl_meaning.specs.Evaluation.{Rec, Onward, Bound, Machine, Frame, called, kind_of_definition, function_defined, define_function}
 use Rattle.rl_meaning.specs.Machine.{all_registers, register, with_register, nils, registers_of, after_link, arguments, with_slot, allocated, deallocated, content, with_bound, bound, levels_freed, freed, undone, one_more, ended, at_entry, is_function, is_same, behind, behind_entry, part_linked, list_linked, definition_linked, form_linked, function_linked, linked_to, linked, again, run, seek, run_code}
 use Rattle.rl_meaning.specs.Jobs.{the_compiler}
-use Rattle.rl_meaning.specs.TwoRunsLinks.{Linked, OneToOne}
-use Rattle.rl_meaning.specs.TwoRunsValues.{Names, Grows, Maybe, nothing, just, Each, end, more, SameValue, same_int, same_id, same_str, same_ref, same_fun, SameTree, same_atom, same_quoted, same_node, same_literal, SameHeld, same_held, SameFunction, same_special, same_native, same_held_function, SamePointer, same_pointer, SameNumber, SameDefinition, same_definition, SameOperand, same_slot, same_constant, same_variable, same_register, SameMacro, same_load, same_copy, same_jump_eq, same_jump_ne, same_macro, SameCode}
-use Rattle.rl_meaning.specs.TwoRunsStates.{Place, Both, Hidden, HiddenMark, same_binding, Aligned, bottom, both, hidden, hidden_mark, Shown, SameExpansion, same_none, same_open, SameCounts, Like, Roomier}
+use Rattle.rl_meaning.specs.TwoRunsLinks.{OneToOne}
+use Rattle.rl_meaning.specs.TwoRunsValues.{Names, Grows, Maybe, nothing, just, Each, end, more, SameValue, same_int, same_id, same_str, same_ref, same_fun, SameTree, SameHeld, same_held, SameFunction, same_special, same_native, same_held_function, SamePointer, same_pointer, SameNumber, SameDefinition, same_definition, SameOperand, same_slot, same_constant, same_variable, same_register, SameMacro, same_load, same_copy, same_jump_eq, same_jump_ne, same_macro, SameCode}
+use Rattle.rl_meaning.specs.TwoRunsStates.{Place, Both, Hidden, HiddenMark, same_binding, Aligned, bottom, both, hidden, hidden_mark, SameExpansion, same_none, same_open, SameCounts, Like, Roomier}
 use Rattle.rl_meaning.specs.TwoRunsEnds.{Begins, HasShown, short_of_levels, Parted, Related, done, failed, went, returned, stopped, parted, Ends}
 use Rattle.rl_meaning.specs.TwoRunsEnds as ends
 use Rattle.rl_agrees.specs.TwoRunsJobs.{Goes, SameBound, same_bound, SameMachine, same_machine, SameFrame, same_frame, same_onward, Ready, IsWhole, EndsSomewhere}
-use Rattle.rl_agrees.proofs.TwoRunsGrowth.{grows_refl, grows_trans, value_grows, values_grow, maybe_grows, held_grows, pointer_grows, code_grows}
-use Rattle.rl_agrees.proofs.TwoRunsWays.{Beside, Short, right_short, left_short, Is, is, with_counts_like}
+use Rattle.rl_agrees.proofs.TwoRunsGrowth.{grows_refl, values_grow, maybe_grows, held_grows, pointer_grows, code_grows}
+use Rattle.rl_agrees.proofs.TwoRunsWays.{Beside, Is, is, with_counts_like}
 use Rattle.rl_agrees.proofs.TwoRunsObjects.{nil_same, linked_same, same_same, each_at, each_set, each_append, each_length, symbol_same}
 use Rattle.rl_agrees.proofs.TwoRunsReady.{ready_stays}
-use Rattle.rl_agrees.proofs.TwoRunsAssumed.{GoesOn, Ask, AskGoes, RecGoes, OneRunFacts, Quiet, TwoRunsFacts}
-use Rattle.rl_agrees.proofs.TwoRunsComposed.{by, Respects}
-use Rattle.rl_agrees.proofs.TwoRunsGoes.{goes_refl, goes_trans, goes_with, then_goes, choose_goes, deeper_goes, done_goes, parted_in, then_context}
+use Rattle.rl_agrees.proofs.TwoRunsAssumed.{GoesOn, Ask, AskGoes, OneRunFacts, Quiet, TwoRunsFacts}
+use Rattle.rl_agrees.proofs.TwoRunsAsked.{by, Respects, no_compiler_respects, rec_goes}
+use Rattle.rl_agrees.proofs.TwoRunsEvaluation.{called_ends, defined_ends, define_ends}
+use Rattle.rl_agrees.proofs.TwoRunsEnding.{further_ends, shown_whole, quiet_ends, fail_goes}
+use Rattle.rl_agrees.proofs.TwoRunsGoes.{goes_with, goes_from, then_goes, choose_goes, done_goes, parted_in, then_context}
 use Rattle.rl_agrees.proofs.TwoRunsForms.{fits_same, function_same, form_same, definition_same}
 use Rattle.rl_agrees.proofs.TwoRunsProperties.{cdr_same}
 use Rattle.rl_agrees.proofs.TwoRunsSpine.{list_elements_same}
-use Rattle.rl_agrees.proofs.TwoRunsHolding.{hold_function_related, hold_part_related}
+use Rattle.rl_agrees.proofs.TwoRunsHolding.{hold_function_related}
 use Rattle.rl_agrees.proofs.TwoRunsCopying.{copied_related}
 use Rattle.rl_agrees.proofs.TwoRunsQuiet.{later_shows, fail_ends}
 use Rattle.rl_agrees.proofs.TwoRunsVariables.{bindings_like, variable_related, assigned_related}
 use Rattle.rl_agrees.proofs.TwoRunsBinding.{restored_parted, mark_like}
-use Rattle.rl_agrees.proofs.TwoRunsDefinitions.{system_same, define_like}
+use Rattle.rl_agrees.proofs.TwoRunsDefinitions.{system_same}
 
 -- ---- what is taken from evaluation
 
--- a function that is called by name ends as it ends beside it
 pub record EvaluationRespects (rec rec' : Rec) : Type 0 where
+  -- a function that is called by name
   pub called_ : (n : Names) (ps : List Place) (i : ℕ) (l m : Levels) (vs ws : List Value) (s t : State) → Roomier l m → Each (SameValue n) vs ws → Like n ps s t → IsWhole ps → Ready the_compiler t → Ends n ps (called rec i l vs s) (called rec' i m ws t)
+  -- definitions: of a function that was held, and of a list of arguments that is a part of a held form
+  pub function_defined_ : (n : Names) (ps : List Place) (form : Special) (i : ℕ) (s t : State) (o p : Outcome ℕ) → Like n ps s t → IsWhole ps → Ready the_compiler t → GoesOn t p → Related Parted SameNumber n ps o p → Ends n ps (function_defined rec form i o) (function_defined rec' form i p)
+  pub define_function_ : (n : Names) (ps : List Place) (form : Special) (l m : Levels) (a b : Tree) (s t : State) → Roomier l m → SameTree n a b → Like n ps s t → IsWhole ps → Ready the_compiler t → Ends n ps (define_function rec form l a s) (define_function rec' form m b t)
 
 -- ---- where no binding is lacking: code leaves other bindings, but all of them are there on both sides
 
@@ -68,22 +72,6 @@ record Somewhere {A : Type 0} (R : Names → A → A → Type 0) (n : Names) (o 
 -- two ways to go on
 abbrev Acts : {A : Type 0} → (Names → A → A → Type 0) → Names → (State → Outcome A) → (State → Outcome A) → Type 0
 Acts R n f g = (s t : State) → Abreast n s t → Somewhere R n (f s) (g t)
-
-shown_whole : (ps : List Place) (ys : List Entry) → IsWhole ps → Shown ps ys
-shown_whole [] ys w = tt
-shown_whole (Both ∷ ps) [] w = tt
-shown_whole (Both ∷ ps) (Binding x scope v ∷ ys) w = shown_whole ps ys w
-shown_whole (Both ∷ ps) (Mark f ∷ ys) w = tt
-shown_whole (Hidden x v ∷ ps) ys w = absurd w
-shown_whole (HiddenMark g ∷ ps) ys w = absurd w
-
-further_ends : {A : Type 0} {R : Names → A → A → Type 0} (n m : Names) (ps : List Place) (o p : Outcome A) → Grows n m → Related Parted R m ps o p → Related Parted R n ps o p
-further_ends n m ps o p g (done k a b s t h r l) = done k a b s t (grows_trans n m k g h) r l
-further_ends n m ps o p g (failed k z v w s t h r l) = failed k z v w s t (grows_trans n m k g h) r l
-further_ends n m ps o p g (went k x s t h l) = went k x s t (grows_trans n m k g h) l
-further_ends n m ps o p g (returned k v w s t h r l) = returned k v w s t (grows_trans n m k g h) r l
-further_ends n m ps o p g (stopped why s t e) = stopped why s t e
-further_ends n m ps o p g (parted _ _ a) = parted _ _ a
 
 further_somewhere : {A : Type 0} {R : Names → A → A → Type 0} (n m : Names) (o p : Outcome A) → Grows n m → Somewhere R m o p → Somewhere R n o p
 further_somewhere n m o p g h = record { places = h.places; whole = h.whole; ends = further_ends n m h.places o p g h.ends }
@@ -109,12 +97,12 @@ then_somewhere : {A B : Type 0} {R : Names → A → A → Type 0} {S : Names �
 then_somewhere {A = A} {R = R} {S = S} n t o p f g ready goes left right h k = at o p goes h.ends
   where
     at : (o p : Outcome A) → GoesOn t p → Related Parted R n h.places o p → Somewhere S n (then_do o f) (then_do p g)
-    at _ _ w (done m a b u v i r l) = further_somewhere n m (f a u) (g b v) i (k m a b u v i r (record { places = h.places; whole = h.whole; like = l; ready = ready_stays the_compiler t v w ready }))
+    at _ _ w (done m a b u v i r l) = further_somewhere n m (f a u) (g b v) i (k m a b u v i r (record { places = h.places; whole = h.whole; like = l; ready = ready_stays the_compiler t v w.goes ready }))
     at _ _ w (failed m z a b u v i r l) = record { places = h.places; whole = h.whole; ends = failed m z a b u v i r l }
     at _ _ w (went m z u v i l) = record { places = h.places; whole = h.whole; ends = went m z u v i l }
     at _ _ w (returned m a b u v i r l) = record { places = h.places; whole = h.whole; ends = returned m a b u v i r l }
     at _ _ w (stopped why u v e) = record { places = h.places; whole = h.whole; ends = stopped why u v e }
-    at o p w (parted _ _ a) = record { places = h.places; whole = h.whole; ends = parted _ _ (parted_in (λ o. then_do o f) (λ p. then_do p g) o p (then_context f left) (then_context g right) (w.within ready.event) a) }
+    at o p w (parted _ _ a) = record { places = h.places; whole = h.whole; ends = parted _ _ (parted_in (λ o. then_do o f) (λ p. then_do p g) o p (then_context f left) (then_context g right) (w.goes.within ready.event) a) }
 
 -- ---- turns and levels
 
@@ -144,10 +132,10 @@ test_wider n l m le e = grind (arith, nat_tests)
 -- of a run that stops for lack of levels no more is known than that the other goes on from there
 module _ {A : Type 0} {R : Names → A → A → Type 0} (n : Names) (s t : State) (f g : Levels → Outcome A) (x : Abreast n s t) (left : (l : Levels) → GoesOn s (f l)) (right : (l : Levels) → GoesOn t (g l)) (h : (l m : Levels) → Roomier l m → Somewhere R n (f l) (g m)) where
   right_stops : (l : Levels) → Somewhere R n (f l) (Stopped Depth t)
-  right_stops l = record { places = x.places; whole = x.whole; ends = parted _ _ (ends.right_short (f l) Depth t short_of_levels (subst (λ y. HasShown y.output y.notes (state_of (f l)).outside) x.like.outside (later_shows s (f l) (left l).later))) }
+  right_stops l = record { places = x.places; whole = x.whole; ends = parted _ _ (ends.right_short (f l) Depth t short_of_levels (subst (λ y. HasShown y.output y.notes (state_of (f l)).outside) x.like.outside (later_shows s (f l) (left l).goes.later))) }
 
   left_stops : (m : Levels) → Somewhere R n (Stopped Depth s) (g m)
-  left_stops m = record { places = x.places; whole = x.whole; ends = parted _ _ (ends.left_short Depth s (g m) short_of_levels (subst (λ y. HasShown y.output y.notes (state_of (g m)).outside) (sym x.like.outside) (later_shows t (g m) (right m).later))) }
+  left_stops m = record { places = x.places; whole = x.whole; ends = parted _ _ (ends.left_short Depth s (g m) short_of_levels (subst (λ y. HasShown y.output y.notes (state_of (g m)).outside) (sym x.like.outside) (later_shows t (g m) (right m).goes.later))) }
 
   entered_somewhere : (b c : Bool) (l m : ℕ) → (c ≡ true → b ≡ true) → m ≤ l → Somewhere R n (entered b l s f) (entered c m t g)
   entered_somewhere true true l m e le = h (Some l) (Some m) (record { is = le })
@@ -177,29 +165,8 @@ more_levels (Some l) (Some m) r = record { is = let le : m ≤ l = r.is in omega
 
 -- ---- what prints nothing
 
-begins_all : (x y : List ℕ) → y ≡ x → Begins x y
-begins_all x y e = record { rest = []; is = subst (λ z. z ≡ x ++ []) (sym e) (sym (append-nil x)) }
-
 quietly : {A : Type 0} {R : Names → A → A → Type 0} (n : Names) (s t : State) (o p : Outcome A) → Quiet s o → Quiet t p → (x : Abreast n s t) → Beside R n x.places o p → Somewhere R n o p
-quietly {A = A} {R = R} n s t o p h k x r = record { places = x.places; whole = x.whole; ends = at o p h k r }
-  where
-    apart : (o p : Outcome A) → Quiet s o → Quiet t p → Short o p → Parted o p
-    apart _ _ h k (right_short o why u i) = ends.right_short o why u i (record {
-      output = begins_all _ _ (subst (λ z. (state_of o).outside.output ≡ z) (sym k.output) (subst (λ (z : Outside). (state_of o).outside.output ≡ z.output) x.like.outside h.output));
-      notes = begins_all _ _ (subst (λ z. (state_of o).outside.notes ≡ z) (sym k.notes) (subst (λ (z : Outside). (state_of o).outside.notes ≡ z.notes) x.like.outside h.notes));
-    })
-    apart _ _ h k (left_short why u p i) = ends.left_short why u p i (record {
-      output = begins_all _ _ (subst (λ z. (state_of p).outside.output ≡ z) (sym h.output) (subst (λ (z : Outside). (state_of p).outside.output ≡ z.output) (sym x.like.outside) k.output));
-      notes = begins_all _ _ (subst (λ z. (state_of p).outside.notes ≡ z) (sym h.notes) (subst (λ (z : Outside). (state_of p).outside.notes ≡ z.notes) (sym x.like.outside) k.notes));
-    })
-
-    at : (o p : Outcome A) → Quiet s o → Quiet t p → Beside R n x.places o p → Related Parted R n x.places o p
-    at _ _ h k (done m a b u v g r l) = done m a b u v g r l
-    at _ _ h k (failed m z a b u v g r l) = failed m z a b u v g r l
-    at _ _ h k (went m z u v g l) = went m z u v g l
-    at _ _ h k (returned m a b u v g r l) = returned m a b u v g r l
-    at _ _ h k (stopped why u v e) = stopped why u v e
-    at o p h k (parted _ _ a) = parted o p (apart o p h k a)
+quietly n s t o p h k x r = record { places = x.places; whole = x.whole; ends = quiet_ends n x.places s t o p x.like h k r }
 
 -- ---- entries that are undone
 
@@ -394,15 +361,7 @@ is_same_same n _ _ i s t (same_frame name p q h k c d depth l j a (same_held kin
 
 -- ---- what a run of the machine is made of
 
-module _ (one : OneRunFacts) (two : TwoRunsFacts) (ask ask' : Ask) (left : AskGoes ask) (right : AskGoes ask') (respects : Respects ask ask') (evaluation : EvaluationRespects (by ask) (by ask')) where
-  rec_goes : (ask : Ask) → AskGoes ask → RecGoes (by ask)
-  rec_goes ask h = record { ask = h; taken = λ name s. goes_refl s; defined = λ v s. goes_refl s; names = λ vs s. goes_refl s; writes = λ vs s. goes_refl s; loads = λ vs s. goes_refl s }
-
-  fail_goes : (A : Type 0) (i : ℕ) (v : Value) (s : State) → GoesOn {A = A} s (fail i v s)
-  fail_goes A i v s =
-      then_goes s (made_pair (Str (error_text i)) nil s) _ (one.pair_goes (Str (error_text i)) nil s) (λ a u.
-      then_goes u (made_pair v a u) _ (one.pair_goes v a u) (λ b w. one.top_goes message_id b w))
-
+module _ (one : OneRunFacts) (two : TwoRunsFacts) (ask ask' : Ask) (left : AskGoes ask) (right : AskGoes ask') (respects : Respects the_compiler ask ask') (evaluation : EvaluationRespects (by the_compiler ask) (by the_compiler ask')) where
   -- ---- operands and variables
 
   content_somewhere : (n : Names) (m k : Machine) (o p : Operand) (s t : State) → SameMachine n m k → SameOperand n o p → Abreast n s t → Somewhere SameValue n (content m o s) (content k p t)
@@ -412,10 +371,10 @@ module _ (one : OneRunFacts) (two : TwoRunsFacts) (ask ask' : Ask) (left : AskGo
   content_somewhere n m k _ _ s t h (same_register r) x = done_somewhere n _ _ s t (register_same n m k h r) x
 
   content_goes : (m : Machine) (o : Operand) (s : State) → GoesOn s (content m o s)
-  content_goes m (macros.Slot i) s = goes_refl s
-  content_goes m (macros.Constant v) s = goes_refl s
+  content_goes m (macros.Slot i) s = done_goes _ s
+  content_goes m (macros.Constant v) s = done_goes v s
   content_goes m (macros.Variable i) s = one.variable_goes i s
-  content_goes m (macros.Register r) s = goes_refl s
+  content_goes m (macros.Register r) s = done_goes _ s
 
   assigned_somewhere : (n : Names) (i : ℕ) (v w : Value) (s t : State) → SameValue n v w → Abreast n s t → Somewhere SameValue n (assigned i v s) (assigned i w t)
   assigned_somewhere n i v w s t r x = record { places = x.places; whole = x.whole; ends = assigned_related n x.places i v w s t r (shown_whole x.places t.bindings x.whole) x.like }
@@ -426,12 +385,12 @@ module _ (one : OneRunFacts) (two : TwoRunsFacts) (ask ask' : Ask) (left : AskGo
   -- ---- bindings
 
   bound_as_goes : (x : ℕ) (k : VarKind) (v : Value) (s : State) → GoesOn s (bound_as k x v s)
-  bound_as_goes x kind.Plain v s = goes_with s s.counts _ refl
-  bound_as_goes x kind.Fluid v s = goes_with s s.counts _ refl
-  bound_as_goes x kind.Global v s = fail_goes (Unit {0}) not_bindable (Id x) s
+  bound_as_goes x kind.Plain v s = record { goes = goes_with s s.counts _ refl }
+  bound_as_goes x kind.Fluid v s = record { goes = goes_with s s.counts _ refl }
+  bound_as_goes x kind.Global v s = fail_goes one (Unit {0}) not_bindable (Id x) s
 
   bind_goes : (kept : List Kept) (x : ℕ) (v : Value) (s : State) → GoesOn s (bind kept x v s)
-  bind_goes kept x v s = choose_goes (is_constant x) s (λ s. fail not_bindable (Id x) s) (λ s. bound_as (kept_kind kept x) x v s) (fail_goes (Unit {0}) not_bindable (Id x) s) (bound_as_goes x (kept_kind kept x) v s)
+  bind_goes kept x v s = choose_goes (is_constant x) s (λ s. fail not_bindable (Id x) s) (λ s. bound_as (kept_kind kept x) x v s) (fail_goes one (Unit {0}) not_bindable (Id x) s) (bound_as_goes x (kept_kind kept x) v s)
 
   bound_as_somewhere : (n : Names) (i : ℕ) (k : VarKind) (v w : Value) (s t : State) → SameValue n v w → Abreast n s t → Somewhere Is n (bound_as k i v s) (bound_as k i w t)
   bound_as_somewhere n i kind.Plain v w s t r x = done_somewhere n tt tt _ _ (is tt) (binding_abreast n i Local v w s t r x)
@@ -461,47 +420,41 @@ module _ (one : OneRunFacts) (two : TwoRunsFacts) (ask ask' : Ask) (left : AskGo
 
   -- ---- links
 
-  called_somewhere : (n : Names) (i : ℕ) (l j : Levels) (vs ws : List Value) (s t : State) → Roomier l j → Each (SameValue n) vs ws → Abreast n s t → Somewhere SameValue n (called (by ask) i l vs s) (called (by ask') i j ws t)
+  called_somewhere : (n : Names) (i : ℕ) (l j : Levels) (vs ws : List Value) (s t : State) → Roomier l j → Each (SameValue n) vs ws → Abreast n s t → Somewhere SameValue n (called (by the_compiler ask) i l vs s) (called (by the_compiler ask') i j ws t)
   called_somewhere n i l j vs ws s t r e x = record { places = x.places; whole = x.whole; ends = evaluation.called_ n x.places i l j vs ws s t r e x.like x.whole x.ready }
 
   own_name_somewhere : (n : Names) (i : ℕ) (s t : State) (f g : State → Outcome Value) → Abreast n s t → Somewhere SameValue n (f s) (g t) → Somewhere SameValue n (own_name i s f) (own_name i t g)
   own_name_somewhere n i s t f g x h = choose_somewhere n (symbol_at s i).system (symbol_at t i).system s t _ _ _ _ (system_same n x.places i s t x.like) (fail_somewhere n system_name (Id i) (Id i) s t (same_id i) x) h
 
-  define_abreast : (n : Names) (i : ℕ) (k : Kind) (p q : Pointer) (s t : State) → SamePointer n p q → Abreast n s t → Abreast n (define i k p s) (define i k q t)
-  define_abreast n i k p q s t h x = record { places = x.places; whole = x.whole; like = define_like n x.places i k p q s t h x.like; ready = ready_stays the_compiler t _ (one.define_goes i k q t) x.ready }
+  define_function_somewhere : (n : Names) (form : Special) (l j : Levels) (a b : Tree) (s t : State) → Roomier l j → SameTree n a b → Abreast n s t → Somewhere SameValue n (define_function (by the_compiler ask) form l a s) (define_function (by the_compiler ask') form j b t)
+  define_function_somewhere n form l j a b s t r h x = record { places = x.places; whole = x.whole; ends = evaluation.define_function_ n x.places form l j a b s t r h x.like x.whole x.ready }
 
-  function_defined_somewhere : (n : Names) (form : Special) (i : ℕ) (t : State) (o p : Outcome ℕ) → Ready the_compiler t → GoesOn t p → Somewhere SameNumber n o p → Somewhere SameValue n (function_defined (by ask) form i o) (function_defined (by ask') form i p)
-  function_defined_somewhere n form i t o p ready go h =
-      then_somewhere n t o p _ _ ready go (λ f s. one.define_goes i (kind_of_definition form) (pointer_to f) s) (λ f s. one.define_goes i (kind_of_definition form) (pointer_to f) s) h
-      (λ m f g u v w r x. done_somewhere m _ _ _ _ (same_id i) (define_abreast m i (kind_of_definition form) (pointer_to f) (pointer_to g) u v (same_pointer f g 0 r.linked) x))
+  function_defined_somewhere : (n : Names) (form : Special) (i : ℕ) (l j : Levels) (u v a b : Value) (s t : State) → Roomier l j → SameValue n u v → SameValue n a b → Abreast n s t
+      → Somewhere SameValue n (function_defined (by the_compiler ask) form i (hold_function (kind_of_definition form) l u a s)) (function_defined (by the_compiler ask') form i (hold_function (kind_of_definition form) j v b t))
+  function_defined_somewhere n form i l j u v a b s t r h k x = record {
+    places = x.places;
+    whole = x.whole;
+    ends = evaluation.function_defined_ n x.places form i s t _ _ x.like x.whole x.ready (one.hold_function_goes (kind_of_definition form) j v b t)
+        (quiet_ends n x.places s t _ _ x.like (two.hold_function_quiet (kind_of_definition form) l u a s) (two.hold_function_quiet (kind_of_definition form) j v b t) (hold_function_related n x.places (kind_of_definition form) l j u v a b s t r h k x.like));
+  }
 
-  define_function_somewhere : (n : Names) (form : Special) (l j : Levels) (a b : Tree) (s t : State) → Roomier l j → SameTree n a b → Abreast n s t → Somewhere SameValue n (define_function (by ask) form l a s) (define_function (by ask') form j b t)
-  define_function_somewhere n form l j _ _ s t r (same_node _ _ _ _ (same_atom _ _ (same_id i)) (same_node a c b d h k)) x =
-      own_name_somewhere n i s t _ _ x (function_defined_somewhere n form i t _ _ x.ready (one.hold_part_goes (kind_of_definition form) j b d t)
-      (quietly n s t (hold_part (kind_of_definition form) l a c s) (hold_part (kind_of_definition form) j b d t) (two.hold_part_quiet (kind_of_definition form) l a c s) (two.hold_part_quiet (kind_of_definition form) j b d t) x
-      (hold_part_related n x.places (kind_of_definition form) l j a b c d s t r h k x.like)))
-  define_function_somewhere n form l j _ _ s t r h x = done_somewhere n nil nil s t (same_id nil_id) x
-
-  part_linked_somewhere : (n : Names) (form : Special) (i : ℕ) (l j : Levels) (a b : Tree) (s t : State) → Roomier l j → SameTree n a b → Abreast n s t → Somewhere SameValue n (part_linked (by ask) form i l a s) (part_linked (by ask') form i j b t)
+  part_linked_somewhere : (n : Names) (form : Special) (i : ℕ) (l j : Levels) (a b : Tree) (s t : State) → Roomier l j → SameTree n a b → Abreast n s t → Somewhere SameValue n (part_linked (by the_compiler ask) form i l a s) (part_linked (by the_compiler ask') form i j b t)
   part_linked_somewhere n form i l j a b s t r h x = choose_somewhere n (fits form a) (fits form b) s t _ _ _ _ (fits_same n form a b h) (define_function_somewhere n form l j a b s t r h x) (fail_somewhere n badly_formed (Id i) (Id i) s t (same_id i) x)
 
   list_linked_somewhere : (n : Names) (form : Special) (i : ℕ) (l j : Levels) (v w : Value) (o p : Option (List Value)) (s t : State) → Roomier l j → SameValue n v w → Maybe (Each (SameValue n)) o p → Abreast n s t
-      → Somewhere SameValue n (list_linked (by ask) form i l v o s) (list_linked (by ask') form i j w p t)
+      → Somewhere SameValue n (list_linked (by the_compiler ask) form i l v o s) (list_linked (by the_compiler ask') form i j w p t)
   list_linked_somewhere n form i l j v w _ _ s t r e (just _ _ (more _ _ _ _ (same_id name) (more a b vs ws h k))) x =
-      let c = cdr_same n x.places s t _ _ x.like (cdr_same n x.places s t v w x.like e) in
-      own_name_somewhere n name s t _ _ x (function_defined_somewhere n form name t _ _ x.ready (one.hold_function_goes (kind_of_definition form) j b (cdr_at t (cdr_at t w)) t)
-      (quietly n s t (hold_function (kind_of_definition form) l a (cdr_at s (cdr_at s v)) s) (hold_function (kind_of_definition form) j b (cdr_at t (cdr_at t w)) t) (two.hold_function_quiet (kind_of_definition form) l a (cdr_at s (cdr_at s v)) s) (two.hold_function_quiet (kind_of_definition form) j b (cdr_at t (cdr_at t w)) t) x
-      (hold_function_related n x.places (kind_of_definition form) l j a b _ _ s t r h c x.like)))
+      own_name_somewhere n name s t _ _ x (function_defined_somewhere n form name l j a b _ _ s t r h (cdr_same n x.places s t _ _ x.like (cdr_same n x.places s t v w x.like e)) x)
   list_linked_somewhere n form i l j v w _ _ s t r e nothing x = fail_somewhere n badly_formed (Id i) (Id i) s t (same_id i) x
   list_linked_somewhere n form i l j v w _ _ s t r e (just _ _ end) x = fail_somewhere n badly_formed (Id i) (Id i) s t (same_id i) x
   list_linked_somewhere n form i l j v w _ _ s t r e (just _ _ (more _ _ _ _ (same_id name) end)) x = fail_somewhere n badly_formed (Id i) (Id i) s t (same_id i) x
   list_linked_somewhere n form i l j v w _ _ s t r e (just _ _ (more _ _ _ _ h k)) x = fail_somewhere n badly_formed (Id i) (Id i) s t (same_id i) x
 
   by_list_somewhere : (n : Names) (form : Special) (i : ℕ) (l j : Levels) (v w : Value) (s t : State) → Roomier l j → SameValue n v w → Abreast n s t
-      → Somewhere SameValue n (list_linked (by ask) form i l v (list_elements s v) s) (list_linked (by ask') form i j w (list_elements t w) t)
+      → Somewhere SameValue n (list_linked (by the_compiler ask) form i l v (list_elements s v) s) (list_linked (by the_compiler ask') form i j w (list_elements t w) t)
   by_list_somewhere n form i l j v w s t r e x = list_linked_somewhere n form i l j v w _ _ s t r e (list_elements_same n x.places s t v w x.like e) x
 
-  definition_linked_somewhere : (n : Names) (form : Special) (i : ℕ) (l j : Levels) (vs ws : List Value) (s t : State) → Roomier l j → Each (SameValue n) vs ws → Abreast n s t → Somewhere SameValue n (definition_linked (by ask) form i l vs s) (definition_linked (by ask') form i j ws t)
+  definition_linked_somewhere : (n : Names) (form : Special) (i : ℕ) (l j : Levels) (vs ws : List Value) (s t : State) → Roomier l j → Each (SameValue n) vs ws → Abreast n s t → Somewhere SameValue n (definition_linked (by the_compiler ask) form i l vs s) (definition_linked (by the_compiler ask') form i j ws t)
   definition_linked_somewhere n form i l j _ _ s t r end x = fail_somewhere n wrong_count (Id i) (Id i) s t (same_id i) x
   definition_linked_somewhere n form i l j _ _ s t r (more _ _ _ _ (same_fun f g place h) end) x = part_linked_somewhere n form i l j _ _ s t r (form_same n x.places s t _ _ x.like (same_fun f g place h)) x
   definition_linked_somewhere n form i l j _ _ s t r (more _ _ _ _ (same_int z) end) x = by_list_somewhere n form i l j _ _ s t r (same_int z) x
@@ -514,22 +467,22 @@ module _ (one : OneRunFacts) (two : TwoRunsFacts) (ask ask' : Ask) (left : AskGo
   definition_linked_somewhere n form i l j _ _ s t r (more _ _ _ _ (same_ref a b h) (more _ _ _ _ k e)) x = fail_somewhere n wrong_count (Id i) (Id i) s t (same_id i) x
   definition_linked_somewhere n form i l j _ _ s t r (more _ _ _ _ (same_fun a b c h) (more _ _ _ _ k e)) x = fail_somewhere n wrong_count (Id i) (Id i) s t (same_id i) x
 
-  form_linked_somewhere : (n : Names) (form : Special) (i : ℕ) (l j : Levels) (vs ws : List Value) (s t : State) → Roomier l j → Each (SameValue n) vs ws → Abreast n s t → Somewhere SameValue n (form_linked (by ask) form i l vs s) (form_linked (by ask') form i j ws t)
+  form_linked_somewhere : (n : Names) (form : Special) (i : ℕ) (l j : Levels) (vs ws : List Value) (s t : State) → Roomier l j → Each (SameValue n) vs ws → Abreast n s t → Somewhere SameValue n (form_linked (by the_compiler ask) form i l vs s) (form_linked (by the_compiler ask') form i j ws t)
   form_linked_somewhere n De i l j vs ws s t r e x = definition_linked_somewhere n De i l j vs ws s t r e x
   form_linked_somewhere n Df i l j vs ws s t r e x = definition_linked_somewhere n Df i l j vs ws s t r e x
   form_linked_somewhere n Dm i l j vs ws s t r e x = definition_linked_somewhere n Dm i l j vs ws s t r e x
   form_linked_somewhere n form i l j vs ws s t r e x = fail_somewhere n wrong_type (Id i) (Id i) s t (same_id i) x
 
-  function_linked_somewhere : (n : Names) (f g : Function) (i : ℕ) (l j : Levels) (vs ws : List Value) (s t : State) → SameFunction n f g → Roomier l j → Each (SameValue n) vs ws → Abreast n s t → Somewhere SameValue n (function_linked (by ask) f i l vs s) (function_linked (by ask') g i j ws t)
+  function_linked_somewhere : (n : Names) (f g : Function) (i : ℕ) (l j : Levels) (vs ws : List Value) (s t : State) → SameFunction n f g → Roomier l j → Each (SameValue n) vs ws → Abreast n s t → Somewhere SameValue n (function_linked (by the_compiler ask) f i l vs s) (function_linked (by the_compiler ask') g i j ws t)
   function_linked_somewhere n _ _ i l j vs ws s t (same_special form) r e x = form_linked_somewhere n form i l j vs ws s t r e x
   function_linked_somewhere n _ _ i l j vs ws s t (same_native native) r e x = called_somewhere n i l j vs ws s t r e x
   function_linked_somewhere n _ _ i l j vs ws s t (same_held_function f g h) r e x = called_somewhere n i l j vs ws s t r e x
 
-  linked_to_somewhere : (n : Names) (d c : Option Definition) (i : ℕ) (l j : Levels) (vs ws : List Value) (s t : State) → Maybe (SameDefinition n) d c → Roomier l j → Each (SameValue n) vs ws → Abreast n s t → Somewhere SameValue n (linked_to (by ask) d i l vs s) (linked_to (by ask') c i j ws t)
+  linked_to_somewhere : (n : Names) (d c : Option Definition) (i : ℕ) (l j : Levels) (vs ws : List Value) (s t : State) → Maybe (SameDefinition n) d c → Roomier l j → Each (SameValue n) vs ws → Abreast n s t → Somewhere SameValue n (linked_to (by the_compiler ask) d i l vs s) (linked_to (by the_compiler ask') c i j ws t)
   linked_to_somewhere n _ _ i l j vs ws s t nothing r e x = called_somewhere n i l j vs ws s t r e x
   linked_to_somewhere n _ _ i l j vs ws s t (just _ _ (same_definition k p q h)) r e x = function_linked_somewhere n _ _ i l j vs ws s t (function_same n x.places s t p q x.like h) r e x
 
-  linked_somewhere : (n : Names) (i : ℕ) (l j : Levels) (vs ws : List Value) (s t : State) → Roomier l j → Each (SameValue n) vs ws → Abreast n s t → Somewhere SameValue n (linked (by ask) i l vs s) (linked (by ask') i j ws t)
+  linked_somewhere : (n : Names) (i : ℕ) (l j : Levels) (vs ws : List Value) (s t : State) → Roomier l j → Each (SameValue n) vs ws → Abreast n s t → Somewhere SameValue n (linked (by the_compiler ask) i l vs s) (linked (by the_compiler ask') i j ws t)
   linked_somewhere n i l j vs ws s t r e x = linked_to_somewhere n _ _ i l j vs ws s t (definition_same n _ _ (symbol_same n x.places s t i x.like)) r e x
 
   -- ---- a new application by the same code
@@ -540,9 +493,9 @@ module _ (one : OneRunFacts) (two : TwoRunsFacts) (ask ask' : Ask) (left : AskGo
       record { places = r.places; whole = r.whole; ends = r.ends }
 
   marked_goes : (ask : Ask) → AskGoes ask → (f : Frame) (m : Machine) (c : Code) (p : Option Pointer) (s : State) → GoesOn s (ask (Onward f m c) (with_mark p s))
-  marked_goes ask h f m c p s = goes_trans s (with_mark p s) (state_of (ask (Onward f m c) (with_mark p s))) (goes_with s s.counts _ refl) (h (Onward f m c) (with_mark p s))
+  marked_goes ask h f m c p s = goes_from s (with_mark p s) (ask (Onward f m c) (with_mark p s)) (goes_with s s.counts _ refl) (h (Onward f m c) (with_mark p s))
 
-  again_somewhere : (n : Names) (f g : Frame) (vs ws : List Value) (s t : State) → SameFrame n f g → Each (SameValue n) vs ws → Abreast n s t → Somewhere SameValue n (again (by ask) f vs s) (again (by ask') g ws t)
+  again_somewhere : (n : Names) (f g : Frame) (vs ws : List Value) (s t : State) → SameFrame n f g → Each (SameValue n) vs ws → Abreast n s t → Somewhere SameValue n (again (by the_compiler ask) f vs s) (again (by the_compiler ask') g ws t)
   again_somewhere n f g vs ws s t h e x =
       turn_somewhere n s t _ _ x (λ u v x.
       deeper_somewhere n u v _ _ x (λ l. marked_goes ask left f (at_entry vs l) (behind_entry f.code) f.function u) (λ l. marked_goes ask' right g (at_entry ws l) (behind_entry g.code) g.function v)
@@ -554,34 +507,34 @@ module _ (one : OneRunFacts) (two : TwoRunsFacts) (ask ask' : Ask) (left : AskGo
   ended_abreast : (n : Names) (f g : Frame) (s t : State) → SameFrame n f g → Abreast n s t → Abreast n (ended f s) (ended g t)
   ended_abreast n _ _ s t (same_frame name p q h k c d depth l j a b e r) x = oldest_abreast n depth s t x
 
-  own_linked : (n : Names) (f g : Frame) (vs ws : List Value) (s t : State) → SameFrame n f g → Each (SameValue n) vs ws → Abreast n s t → Somewhere SameValue n (linked (by ask) f.name f.outside vs s) (linked (by ask') g.name g.outside ws t)
+  own_linked : (n : Names) (f g : Frame) (vs ws : List Value) (s t : State) → SameFrame n f g → Each (SameValue n) vs ws → Abreast n s t → Somewhere SameValue n (linked (by the_compiler ask) f.name f.outside vs s) (linked (by the_compiler ask') g.name g.outside ws t)
   own_linked n _ _ vs ws s t (same_frame name p q h k c d depth l j a b e r) i x = linked_somewhere n name l j vs ws s t r i x
 
   -- ---- c-macros
 
   abbrev Runs : Code → Type 0
-  Runs c = (n : Names) (f g : Frame) (d : Code) (m k : Machine) (s t : State) → SameFrame n f g → SameCode n c d → SameMachine n m k → Abreast n s t → Somewhere SameValue n (run (by ask) f c m s) (run (by ask') g d k t)
+  Runs c = (n : Names) (f g : Frame) (d : Code) (m k : Machine) (s t : State) → SameFrame n f g → SameCode n c d → SameMachine n m k → Abreast n s t → Somewhere SameValue n (run (by the_compiler ask) f c m s) (run (by the_compiler ask') g d k t)
 
   abbrev Seeks : Code → Type 0
-  Seeks c = (n : Names) (f g : Frame) (l : ℕ) (d : Code) (m k : Machine) (s t : State) → SameFrame n f g → SameCode n c d → SameMachine n m k → Abreast n s t → Somewhere SameValue n (seek (by ask) f l c m s) (seek (by ask') g l d k t)
+  Seeks c = (n : Names) (f g : Frame) (l : ℕ) (d : Code) (m k : Machine) (s t : State) → SameFrame n f g → SameCode n c d → SameMachine n m k → Abreast n s t → Somewhere SameValue n (seek (by the_compiler ask) f l c m s) (seek (by the_compiler ask') g l d k t)
 
-  left_runs : (f : Frame) (c : Code) (m : Machine) (s : State) → GoesOn s (run (by ask) f c m s)
-  left_runs f c m s = one.run_goes (by ask) (rec_goes ask left) f c m s
+  left_runs : (f : Frame) (c : Code) (m : Machine) (s : State) → GoesOn s (run (by the_compiler ask) f c m s)
+  left_runs f c m s = one.run_goes (by the_compiler ask) (rec_goes the_compiler no_compiler_respects ask left) f c m s
 
-  right_runs : (f : Frame) (c : Code) (m : Machine) (s : State) → GoesOn s (run (by ask') f c m s)
-  right_runs f c m s = one.run_goes (by ask') (rec_goes ask' right) f c m s
+  right_runs : (f : Frame) (c : Code) (m : Machine) (s : State) → GoesOn s (run (by the_compiler ask') f c m s)
+  right_runs f c m s = one.run_goes (by the_compiler ask') (rec_goes the_compiler no_compiler_respects ask' right) f c m s
 
-  left_seeks : (f : Frame) (l : ℕ) (c : Code) (m : Machine) (s : State) → GoesOn s (seek (by ask) f l c m s)
-  left_seeks f l c m s = one.seek_goes (by ask) (rec_goes ask left) f l c m s
+  left_seeks : (f : Frame) (l : ℕ) (c : Code) (m : Machine) (s : State) → GoesOn s (seek (by the_compiler ask) f l c m s)
+  left_seeks f l c m s = one.seek_goes (by the_compiler ask) (rec_goes the_compiler no_compiler_respects ask left) f l c m s
 
-  right_seeks : (f : Frame) (l : ℕ) (c : Code) (m : Machine) (s : State) → GoesOn s (seek (by ask') f l c m s)
-  right_seeks f l c m s = one.seek_goes (by ask') (rec_goes ask' right) f l c m s
+  right_seeks : (f : Frame) (l : ℕ) (c : Code) (m : Machine) (s : State) → GoesOn s (seek (by the_compiler ask') f l c m s)
+  right_seeks f l c m s = one.seek_goes (by the_compiler ask') (rec_goes the_compiler no_compiler_respects ask' right) f l c m s
 
   -- what goes on behind one c-macro
   module _ (rest : Code) (runs : Runs rest) (seeks : Seeks rest) (n : Names) (f g : Frame) (others : Code) (m k : Machine) (s t : State) (h : SameFrame n f g) (c : SameCode n rest others) (e : SameMachine n m k) (x : Abreast n s t) where
     -- with the value of an outcome
     then_runs : (o p : Outcome Value) (next next' : Value → Machine) → GoesOn t p → Somewhere SameValue n o p → ((i : Names) (v w : Value) → Grows n i → SameValue i v w → SameMachine i (next v) (next' w))
-        → Somewhere SameValue n (then_do o (λ v s. run (by ask) f rest (next v) s)) (then_do p (λ v s. run (by ask') g others (next' v) s))
+        → Somewhere SameValue n (then_do o (λ v s. run (by the_compiler ask) f rest (next v) s)) (then_do p (λ v s. run (by the_compiler ask') g others (next' v) s))
     then_runs o p next next' go r goes_on =
         then_somewhere n t o p _ _ x.ready go (λ v u. left_runs f rest (next v) u) (λ v u. right_runs g others (next' v) u) r
         (λ i v w u y q r x. runs i f g others (next v) (next' w) u y (frame_grows n i f g h q) (code_grows n i rest others c q) (goes_on i v w q r) x)
@@ -595,20 +548,20 @@ module _ (one : OneRunFacts) (two : TwoRunsFacts) (ask ask' : Ask) (left : AskGo
         (λ i v w u y q r x. next i v w u y (frame_grows n i f g h q) (code_grows n i rest others c q) (machine_grows n i m k e q)
         (same_same i (register m 1) (register k 1) v w x.like.store.once x.like.functions.once (register_same i m k (machine_grows n i m k e q) 1) r) x)
 
-    macro_somewhere : (a b : CMacro) → SameMacro n a b → Somewhere SameValue n (run (by ask) f (a ∷ rest) m s) (run (by ask') g (b ∷ others) k t)
+    macro_somewhere : (a b : CMacro) → SameMacro n a b → Somewhere SameValue n (run (by the_compiler ask) f (a ∷ rest) m s) (run (by the_compiler ask') g (b ∷ others) k t)
     macro_somewhere _ _ (same_load r o p w) = then_runs (content m o s) (content k p t) (λ v. with_register r v m) (λ v. with_register r v k) (content_goes k p t) (content_somewhere n m k o p s t e w x) (λ i v w q y. with_register_same i m k (machine_grows n i m k e q) r v w y)
     macro_somewhere _ _ (same_copy r v w y) =
         then_runs (copied m.levels (form_at s v) s) (copied k.levels (form_at t w) t) (λ v. with_register r v m) (λ v. with_register r v k) (one.copied_goes k.levels (form_at t w) t)
         (copied_somewhere n m.levels k.levels _ _ s t (levels_same n m k e) (form_same n x.places s t v w x.like y) x) (λ i v w q y. with_register_same i m k (machine_grows n i m k e q) r v w y)
     macro_somewhere _ _ (same_jump_eq l o p w) =
         then_compares (content m o s) (content k p t) _ _ (content_goes k p t) (content_somewhere n m k o p s t e w x)
-        (λ v u. choose_goes (same (register m 1) v) u (λ s. seek (by ask) f l rest m s) (λ s. run (by ask) f rest m s) (left_seeks f l rest m u) (left_runs f rest m u))
-        (λ v u. choose_goes (same (register k 1) v) u (λ s. seek (by ask') g l others k s) (λ s. run (by ask') g others k s) (right_seeks g l others k u) (right_runs g others k u))
+        (λ v u. choose_goes (same (register m 1) v) u (λ s. seek (by the_compiler ask) f l rest m s) (λ s. run (by the_compiler ask) f rest m s) (left_seeks f l rest m u) (left_runs f rest m u))
+        (λ v u. choose_goes (same (register k 1) v) u (λ s. seek (by the_compiler ask') g l others k s) (λ s. run (by the_compiler ask') g others k s) (right_seeks g l others k u) (right_runs g others k u))
         (λ i v w u y h c e z x. choose_somewhere i _ _ u y _ _ _ _ z (seeks i f g l others m k u y h c e x) (runs i f g others m k u y h c e x))
     macro_somewhere _ _ (same_jump_ne l o p w) =
         then_compares (content m o s) (content k p t) _ _ (content_goes k p t) (content_somewhere n m k o p s t e w x)
-        (λ v u. choose_goes (same (register m 1) v) u (λ s. run (by ask) f rest m s) (λ s. seek (by ask) f l rest m s) (left_runs f rest m u) (left_seeks f l rest m u))
-        (λ v u. choose_goes (same (register k 1) v) u (λ s. run (by ask') g others k s) (λ s. seek (by ask') g l others k s) (right_runs g others k u) (right_seeks g l others k u))
+        (λ v u. choose_goes (same (register m 1) v) u (λ s. run (by the_compiler ask) f rest m s) (λ s. seek (by the_compiler ask) f l rest m s) (left_runs f rest m u) (left_seeks f l rest m u))
+        (λ v u. choose_goes (same (register k 1) v) u (λ s. run (by the_compiler ask') g others k s) (λ s. seek (by the_compiler ask') g l others k s) (right_runs g others k u) (right_seeks g l others k u))
         (λ i v w u y h c e z x. choose_somewhere i _ _ u y _ _ _ _ z (runs i f g others m k u y h c e x) (seeks i f g l others m k u y h c e x))
     macro_somewhere _ _ (same_macro (macros.Entry i l) w) = runs n f g others m k s t h c e x
     macro_somewhere _ _ (same_macro (Alloc i) w) = runs n f g others _ _ s t h c (allocated_same n m k e i) x
@@ -618,14 +571,14 @@ module _ (one : OneRunFacts) (two : TwoRunsFacts) (ask ask' : Ask) (left : AskGo
         then_runs (assigned i (register m 1) s) (assigned i (register k 1) t) (λ v. m) (λ v. k) (one.assigned_goes i (register k 1) t) (assigned_somewhere n i _ _ s t (register_same n m k e 1) x) (λ i v w q y. machine_grows n i m k e q)
     macro_somewhere _ _ (same_macro (Move r i) w) = runs n f g others _ _ s t h c (with_register_same n m k e r _ _ (register_same n m k e i)) x
     macro_somewhere _ _ (same_macro (Link i l) w) =
-        then_runs (linked (by ask) i m.levels (arguments l m) s) (linked (by ask') i k.levels (arguments l k) t) (λ v. after_link v m) (λ v. after_link v k) (one.linked_goes (by ask') (rec_goes ask' right) i k.levels (arguments l k) t)
+        then_runs (linked (by the_compiler ask) i m.levels (arguments l m) s) (linked (by the_compiler ask') i k.levels (arguments l k) t) (λ v. after_link v m) (λ v. after_link v k) (one.linked_goes (by the_compiler ask') (rec_goes the_compiler no_compiler_respects ask' right) i k.levels (arguments l k) t)
         (linked_somewhere n i m.levels k.levels _ _ s t (levels_same n m k e) (arguments_same n m k e l) x) (λ i v w q y. after_link_same i m k (machine_grows n i m k e q) v w y)
     macro_somewhere _ _ (same_macro (LinkE i l j) w) = linked_somewhere n i f.outside g.outside _ _ _ _ (outside_same n f g h) (arguments_same n m k e l) (ended_abreast n f g s t h x)
     macro_somewhere _ _ (same_macro (Self l j) w) =
         choose_somewhere n (is_same f l s) (is_same g l t) _ _ _ _ _ _ (is_same_same n f g l s t h x) (again_somewhere n f g _ _ _ _ h (arguments_same n m k e l) (ended_abreast n f g s t h x))
         (own_linked n f g _ _ _ _ h (arguments_same n m k e l) (ended_abreast n f g s t h x))
     macro_somewhere _ _ (same_macro (CallNative i l) w) =
-        then_runs (called (by ask) i m.levels (arguments l m) s) (called (by ask') i k.levels (arguments l k) t) (λ v. with_register 1 v m) (λ v. with_register 1 v k) (one.called_goes (by ask') (rec_goes ask' right) i k.levels (arguments l k) t)
+        then_runs (called (by the_compiler ask) i m.levels (arguments l m) s) (called (by the_compiler ask') i k.levels (arguments l k) t) (λ v. with_register 1 v m) (λ v. with_register 1 v k) (one.called_goes (by the_compiler ask') (rec_goes the_compiler no_compiler_respects ask' right) i k.levels (arguments l k) t)
         (called_somewhere n i m.levels k.levels _ _ s t (levels_same n m k e) (arguments_same n m k e l) x) (λ i v w q y. with_register_same i m k (machine_grows n i m k e q) 1 v w y)
     macro_somewhere _ _ (same_macro (Jump l) w) = seeks n f g l others m k s t h c e x
     macro_somewhere _ _ (same_macro (JumpNil l) w) = choose_somewhere n _ _ s t _ _ _ _ (nil_same n _ _ (register_same n m k e 1)) (seeks n f g l others m k s t h c e x) (runs n f g others m k s t h c e x)
@@ -647,7 +600,7 @@ module _ (one : OneRunFacts) (two : TwoRunsFacts) (ask ask' : Ask) (left : AskGo
     macro_somewhere _ _ (same_macro (JumpNe l o) w) = absurd (cc)
 
     -- a jump goes forward
-    sought_somewhere : (l : ℕ) (a b : CMacro) → SameMacro n a b → Somewhere SameValue n (seek (by ask) f l (a ∷ rest) m s) (seek (by ask') g l (b ∷ others) k t)
+    sought_somewhere : (l : ℕ) (a b : CMacro) → SameMacro n a b → Somewhere SameValue n (seek (by the_compiler ask) f l (a ∷ rest) m s) (seek (by the_compiler ask') g l (b ∷ others) k t)
     sought_somewhere l _ _ (same_macro (Label i) w) = choose_somewhere n (i == l) (i == l) s t _ _ _ _ refl (runs n f g others m k s t h c e x) (seeks n f g l others m k s t h c e x)
     sought_somewhere l _ _ (same_macro a w) = seeks n f g l others m k s t h c e x
     sought_somewhere l _ _ (same_load r o p w) = seeks n f g l others m k s t h c e x
@@ -659,10 +612,10 @@ module _ (one : OneRunFacts) (two : TwoRunsFacts) (ask ask' : Ask) (left : AskGo
   code_somewhere : (c : Code) → Runs c × Seeks c
   code_somewhere [] = (λ n f g d m k s t h e i x. no_runs n f g d m k s t e x, λ n f g l d m k s t h e i x. no_seeks n f g l d m k s t e x)
     where
-      no_runs : (n : Names) (f g : Frame) (d : Code) (m k : Machine) (s t : State) → SameCode n [] d → Abreast n s t → Somewhere SameValue n (run (by ask) f [] m s) (run (by ask') g d k t)
+      no_runs : (n : Names) (f g : Frame) (d : Code) (m k : Machine) (s t : State) → SameCode n [] d → Abreast n s t → Somewhere SameValue n (run (by the_compiler ask) f [] m s) (run (by the_compiler ask') g d k t)
       no_runs n f g _ m k s t end x = done_somewhere n nil nil s t (same_id nil_id) x
 
-      no_seeks : (n : Names) (f g : Frame) (l : ℕ) (d : Code) (m k : Machine) (s t : State) → SameCode n [] d → Abreast n s t → Somewhere SameValue n (seek (by ask) f l [] m s) (seek (by ask') g l d k t)
+      no_seeks : (n : Names) (f g : Frame) (l : ℕ) (d : Code) (m k : Machine) (s t : State) → SameCode n [] d → Abreast n s t → Somewhere SameValue n (seek (by the_compiler ask) f l [] m s) (seek (by the_compiler ask') g l d k t)
       no_seeks n f g l _ m k s t end x = done_somewhere n nil nil s t (same_id nil_id) x
   code_somewhere (a ∷ rest) = one_more_macro rest (code_somewhere rest)
     where
@@ -678,19 +631,19 @@ module _ (one : OneRunFacts) (two : TwoRunsFacts) (ask ask' : Ask) (left : AskGo
   -- ---- a held function, by its code
 
   held_by_code : (n : Names) (i w : ℕ) (l j : Levels) (p q : Option Pointer) (a b : Held) (rest others : Code) (vs ws : List Value) (s t : State) → Roomier l j → Maybe (SamePointer n) p q → SameHeld n a b → SameCode n rest others → Each (SameValue n) vs ws → Abreast n s t
-      → Somewhere SameValue n (run_code (by ask) l p a (macros.Entry i w ∷ rest) vs s) (run_code (by ask') j q b (macros.Entry i w ∷ others) ws t)
+      → Somewhere SameValue n (run_code (by the_compiler ask) l p a (macros.Entry i w ∷ rest) vs s) (run_code (by the_compiler ask') j q b (macros.Entry i w ∷ others) ws t)
   held_by_code n i w l j p q a b rest others vs ws s t r h e c v x = subst at (whole_length n x.places s.bindings t.bindings x.whole x.like.bindings)
-      (restored_somewhere n (length s.bindings) (run (by ask) (frame_of l p a rest (length s.bindings)) rest (at_entry vs l) (with_mark p s)) (run (by ask') (frame_of j q b others (length s.bindings)) others (at_entry ws j) (with_mark q t))
+      (restored_somewhere n (length s.bindings) (run (by the_compiler ask) (frame_of l p a rest (length s.bindings)) rest (at_entry vs l) (with_mark p s)) (run (by the_compiler ask') (frame_of j q b others (length s.bindings)) others (at_entry ws j) (with_mark q t))
       ((code_somewhere rest).0 n _ _ others _ _ _ _ (same_frame i p q a b (macros.Entry i w ∷ rest) (macros.Entry i w ∷ others) (length s.bindings) (one_more l) (one_more j) h e (more _ _ _ _ (same_macro (macros.Entry i w) refl) c) (more_levels l j r)) c (entry_same n vs ws l j v r) (mark_abreast n p q s t h x)))
     where
       frame_of : Levels → Option Pointer → Held → Code → ℕ → Frame
       frame_of l p a rest depth = record { name = i; function = p; held = a; code = macros.Entry i w ∷ rest; depth = depth; outside = one_more l }
 
       at : ℕ → Type 0
-      at depth = Somewhere SameValue n (run_code (by ask) l p a (macros.Entry i w ∷ rest) vs s) (restored depth (run (by ask') (frame_of j q b others depth) others (at_entry ws j) (with_mark q t)))
+      at depth = Somewhere SameValue n (run_code (by the_compiler ask) l p a (macros.Entry i w ∷ rest) vs s) (restored depth (run (by the_compiler ask') (frame_of j q b others depth) others (at_entry ws j) (with_mark q t)))
 
   run_code_somewhere : (n : Names) (l j : Levels) (p q : Option Pointer) (a b : Held) (c d : Code) (vs ws : List Value) (s t : State) → Roomier l j → Maybe (SamePointer n) p q → SameHeld n a b → SameCode n c d → Each (SameValue n) vs ws → Abreast n s t
-      → Somewhere SameValue n (run_code (by ask) l p a c vs s) (run_code (by ask') j q b d ws t)
+      → Somewhere SameValue n (run_code (by the_compiler ask) l p a c vs s) (run_code (by the_compiler ask') j q b d ws t)
   run_code_somewhere n l j p q a b _ _ vs ws s t r h e end v x = done_somewhere n nil nil s t (same_id nil_id) x
   run_code_somewhere n l j p q a b _ _ vs ws s t r h e (more _ _ rest others (same_macro (macros.Entry i w) y) c) v x = held_by_code n i w l j p q a b rest others vs ws s t r h e c v x
   run_code_somewhere n l j p q a b _ _ vs ws s t r h e (more _ _ rest others (same_macro z y) c) v x = done_somewhere n nil nil s t (same_id nil_id) x
@@ -699,18 +652,27 @@ module _ (one : OneRunFacts) (two : TwoRunsFacts) (ask ask' : Ask) (left : AskGo
   run_code_somewhere n l j p q a b _ _ vs ws s t r h e (more _ _ rest others (same_jump_eq i o w y) c) v x = done_somewhere n nil nil s t (same_id nil_id) x
   run_code_somewhere n l j p q a b _ _ vs ws s t r h e (more _ _ rest others (same_jump_ne i o w y) c) v x = done_somewhere n nil nil s t (same_id nil_id) x
 
+-- ---- evaluation does
+
+evaluation_respects : (one : OneRunFacts) (two : TwoRunsFacts) (ask ask' : Ask) → AskGoes ask → AskGoes ask' → Respects the_compiler ask ask' → EvaluationRespects (by the_compiler ask) (by the_compiler ask')
+evaluation_respects one two ask ask' left right respects = record {
+  called_ = λ n ps i l m vs ws s t r e like w ready. called_ends the_compiler no_compiler_respects one two ask ask' left right respects n ps i l m vs ws s t r e (record { like = like; whole = w; ready = ready });
+  function_defined_ = λ n ps form i s t o p like w ready go h. defined_ends the_compiler no_compiler_respects one two ask ask' left right respects n ps form i s t o p (record { like = like; whole = w; ready = ready }) go h;
+  define_function_ = λ n ps form l m a b s t r h like w ready. define_ends the_compiler no_compiler_respects one two ask ask' left right respects form n a b h ps l m s t r (record { like = like; whole = w; ready = ready });
+}
+
 -- code that goes on, from related frames and machines, ends alike or apart, whatever bindings it leaves
-pub run_respects : (one : OneRunFacts) (two : TwoRunsFacts) → ((ask ask' : Ask) → AskGoes ask → AskGoes ask' → Respects ask ask' → EvaluationRespects (by ask) (by ask')) → (ask ask' : Ask) → AskGoes ask → AskGoes ask' → Respects ask ask'
-    → (n : Names) (ps : List Place) (f g : Frame) (m k : Machine) (c d : Code) (s t : State) → SameFrame n f g → SameMachine n m k → SameCode n c d → Like n ps s t → IsWhole ps → Ready the_compiler t → EndsSomewhere n (run (by ask) f c m s) (run (by ask') g d k t)
-run_respects one two evaluation ask ask' left right respects n ps f g m k c d s t h i e l w ready =
-    let r = (code_somewhere one two ask ask' left right respects (evaluation ask ask' left right respects) c).0 n f g d m k s t h e i (record { places = ps; whole = w; like = l; ready = ready }) in
+pub run_respects : (one : OneRunFacts) (two : TwoRunsFacts) (ask ask' : Ask) → AskGoes ask → AskGoes ask' → Respects the_compiler ask ask'
+    → (n : Names) (ps : List Place) (f g : Frame) (m k : Machine) (c d : Code) (s t : State) → SameFrame n f g → SameMachine n m k → SameCode n c d → Like n ps s t → IsWhole ps → Ready the_compiler t → EndsSomewhere n (run (by the_compiler ask) f c m s) (run (by the_compiler ask') g d k t)
+run_respects one two ask ask' left right respects n ps f g m k c d s t h i e l w ready =
+    let r = (code_somewhere one two ask ask' left right respects (evaluation_respects one two ask ask' left right respects) c).0 n f g d m k s t h e i (record { places = ps; whole = w; like = l; ready = ready }) in
     record { places = r.places; whole = r.whole; ends = r.ends }
 
 -- and so does a held function, by its code
-pub code_respects : (one : OneRunFacts) (two : TwoRunsFacts) → ((ask ask' : Ask) → AskGoes ask → AskGoes ask' → Respects ask ask' → EvaluationRespects (by ask) (by ask')) → (ask ask' : Ask) → AskGoes ask → AskGoes ask' → Respects ask ask'
+pub code_respects : (one : OneRunFacts) (two : TwoRunsFacts) (ask ask' : Ask) → AskGoes ask → AskGoes ask' → Respects the_compiler ask ask'
     → (n : Names) (ps : List Place) (l m : Levels) (p q : Option Pointer) (a b : Held) (c d : Code) (vs ws : List Value) (s t : State)
     → Roomier l m → Maybe (SamePointer n) p q → SameHeld n a b → SameCode n c d → Each (SameValue n) vs ws → Like n ps s t → IsWhole ps → Ready the_compiler t
-    → EndsSomewhere n (run_code (by ask) l p a c vs s) (run_code (by ask') m q b d ws t)
-code_respects one two evaluation ask ask' left right respects n ps l m p q a b c d vs ws s t r h i e v like w ready =
-    let x = run_code_somewhere one two ask ask' left right respects (evaluation ask ask' left right respects) n l m p q a b c d vs ws s t r h i e v (record { places = ps; whole = w; like = like; ready = ready }) in
+    → EndsSomewhere n (run_code (by the_compiler ask) l p a c vs s) (run_code (by the_compiler ask') m q b d ws t)
+code_respects one two ask ask' left right respects n ps l m p q a b c d vs ws s t r h i e v like w ready =
+    let x = run_code_somewhere one two ask ask' left right respects (evaluation_respects one two ask ask' left right respects) n l m p q a b c d vs ws s t r h i e v (record { places = ps; whole = w; like = like; ready = ready }) in
     record { places = x.places; whole = x.whole; ends = x.ends }
