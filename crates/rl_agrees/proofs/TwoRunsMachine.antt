@@ -23,14 +23,14 @@ use Rattle.rl_meaning.specs.Jobs.{the_compiler}
 use Rattle.rl_meaning.specs.TwoRunsLinks.{OneToOne}
 use Rattle.rl_meaning.specs.TwoRunsValues.{Names, Grows, Maybe, nothing, just, Each, end, more, SameValue, same_int, same_id, same_str, same_ref, same_fun, SameTree, SameHeld, same_held, SameFunction, same_special, same_native, same_held_function, SamePointer, same_pointer, SameNumber, SameDefinition, same_definition, SameOperand, same_slot, same_constant, same_variable, same_register, SameMacro, same_load, same_copy, same_jump_eq, same_jump_ne, same_macro, SameCode}
 use Rattle.rl_meaning.specs.TwoRunsStates.{Place, Both, Hidden, HiddenMark, same_binding, Aligned, bottom, both, hidden, hidden_mark, SameExpansion, same_none, same_open, SameCounts, Like, Roomier}
-use Rattle.rl_meaning.specs.TwoRunsEnds.{Begins, HasShown, short_of_levels, Parted, Related, done, failed, went, returned, stopped, parted, Ends}
+use Rattle.rl_meaning.specs.TwoRunsEnds.{HasShown, short_of_levels, Parted, Related, done, failed, went, returned, stopped, parted, Ends}
 use Rattle.rl_meaning.specs.TwoRunsEnds as ends
 use Rattle.rl_agrees.specs.TwoRunsJobs.{Goes, SameBound, same_bound, SameMachine, same_machine, SameFrame, same_frame, same_onward, Ready, IsWhole, EndsSomewhere}
 use Rattle.rl_agrees.proofs.TwoRunsGrowth.{grows_refl, values_grow, maybe_grows, held_grows, pointer_grows, code_grows}
 use Rattle.rl_agrees.proofs.TwoRunsWays.{Beside, Is, is, with_counts_like}
 use Rattle.rl_agrees.proofs.TwoRunsObjects.{nil_same, linked_same, same_same, each_at, each_set, each_append, each_length, symbol_same}
 use Rattle.rl_agrees.proofs.TwoRunsReady.{ready_stays}
-use Rattle.rl_agrees.proofs.TwoRunsAssumed.{GoesOn, Ask, AskGoes, OneRunFacts, Quiet, TwoRunsFacts}
+use Rattle.rl_agrees.proofs.TwoRunsAssumed.{GoesOn, Ask, AskGoes, RecGoes, OneRunFacts, Quiet, TwoRunsFacts}
 use Rattle.rl_agrees.proofs.TwoRunsAsked.{by, Respects, no_compiler_respects, rec_goes}
 use Rattle.rl_agrees.proofs.TwoRunsEvaluation.{called_ends, defined_ends, define_ends}
 use Rattle.rl_agrees.proofs.TwoRunsEnding.{further_ends, shown_whole, quiet_ends, fail_goes}
@@ -56,7 +56,7 @@ pub record EvaluationRespects (rec rec' : Rec) : Type 0 where
 
 -- ---- where no binding is lacking: code leaves other bindings, but all of them are there on both sides
 
--- two states side by side
+-- two states
 record Abreast (n : Names) (s t : State) : Type 0 where
   places : List Place
   whole : IsWhole places
@@ -362,6 +362,18 @@ is_same_same n _ _ i s t (same_frame name p q h k c d depth l j a (same_held kin
 -- ---- what a run of the machine is made of
 
 module _ (one : OneRunFacts) (two : TwoRunsFacts) (ask ask' : Ask) (left : AskGoes ask) (right : AskGoes ask') (respects : Respects the_compiler ask ask') (evaluation : EvaluationRespects (by the_compiler ask) (by the_compiler ask')) where
+  abbrev rec : Rec
+  rec = by the_compiler ask
+
+  abbrev rec' : Rec
+  rec' = by the_compiler ask'
+
+  left_goes : RecGoes rec
+  left_goes = rec_goes the_compiler no_compiler_respects ask left
+
+  right_goes : RecGoes rec'
+  right_goes = rec_goes the_compiler no_compiler_respects ask' right
+
   -- ---- operands and variables
 
   content_somewhere : (n : Names) (m k : Machine) (o p : Operand) (s t : State) → SameMachine n m k → SameOperand n o p → Abreast n s t → Somewhere SameValue n (content m o s) (content k p t)
@@ -420,17 +432,17 @@ module _ (one : OneRunFacts) (two : TwoRunsFacts) (ask ask' : Ask) (left : AskGo
 
   -- ---- links
 
-  called_somewhere : (n : Names) (i : ℕ) (l j : Levels) (vs ws : List Value) (s t : State) → Roomier l j → Each (SameValue n) vs ws → Abreast n s t → Somewhere SameValue n (called (by the_compiler ask) i l vs s) (called (by the_compiler ask') i j ws t)
+  called_somewhere : (n : Names) (i : ℕ) (l j : Levels) (vs ws : List Value) (s t : State) → Roomier l j → Each (SameValue n) vs ws → Abreast n s t → Somewhere SameValue n (called rec i l vs s) (called rec' i j ws t)
   called_somewhere n i l j vs ws s t r e x = record { places = x.places; whole = x.whole; ends = evaluation.called_ n x.places i l j vs ws s t r e x.like x.whole x.ready }
 
   own_name_somewhere : (n : Names) (i : ℕ) (s t : State) (f g : State → Outcome Value) → Abreast n s t → Somewhere SameValue n (f s) (g t) → Somewhere SameValue n (own_name i s f) (own_name i t g)
   own_name_somewhere n i s t f g x h = choose_somewhere n (symbol_at s i).system (symbol_at t i).system s t _ _ _ _ (system_same n x.places i s t x.like) (fail_somewhere n system_name (Id i) (Id i) s t (same_id i) x) h
 
-  define_function_somewhere : (n : Names) (form : Special) (l j : Levels) (a b : Tree) (s t : State) → Roomier l j → SameTree n a b → Abreast n s t → Somewhere SameValue n (define_function (by the_compiler ask) form l a s) (define_function (by the_compiler ask') form j b t)
+  define_function_somewhere : (n : Names) (form : Special) (l j : Levels) (a b : Tree) (s t : State) → Roomier l j → SameTree n a b → Abreast n s t → Somewhere SameValue n (define_function rec form l a s) (define_function rec' form j b t)
   define_function_somewhere n form l j a b s t r h x = record { places = x.places; whole = x.whole; ends = evaluation.define_function_ n x.places form l j a b s t r h x.like x.whole x.ready }
 
   function_defined_somewhere : (n : Names) (form : Special) (i : ℕ) (l j : Levels) (u v a b : Value) (s t : State) → Roomier l j → SameValue n u v → SameValue n a b → Abreast n s t
-      → Somewhere SameValue n (function_defined (by the_compiler ask) form i (hold_function (kind_of_definition form) l u a s)) (function_defined (by the_compiler ask') form i (hold_function (kind_of_definition form) j v b t))
+      → Somewhere SameValue n (function_defined rec form i (hold_function (kind_of_definition form) l u a s)) (function_defined rec' form i (hold_function (kind_of_definition form) j v b t))
   function_defined_somewhere n form i l j u v a b s t r h k x = record {
     places = x.places;
     whole = x.whole;
@@ -438,11 +450,11 @@ module _ (one : OneRunFacts) (two : TwoRunsFacts) (ask ask' : Ask) (left : AskGo
         (quiet_ends n x.places s t _ _ x.like (two.hold_function_quiet (kind_of_definition form) l u a s) (two.hold_function_quiet (kind_of_definition form) j v b t) (hold_function_related n x.places (kind_of_definition form) l j u v a b s t r h k x.like));
   }
 
-  part_linked_somewhere : (n : Names) (form : Special) (i : ℕ) (l j : Levels) (a b : Tree) (s t : State) → Roomier l j → SameTree n a b → Abreast n s t → Somewhere SameValue n (part_linked (by the_compiler ask) form i l a s) (part_linked (by the_compiler ask') form i j b t)
+  part_linked_somewhere : (n : Names) (form : Special) (i : ℕ) (l j : Levels) (a b : Tree) (s t : State) → Roomier l j → SameTree n a b → Abreast n s t → Somewhere SameValue n (part_linked rec form i l a s) (part_linked rec' form i j b t)
   part_linked_somewhere n form i l j a b s t r h x = choose_somewhere n (fits form a) (fits form b) s t _ _ _ _ (fits_same n form a b h) (define_function_somewhere n form l j a b s t r h x) (fail_somewhere n badly_formed (Id i) (Id i) s t (same_id i) x)
 
   list_linked_somewhere : (n : Names) (form : Special) (i : ℕ) (l j : Levels) (v w : Value) (o p : Option (List Value)) (s t : State) → Roomier l j → SameValue n v w → Maybe (Each (SameValue n)) o p → Abreast n s t
-      → Somewhere SameValue n (list_linked (by the_compiler ask) form i l v o s) (list_linked (by the_compiler ask') form i j w p t)
+      → Somewhere SameValue n (list_linked rec form i l v o s) (list_linked rec' form i j w p t)
   list_linked_somewhere n form i l j v w _ _ s t r e (just _ _ (more _ _ _ _ (same_id name) (more a b vs ws h k))) x =
       own_name_somewhere n name s t _ _ x (function_defined_somewhere n form name l j a b _ _ s t r h (cdr_same n x.places s t _ _ x.like (cdr_same n x.places s t v w x.like e)) x)
   list_linked_somewhere n form i l j v w _ _ s t r e nothing x = fail_somewhere n badly_formed (Id i) (Id i) s t (same_id i) x
@@ -451,10 +463,10 @@ module _ (one : OneRunFacts) (two : TwoRunsFacts) (ask ask' : Ask) (left : AskGo
   list_linked_somewhere n form i l j v w _ _ s t r e (just _ _ (more _ _ _ _ h k)) x = fail_somewhere n badly_formed (Id i) (Id i) s t (same_id i) x
 
   by_list_somewhere : (n : Names) (form : Special) (i : ℕ) (l j : Levels) (v w : Value) (s t : State) → Roomier l j → SameValue n v w → Abreast n s t
-      → Somewhere SameValue n (list_linked (by the_compiler ask) form i l v (list_elements s v) s) (list_linked (by the_compiler ask') form i j w (list_elements t w) t)
+      → Somewhere SameValue n (list_linked rec form i l v (list_elements s v) s) (list_linked rec' form i j w (list_elements t w) t)
   by_list_somewhere n form i l j v w s t r e x = list_linked_somewhere n form i l j v w _ _ s t r e (list_elements_same n x.places s t v w x.like e) x
 
-  definition_linked_somewhere : (n : Names) (form : Special) (i : ℕ) (l j : Levels) (vs ws : List Value) (s t : State) → Roomier l j → Each (SameValue n) vs ws → Abreast n s t → Somewhere SameValue n (definition_linked (by the_compiler ask) form i l vs s) (definition_linked (by the_compiler ask') form i j ws t)
+  definition_linked_somewhere : (n : Names) (form : Special) (i : ℕ) (l j : Levels) (vs ws : List Value) (s t : State) → Roomier l j → Each (SameValue n) vs ws → Abreast n s t → Somewhere SameValue n (definition_linked rec form i l vs s) (definition_linked rec' form i j ws t)
   definition_linked_somewhere n form i l j _ _ s t r end x = fail_somewhere n wrong_count (Id i) (Id i) s t (same_id i) x
   definition_linked_somewhere n form i l j _ _ s t r (more _ _ _ _ (same_fun f g place h) end) x = part_linked_somewhere n form i l j _ _ s t r (form_same n x.places s t _ _ x.like (same_fun f g place h)) x
   definition_linked_somewhere n form i l j _ _ s t r (more _ _ _ _ (same_int z) end) x = by_list_somewhere n form i l j _ _ s t r (same_int z) x
@@ -467,22 +479,22 @@ module _ (one : OneRunFacts) (two : TwoRunsFacts) (ask ask' : Ask) (left : AskGo
   definition_linked_somewhere n form i l j _ _ s t r (more _ _ _ _ (same_ref a b h) (more _ _ _ _ k e)) x = fail_somewhere n wrong_count (Id i) (Id i) s t (same_id i) x
   definition_linked_somewhere n form i l j _ _ s t r (more _ _ _ _ (same_fun a b c h) (more _ _ _ _ k e)) x = fail_somewhere n wrong_count (Id i) (Id i) s t (same_id i) x
 
-  form_linked_somewhere : (n : Names) (form : Special) (i : ℕ) (l j : Levels) (vs ws : List Value) (s t : State) → Roomier l j → Each (SameValue n) vs ws → Abreast n s t → Somewhere SameValue n (form_linked (by the_compiler ask) form i l vs s) (form_linked (by the_compiler ask') form i j ws t)
+  form_linked_somewhere : (n : Names) (form : Special) (i : ℕ) (l j : Levels) (vs ws : List Value) (s t : State) → Roomier l j → Each (SameValue n) vs ws → Abreast n s t → Somewhere SameValue n (form_linked rec form i l vs s) (form_linked rec' form i j ws t)
   form_linked_somewhere n De i l j vs ws s t r e x = definition_linked_somewhere n De i l j vs ws s t r e x
   form_linked_somewhere n Df i l j vs ws s t r e x = definition_linked_somewhere n Df i l j vs ws s t r e x
   form_linked_somewhere n Dm i l j vs ws s t r e x = definition_linked_somewhere n Dm i l j vs ws s t r e x
   form_linked_somewhere n form i l j vs ws s t r e x = fail_somewhere n wrong_type (Id i) (Id i) s t (same_id i) x
 
-  function_linked_somewhere : (n : Names) (f g : Function) (i : ℕ) (l j : Levels) (vs ws : List Value) (s t : State) → SameFunction n f g → Roomier l j → Each (SameValue n) vs ws → Abreast n s t → Somewhere SameValue n (function_linked (by the_compiler ask) f i l vs s) (function_linked (by the_compiler ask') g i j ws t)
+  function_linked_somewhere : (n : Names) (f g : Function) (i : ℕ) (l j : Levels) (vs ws : List Value) (s t : State) → SameFunction n f g → Roomier l j → Each (SameValue n) vs ws → Abreast n s t → Somewhere SameValue n (function_linked rec f i l vs s) (function_linked rec' g i j ws t)
   function_linked_somewhere n _ _ i l j vs ws s t (same_special form) r e x = form_linked_somewhere n form i l j vs ws s t r e x
   function_linked_somewhere n _ _ i l j vs ws s t (same_native native) r e x = called_somewhere n i l j vs ws s t r e x
   function_linked_somewhere n _ _ i l j vs ws s t (same_held_function f g h) r e x = called_somewhere n i l j vs ws s t r e x
 
-  linked_to_somewhere : (n : Names) (d c : Option Definition) (i : ℕ) (l j : Levels) (vs ws : List Value) (s t : State) → Maybe (SameDefinition n) d c → Roomier l j → Each (SameValue n) vs ws → Abreast n s t → Somewhere SameValue n (linked_to (by the_compiler ask) d i l vs s) (linked_to (by the_compiler ask') c i j ws t)
+  linked_to_somewhere : (n : Names) (d c : Option Definition) (i : ℕ) (l j : Levels) (vs ws : List Value) (s t : State) → Maybe (SameDefinition n) d c → Roomier l j → Each (SameValue n) vs ws → Abreast n s t → Somewhere SameValue n (linked_to rec d i l vs s) (linked_to rec' c i j ws t)
   linked_to_somewhere n _ _ i l j vs ws s t nothing r e x = called_somewhere n i l j vs ws s t r e x
   linked_to_somewhere n _ _ i l j vs ws s t (just _ _ (same_definition k p q h)) r e x = function_linked_somewhere n _ _ i l j vs ws s t (function_same n x.places s t p q x.like h) r e x
 
-  linked_somewhere : (n : Names) (i : ℕ) (l j : Levels) (vs ws : List Value) (s t : State) → Roomier l j → Each (SameValue n) vs ws → Abreast n s t → Somewhere SameValue n (linked (by the_compiler ask) i l vs s) (linked (by the_compiler ask') i j ws t)
+  linked_somewhere : (n : Names) (i : ℕ) (l j : Levels) (vs ws : List Value) (s t : State) → Roomier l j → Each (SameValue n) vs ws → Abreast n s t → Somewhere SameValue n (linked rec i l vs s) (linked rec' i j ws t)
   linked_somewhere n i l j vs ws s t r e x = linked_to_somewhere n _ _ i l j vs ws s t (definition_same n _ _ (symbol_same n x.places s t i x.like)) r e x
 
   -- ---- a new application by the same code
@@ -495,7 +507,7 @@ module _ (one : OneRunFacts) (two : TwoRunsFacts) (ask ask' : Ask) (left : AskGo
   marked_goes : (ask : Ask) → AskGoes ask → (f : Frame) (m : Machine) (c : Code) (p : Option Pointer) (s : State) → GoesOn s (ask (Onward f m c) (with_mark p s))
   marked_goes ask h f m c p s = goes_from s (with_mark p s) (ask (Onward f m c) (with_mark p s)) (goes_with s s.counts _ refl) (h (Onward f m c) (with_mark p s))
 
-  again_somewhere : (n : Names) (f g : Frame) (vs ws : List Value) (s t : State) → SameFrame n f g → Each (SameValue n) vs ws → Abreast n s t → Somewhere SameValue n (again (by the_compiler ask) f vs s) (again (by the_compiler ask') g ws t)
+  again_somewhere : (n : Names) (f g : Frame) (vs ws : List Value) (s t : State) → SameFrame n f g → Each (SameValue n) vs ws → Abreast n s t → Somewhere SameValue n (again rec f vs s) (again rec' g ws t)
   again_somewhere n f g vs ws s t h e x =
       turn_somewhere n s t _ _ x (λ u v x.
       deeper_somewhere n u v _ _ x (λ l. marked_goes ask left f (at_entry vs l) (behind_entry f.code) f.function u) (λ l. marked_goes ask' right g (at_entry ws l) (behind_entry g.code) g.function v)
@@ -507,34 +519,34 @@ module _ (one : OneRunFacts) (two : TwoRunsFacts) (ask ask' : Ask) (left : AskGo
   ended_abreast : (n : Names) (f g : Frame) (s t : State) → SameFrame n f g → Abreast n s t → Abreast n (ended f s) (ended g t)
   ended_abreast n _ _ s t (same_frame name p q h k c d depth l j a b e r) x = oldest_abreast n depth s t x
 
-  own_linked : (n : Names) (f g : Frame) (vs ws : List Value) (s t : State) → SameFrame n f g → Each (SameValue n) vs ws → Abreast n s t → Somewhere SameValue n (linked (by the_compiler ask) f.name f.outside vs s) (linked (by the_compiler ask') g.name g.outside ws t)
+  own_linked : (n : Names) (f g : Frame) (vs ws : List Value) (s t : State) → SameFrame n f g → Each (SameValue n) vs ws → Abreast n s t → Somewhere SameValue n (linked rec f.name f.outside vs s) (linked rec' g.name g.outside ws t)
   own_linked n _ _ vs ws s t (same_frame name p q h k c d depth l j a b e r) i x = linked_somewhere n name l j vs ws s t r i x
 
   -- ---- c-macros
 
   abbrev Runs : Code → Type 0
-  Runs c = (n : Names) (f g : Frame) (d : Code) (m k : Machine) (s t : State) → SameFrame n f g → SameCode n c d → SameMachine n m k → Abreast n s t → Somewhere SameValue n (run (by the_compiler ask) f c m s) (run (by the_compiler ask') g d k t)
+  Runs c = (n : Names) (f g : Frame) (d : Code) (m k : Machine) (s t : State) → SameFrame n f g → SameCode n c d → SameMachine n m k → Abreast n s t → Somewhere SameValue n (run rec f c m s) (run rec' g d k t)
 
   abbrev Seeks : Code → Type 0
-  Seeks c = (n : Names) (f g : Frame) (l : ℕ) (d : Code) (m k : Machine) (s t : State) → SameFrame n f g → SameCode n c d → SameMachine n m k → Abreast n s t → Somewhere SameValue n (seek (by the_compiler ask) f l c m s) (seek (by the_compiler ask') g l d k t)
+  Seeks c = (n : Names) (f g : Frame) (l : ℕ) (d : Code) (m k : Machine) (s t : State) → SameFrame n f g → SameCode n c d → SameMachine n m k → Abreast n s t → Somewhere SameValue n (seek rec f l c m s) (seek rec' g l d k t)
 
-  left_runs : (f : Frame) (c : Code) (m : Machine) (s : State) → GoesOn s (run (by the_compiler ask) f c m s)
-  left_runs f c m s = one.run_goes (by the_compiler ask) (rec_goes the_compiler no_compiler_respects ask left) f c m s
+  left_runs : (f : Frame) (c : Code) (m : Machine) (s : State) → GoesOn s (run rec f c m s)
+  left_runs f c m s = one.run_goes rec left_goes f c m s
 
-  right_runs : (f : Frame) (c : Code) (m : Machine) (s : State) → GoesOn s (run (by the_compiler ask') f c m s)
-  right_runs f c m s = one.run_goes (by the_compiler ask') (rec_goes the_compiler no_compiler_respects ask' right) f c m s
+  right_runs : (f : Frame) (c : Code) (m : Machine) (s : State) → GoesOn s (run rec' f c m s)
+  right_runs f c m s = one.run_goes rec' right_goes f c m s
 
-  left_seeks : (f : Frame) (l : ℕ) (c : Code) (m : Machine) (s : State) → GoesOn s (seek (by the_compiler ask) f l c m s)
-  left_seeks f l c m s = one.seek_goes (by the_compiler ask) (rec_goes the_compiler no_compiler_respects ask left) f l c m s
+  left_seeks : (f : Frame) (l : ℕ) (c : Code) (m : Machine) (s : State) → GoesOn s (seek rec f l c m s)
+  left_seeks f l c m s = one.seek_goes rec left_goes f l c m s
 
-  right_seeks : (f : Frame) (l : ℕ) (c : Code) (m : Machine) (s : State) → GoesOn s (seek (by the_compiler ask') f l c m s)
-  right_seeks f l c m s = one.seek_goes (by the_compiler ask') (rec_goes the_compiler no_compiler_respects ask' right) f l c m s
+  right_seeks : (f : Frame) (l : ℕ) (c : Code) (m : Machine) (s : State) → GoesOn s (seek rec' f l c m s)
+  right_seeks f l c m s = one.seek_goes rec' right_goes f l c m s
 
   -- what goes on behind one c-macro
   module _ (rest : Code) (runs : Runs rest) (seeks : Seeks rest) (n : Names) (f g : Frame) (others : Code) (m k : Machine) (s t : State) (h : SameFrame n f g) (c : SameCode n rest others) (e : SameMachine n m k) (x : Abreast n s t) where
     -- with the value of an outcome
     then_runs : (o p : Outcome Value) (next next' : Value → Machine) → GoesOn t p → Somewhere SameValue n o p → ((i : Names) (v w : Value) → Grows n i → SameValue i v w → SameMachine i (next v) (next' w))
-        → Somewhere SameValue n (then_do o (λ v s. run (by the_compiler ask) f rest (next v) s)) (then_do p (λ v s. run (by the_compiler ask') g others (next' v) s))
+        → Somewhere SameValue n (then_do o (λ v s. run rec f rest (next v) s)) (then_do p (λ v s. run rec' g others (next' v) s))
     then_runs o p next next' go r goes_on =
         then_somewhere n t o p _ _ x.ready go (λ v u. left_runs f rest (next v) u) (λ v u. right_runs g others (next' v) u) r
         (λ i v w u y q r x. runs i f g others (next v) (next' w) u y (frame_grows n i f g h q) (code_grows n i rest others c q) (goes_on i v w q r) x)
@@ -548,20 +560,20 @@ module _ (one : OneRunFacts) (two : TwoRunsFacts) (ask ask' : Ask) (left : AskGo
         (λ i v w u y q r x. next i v w u y (frame_grows n i f g h q) (code_grows n i rest others c q) (machine_grows n i m k e q)
         (same_same i (register m 1) (register k 1) v w x.like.store.once x.like.functions.once (register_same i m k (machine_grows n i m k e q) 1) r) x)
 
-    macro_somewhere : (a b : CMacro) → SameMacro n a b → Somewhere SameValue n (run (by the_compiler ask) f (a ∷ rest) m s) (run (by the_compiler ask') g (b ∷ others) k t)
+    macro_somewhere : (a b : CMacro) → SameMacro n a b → Somewhere SameValue n (run rec f (a ∷ rest) m s) (run rec' g (b ∷ others) k t)
     macro_somewhere _ _ (same_load r o p w) = then_runs (content m o s) (content k p t) (λ v. with_register r v m) (λ v. with_register r v k) (content_goes k p t) (content_somewhere n m k o p s t e w x) (λ i v w q y. with_register_same i m k (machine_grows n i m k e q) r v w y)
     macro_somewhere _ _ (same_copy r v w y) =
         then_runs (copied m.levels (form_at s v) s) (copied k.levels (form_at t w) t) (λ v. with_register r v m) (λ v. with_register r v k) (one.copied_goes k.levels (form_at t w) t)
         (copied_somewhere n m.levels k.levels _ _ s t (levels_same n m k e) (form_same n x.places s t v w x.like y) x) (λ i v w q y. with_register_same i m k (machine_grows n i m k e q) r v w y)
     macro_somewhere _ _ (same_jump_eq l o p w) =
         then_compares (content m o s) (content k p t) _ _ (content_goes k p t) (content_somewhere n m k o p s t e w x)
-        (λ v u. choose_goes (same (register m 1) v) u (λ s. seek (by the_compiler ask) f l rest m s) (λ s. run (by the_compiler ask) f rest m s) (left_seeks f l rest m u) (left_runs f rest m u))
-        (λ v u. choose_goes (same (register k 1) v) u (λ s. seek (by the_compiler ask') g l others k s) (λ s. run (by the_compiler ask') g others k s) (right_seeks g l others k u) (right_runs g others k u))
+        (λ v u. choose_goes (same (register m 1) v) u (λ s. seek rec f l rest m s) (λ s. run rec f rest m s) (left_seeks f l rest m u) (left_runs f rest m u))
+        (λ v u. choose_goes (same (register k 1) v) u (λ s. seek rec' g l others k s) (λ s. run rec' g others k s) (right_seeks g l others k u) (right_runs g others k u))
         (λ i v w u y h c e z x. choose_somewhere i _ _ u y _ _ _ _ z (seeks i f g l others m k u y h c e x) (runs i f g others m k u y h c e x))
     macro_somewhere _ _ (same_jump_ne l o p w) =
         then_compares (content m o s) (content k p t) _ _ (content_goes k p t) (content_somewhere n m k o p s t e w x)
-        (λ v u. choose_goes (same (register m 1) v) u (λ s. run (by the_compiler ask) f rest m s) (λ s. seek (by the_compiler ask) f l rest m s) (left_runs f rest m u) (left_seeks f l rest m u))
-        (λ v u. choose_goes (same (register k 1) v) u (λ s. run (by the_compiler ask') g others k s) (λ s. seek (by the_compiler ask') g l others k s) (right_runs g others k u) (right_seeks g l others k u))
+        (λ v u. choose_goes (same (register m 1) v) u (λ s. run rec f rest m s) (λ s. seek rec f l rest m s) (left_runs f rest m u) (left_seeks f l rest m u))
+        (λ v u. choose_goes (same (register k 1) v) u (λ s. run rec' g others k s) (λ s. seek rec' g l others k s) (right_runs g others k u) (right_seeks g l others k u))
         (λ i v w u y h c e z x. choose_somewhere i _ _ u y _ _ _ _ z (runs i f g others m k u y h c e x) (seeks i f g l others m k u y h c e x))
     macro_somewhere _ _ (same_macro (macros.Entry i l) w) = runs n f g others m k s t h c e x
     macro_somewhere _ _ (same_macro (Alloc i) w) = runs n f g others _ _ s t h c (allocated_same n m k e i) x
@@ -571,14 +583,14 @@ module _ (one : OneRunFacts) (two : TwoRunsFacts) (ask ask' : Ask) (left : AskGo
         then_runs (assigned i (register m 1) s) (assigned i (register k 1) t) (λ v. m) (λ v. k) (one.assigned_goes i (register k 1) t) (assigned_somewhere n i _ _ s t (register_same n m k e 1) x) (λ i v w q y. machine_grows n i m k e q)
     macro_somewhere _ _ (same_macro (Move r i) w) = runs n f g others _ _ s t h c (with_register_same n m k e r _ _ (register_same n m k e i)) x
     macro_somewhere _ _ (same_macro (Link i l) w) =
-        then_runs (linked (by the_compiler ask) i m.levels (arguments l m) s) (linked (by the_compiler ask') i k.levels (arguments l k) t) (λ v. after_link v m) (λ v. after_link v k) (one.linked_goes (by the_compiler ask') (rec_goes the_compiler no_compiler_respects ask' right) i k.levels (arguments l k) t)
+        then_runs (linked rec i m.levels (arguments l m) s) (linked rec' i k.levels (arguments l k) t) (λ v. after_link v m) (λ v. after_link v k) (one.linked_goes rec' right_goes i k.levels (arguments l k) t)
         (linked_somewhere n i m.levels k.levels _ _ s t (levels_same n m k e) (arguments_same n m k e l) x) (λ i v w q y. after_link_same i m k (machine_grows n i m k e q) v w y)
     macro_somewhere _ _ (same_macro (LinkE i l j) w) = linked_somewhere n i f.outside g.outside _ _ _ _ (outside_same n f g h) (arguments_same n m k e l) (ended_abreast n f g s t h x)
     macro_somewhere _ _ (same_macro (Self l j) w) =
         choose_somewhere n (is_same f l s) (is_same g l t) _ _ _ _ _ _ (is_same_same n f g l s t h x) (again_somewhere n f g _ _ _ _ h (arguments_same n m k e l) (ended_abreast n f g s t h x))
         (own_linked n f g _ _ _ _ h (arguments_same n m k e l) (ended_abreast n f g s t h x))
     macro_somewhere _ _ (same_macro (CallNative i l) w) =
-        then_runs (called (by the_compiler ask) i m.levels (arguments l m) s) (called (by the_compiler ask') i k.levels (arguments l k) t) (λ v. with_register 1 v m) (λ v. with_register 1 v k) (one.called_goes (by the_compiler ask') (rec_goes the_compiler no_compiler_respects ask' right) i k.levels (arguments l k) t)
+        then_runs (called rec i m.levels (arguments l m) s) (called rec' i k.levels (arguments l k) t) (λ v. with_register 1 v m) (λ v. with_register 1 v k) (one.called_goes rec' right_goes i k.levels (arguments l k) t)
         (called_somewhere n i m.levels k.levels _ _ s t (levels_same n m k e) (arguments_same n m k e l) x) (λ i v w q y. with_register_same i m k (machine_grows n i m k e q) 1 v w y)
     macro_somewhere _ _ (same_macro (Jump l) w) = seeks n f g l others m k s t h c e x
     macro_somewhere _ _ (same_macro (JumpNil l) w) = choose_somewhere n _ _ s t _ _ _ _ (nil_same n _ _ (register_same n m k e 1)) (seeks n f g l others m k s t h c e x) (runs n f g others m k s t h c e x)
@@ -600,7 +612,7 @@ module _ (one : OneRunFacts) (two : TwoRunsFacts) (ask ask' : Ask) (left : AskGo
     macro_somewhere _ _ (same_macro (JumpNe l o) w) = absurd (cc)
 
     -- a jump goes forward
-    sought_somewhere : (l : ℕ) (a b : CMacro) → SameMacro n a b → Somewhere SameValue n (seek (by the_compiler ask) f l (a ∷ rest) m s) (seek (by the_compiler ask') g l (b ∷ others) k t)
+    sought_somewhere : (l : ℕ) (a b : CMacro) → SameMacro n a b → Somewhere SameValue n (seek rec f l (a ∷ rest) m s) (seek rec' g l (b ∷ others) k t)
     sought_somewhere l _ _ (same_macro (Label i) w) = choose_somewhere n (i == l) (i == l) s t _ _ _ _ refl (runs n f g others m k s t h c e x) (seeks n f g l others m k s t h c e x)
     sought_somewhere l _ _ (same_macro a w) = seeks n f g l others m k s t h c e x
     sought_somewhere l _ _ (same_load r o p w) = seeks n f g l others m k s t h c e x
@@ -608,14 +620,14 @@ module _ (one : OneRunFacts) (two : TwoRunsFacts) (ask ask' : Ask) (left : AskGo
     sought_somewhere l _ _ (same_jump_eq i o p w) = seeks n f g l others m k s t h c e x
     sought_somewhere l _ _ (same_jump_ne i o p w) = seeks n f g l others m k s t h c e x
 
-  -- from any c-macro on
+  -- from any c-macro on, to the end or to a label
   code_somewhere : (c : Code) → Runs c × Seeks c
   code_somewhere [] = (λ n f g d m k s t h e i x. no_runs n f g d m k s t e x, λ n f g l d m k s t h e i x. no_seeks n f g l d m k s t e x)
     where
-      no_runs : (n : Names) (f g : Frame) (d : Code) (m k : Machine) (s t : State) → SameCode n [] d → Abreast n s t → Somewhere SameValue n (run (by the_compiler ask) f [] m s) (run (by the_compiler ask') g d k t)
+      no_runs : (n : Names) (f g : Frame) (d : Code) (m k : Machine) (s t : State) → SameCode n [] d → Abreast n s t → Somewhere SameValue n (run rec f [] m s) (run rec' g d k t)
       no_runs n f g _ m k s t end x = done_somewhere n nil nil s t (same_id nil_id) x
 
-      no_seeks : (n : Names) (f g : Frame) (l : ℕ) (d : Code) (m k : Machine) (s t : State) → SameCode n [] d → Abreast n s t → Somewhere SameValue n (seek (by the_compiler ask) f l [] m s) (seek (by the_compiler ask') g l d k t)
+      no_seeks : (n : Names) (f g : Frame) (l : ℕ) (d : Code) (m k : Machine) (s t : State) → SameCode n [] d → Abreast n s t → Somewhere SameValue n (seek rec f l [] m s) (seek rec' g l d k t)
       no_seeks n f g l _ m k s t end x = done_somewhere n nil nil s t (same_id nil_id) x
   code_somewhere (a ∷ rest) = one_more_macro rest (code_somewhere rest)
     where
@@ -631,19 +643,19 @@ module _ (one : OneRunFacts) (two : TwoRunsFacts) (ask ask' : Ask) (left : AskGo
   -- ---- a held function, by its code
 
   held_by_code : (n : Names) (i w : ℕ) (l j : Levels) (p q : Option Pointer) (a b : Held) (rest others : Code) (vs ws : List Value) (s t : State) → Roomier l j → Maybe (SamePointer n) p q → SameHeld n a b → SameCode n rest others → Each (SameValue n) vs ws → Abreast n s t
-      → Somewhere SameValue n (run_code (by the_compiler ask) l p a (macros.Entry i w ∷ rest) vs s) (run_code (by the_compiler ask') j q b (macros.Entry i w ∷ others) ws t)
+      → Somewhere SameValue n (run_code rec l p a (macros.Entry i w ∷ rest) vs s) (run_code rec' j q b (macros.Entry i w ∷ others) ws t)
   held_by_code n i w l j p q a b rest others vs ws s t r h e c v x = subst at (whole_length n x.places s.bindings t.bindings x.whole x.like.bindings)
-      (restored_somewhere n (length s.bindings) (run (by the_compiler ask) (frame_of l p a rest (length s.bindings)) rest (at_entry vs l) (with_mark p s)) (run (by the_compiler ask') (frame_of j q b others (length s.bindings)) others (at_entry ws j) (with_mark q t))
+      (restored_somewhere n (length s.bindings) (run rec (frame_of l p a rest (length s.bindings)) rest (at_entry vs l) (with_mark p s)) (run rec' (frame_of j q b others (length s.bindings)) others (at_entry ws j) (with_mark q t))
       ((code_somewhere rest).0 n _ _ others _ _ _ _ (same_frame i p q a b (macros.Entry i w ∷ rest) (macros.Entry i w ∷ others) (length s.bindings) (one_more l) (one_more j) h e (more _ _ _ _ (same_macro (macros.Entry i w) refl) c) (more_levels l j r)) c (entry_same n vs ws l j v r) (mark_abreast n p q s t h x)))
     where
       frame_of : Levels → Option Pointer → Held → Code → ℕ → Frame
       frame_of l p a rest depth = record { name = i; function = p; held = a; code = macros.Entry i w ∷ rest; depth = depth; outside = one_more l }
 
       at : ℕ → Type 0
-      at depth = Somewhere SameValue n (run_code (by the_compiler ask) l p a (macros.Entry i w ∷ rest) vs s) (restored depth (run (by the_compiler ask') (frame_of j q b others depth) others (at_entry ws j) (with_mark q t)))
+      at depth = Somewhere SameValue n (run_code rec l p a (macros.Entry i w ∷ rest) vs s) (restored depth (run rec' (frame_of j q b others depth) others (at_entry ws j) (with_mark q t)))
 
   run_code_somewhere : (n : Names) (l j : Levels) (p q : Option Pointer) (a b : Held) (c d : Code) (vs ws : List Value) (s t : State) → Roomier l j → Maybe (SamePointer n) p q → SameHeld n a b → SameCode n c d → Each (SameValue n) vs ws → Abreast n s t
-      → Somewhere SameValue n (run_code (by the_compiler ask) l p a c vs s) (run_code (by the_compiler ask') j q b d ws t)
+      → Somewhere SameValue n (run_code rec l p a c vs s) (run_code rec' j q b d ws t)
   run_code_somewhere n l j p q a b _ _ vs ws s t r h e end v x = done_somewhere n nil nil s t (same_id nil_id) x
   run_code_somewhere n l j p q a b _ _ vs ws s t r h e (more _ _ rest others (same_macro (macros.Entry i w) y) c) v x = held_by_code n i w l j p q a b rest others vs ws s t r h e c v x
   run_code_somewhere n l j p q a b _ _ vs ws s t r h e (more _ _ rest others (same_macro z y) c) v x = done_somewhere n nil nil s t (same_id nil_id) x
