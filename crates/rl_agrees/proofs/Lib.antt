@@ -46,6 +46,7 @@ mod PlainHeads
 mod PlainEvaluation
 mod PlainAlone
 mod PlainRows
+mod TwoRunsHeads
 mod TwoRunsJoined
 mod TwoRunsKnown
 mod TwoRunsReady
@@ -53,3 +54,6 @@ mod TwoRunsAssumed
 mod TwoRunsComposed
 mod TwoRunsGoes
 mod TwoRunsEnding
+mod TwoRunsAsked
+mod TwoRunsEvaluation
+mod TwoRunsMachine

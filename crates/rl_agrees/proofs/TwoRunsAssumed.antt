@@ -19,12 +19,13 @@ use Rattle.rl_meaning.specs.Input.{Reading, Form, End, Unreadable, read_bytes}
 use Rattle.rl_meaning.specs.Walks.{Walked}
 use Rattle.rl_meaning.specs.Opening.{state_of}
 use Rattle.rl_meaning.specs.Run.{print_unreadable}
-use Rattle.rl_meaning.specs.Evaluation.{Job, Rec, Here, Position, Machine, Frame, Target, form_evaluated, list_applied, applied_to, called, expansion_of, expanded_body, jumped, eval, arguments, progn, clauses, conjunction, disjunction, statements, listed, combined_rest}
+use Rattle.rl_meaning.specs.Evaluation.{Job, Rec, Here, Position, Machine, Frame, Target, form_evaluated, list_applied, applied_to, called, fexpr_called, macro_called, expansion_of, expanded_body, jumped, eval, arguments, progn, clauses, conjunction, disjunction, statements, listed, combined_rest}
 use Rattle.rl_meaning.specs.Machine.{linked, run, seek, run_code}
 use Rattle.rl_meaning.specs.TwoRunsValues.{Names, Maybe, Each, SameValue, SameParts, SameTree, SamePointer, SameNumber}
 use Rattle.rl_meaning.specs.TwoRunsStates.{Place, Like, Roomier, Shown}
 use Rattle.rl_meaning.specs.TwoRunsEnds.{Parted, Related, Ends}
 use Rattle.rl_agrees.specs.TwoRunsJobs.{Goes}
+use Rattle.rl_agrees.proofs.TwoRunsHeads.{special_form}
 use Rattle.rl_agrees.proofs.TwoRunsWays.{Beside, Is}
 
 -- ---- one run
@@ -73,6 +74,9 @@ pub record OneRunFacts : Type 0 where
   pub list_goes : (rec : Rec) → RecGoes rec → (l : Levels) (f : ℕ) (function : Function) (vs : List Value) (s : State) → GoesOn s (list_applied rec l f function vs s)
   pub applied_to_goes : (rec : Rec) → RecGoes rec → (l : Levels) (target : Target) (vs : List Value) (s : State) → GoesOn s (applied_to rec l target vs s)
   pub called_goes : (rec : Rec) → RecGoes rec → (i : ℕ) (l : Levels) (vs : List Value) (s : State) → GoesOn s (called rec i l vs s)
+  pub fexpr_goes : (rec : Rec) → RecGoes rec → (i : ℕ) (here : Here) (args : Tree) (s : State) → GoesOn s (fexpr_called rec i here args s)
+  pub macro_goes : (rec : Rec) → RecGoes rec → (i : ℕ) (here : Here) (position : Position) (form : Tree) (s : State) → GoesOn s (macro_called rec i here position form s)
+  pub special_goes : (rec : Rec) → RecGoes rec → (here : Here) (position : Position) (args : Tree) (s : State) (form : Special) → GoesOn s (special_form rec here position args s form)
   pub expansion_goes : (rec : Rec) → RecGoes rec → (i : ℕ) (here : Here) (form : Tree) (s : State) → GoesOn s (expansion_of rec i here form s)
   pub expanded_goes : (rec : Rec) → RecGoes rec → (here : Here) (position : Position) (f : ℕ) (function : Function) (s : State) → GoesOn s (expanded_body rec here position f function s)
   pub jumped_goes : (rec : Rec) → RecGoes rec → (here : Here) (whole : Tree) (l : ℕ) (o : Option Tree) (s : State) → GoesOn s (jumped rec here whole l o s)

@@ -25,13 +25,13 @@ use Rattle.rl_agrees.proofs.TwoRunsObjects.{linked_same}
 use Rattle.rl_agrees.proofs.TwoRunsKnown.{names_on_right, right_covers, knows, whole_places, all_both_whole}
 use Rattle.rl_agrees.proofs.TwoRunsJoined.{joined}
 use Rattle.rl_agrees.proofs.TwoRunsAssumed.{Ask, AskGoes, GoesOn}
+use Rattle.rl_agrees.proofs.TwoRunsAsked as asked
 
-abbrev pub by : Ask → Rec
-by ask = record { compiler = the_compiler; ask = ask }
+abbrev by : Ask → Rec
+by ask = asked.by the_compiler ask
 
--- what is asked for respects the relation
-abbrev pub Respects : Ask → Ask → Type 0
-Respects ask ask' = (n : Names) (ps : List Place) (j : Job) (s : State) (k : Job) (t : State) → Starts the_compiler n ps j s k t → EndsOf j n ps (ask j s) (ask' k t)
+abbrev Respects : Ask → Ask → Type 0
+Respects ask ask' = asked.Respects the_compiler ask ask'
 
 -- a job that walks
 abbrev pub walk_done : Rec → Job → State → Outcome Value

@@ -91,22 +91,25 @@ module _ (c : Compiler) where
 
   -- ---- turns and levels
 
-  counts_sides : (n : Names) (ps : List Place) (s t : State) (a b : Counts) → is_some t.counts.cells ≡ is_some b.cells → SameCounts a b → Sides c n ps s t → Sides c n ps (record s { counts = a }) (record t { counts = b })
+  pub counts_sides : (n : Names) (ps : List Place) (s t : State) (a b : Counts) → is_some t.counts.cells ≡ is_some b.cells → SameCounts a b → Sides c n ps s t → Sides c n ps (record s { counts = a }) (record t { counts = b })
   counts_sides n ps s t a b e h i = record { like = with_counts_like n ps s t a b h i.like; whole = i.whole; ready = ready_stays c t _ (goes_with t b t.bindings e) i.ready }
 
   pub turn_ends : {A : Type 0} {R : Names → A → A → Type 0} (n : Names) (ps : List Place) (s t : State) (f g : State → Outcome A) → Sides c n ps s t
-      → ((a b : Counts) → Sides c n ps (record s { counts = a }) (record t { counts = b }) → Alike R n ps (f (record s { counts = a })) (g (record t { counts = b }))) → Alike R n ps (turn s f) (turn t g)
+      → ((u v : State) → Goes s u → Goes t v → Sides c n ps u v → Alike R n ps (f u) (g v)) → Alike R n ps (turn s f) (turn t g)
   turn_ends {R = R} n ps s t f g i h = at s.counts.expansion t.counts.expansion i.like.counts.expansion
     where
+      on : (a b : Counts) → is_some s.counts.cells ≡ is_some a.cells → is_some t.counts.cells ≡ is_some b.cells → SameCounts a b → Alike R n ps (f (record s { counts = a })) (g (record t { counts = b }))
+      on a b x y z = h _ _ (goes_with s a s.bindings x) (goes_with t b t.bindings y) (counts_sides n ps s t a b y z i)
+
       run_at : (j k : ℕ) → j ≡ k → Alike R n ps (run_turn j s f) (run_turn k t g)
       run_at zero zero e = stopped_here c n ps _ s t i
-      run_at (suc j) (suc k) e = h _ _ (counts_sides n ps s t _ _ refl (record { given = i.like.counts.given; turns = omega (arith, e); cells = i.like.counts.cells; expansion = i.like.counts.expansion }) i)
+      run_at (suc j) (suc k) e = on _ _ refl refl (record { given = i.like.counts.given; turns = omega (arith, e); cells = i.like.counts.cells; expansion = i.like.counts.expansion })
       run_at zero (suc k) e = absurd (omega (arith, e))
       run_at (suc j) zero e = absurd (omega (arith, e))
 
       expansion_at : (j : ℕ) (e : Expansion) → Alike R n ps (expansion_turn j e s f) (expansion_turn j e t g)
       expansion_at zero e = stopped_here c n ps _ s t i
-      expansion_at (suc j) e = h _ _ (counts_sides n ps s t _ _ refl (record { given = i.like.counts.given; turns = i.like.counts.turns; cells = i.like.counts.cells; expansion = same_open _ }) i)
+      expansion_at (suc j) e = on _ _ refl refl (record { given = i.like.counts.given; turns = i.like.counts.turns; cells = i.like.counts.cells; expansion = same_open _ })
 
       at : (e x : Option Expansion) → SameExpansion e x → Alike R n ps (turn_of e s f) (turn_of x t g)
       at _ _ same_none = run_at s.counts.turns t.counts.turns i.like.counts.turns
