@@ -8,3 +8,12 @@ mod TwoRunsReady
 mod TwoRunsAssumed
 mod TwoRunsComposed
 mod TwoRunsGoes
+mod TwoRunsWalks
+mod TwoRunsLists
+mod TwoRunsNumbers
+mod TwoRunsSpine
+mod TwoRunsAtoms
+mod TwoRunsProperties
+mod TwoRunsReading
+mod TwoRunsPrinting
+mod TwoRunsNatives
