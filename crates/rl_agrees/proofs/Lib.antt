@@ -2,12 +2,9 @@ mod TwoRunsLinked
 mod TwoRunsGrowth
 mod TwoRunsWays
 mod TwoRunsObjects
+mod TwoRunsForms
 mod TwoRunsJoined
 mod TwoRunsKnown
-mod TwoRunsReady
-mod TwoRunsAssumed
-mod TwoRunsComposed
-mod TwoRunsGoes
 mod TwoRunsWalks
 mod TwoRunsLists
 mod TwoRunsNumbers
@@ -17,3 +14,13 @@ mod TwoRunsProperties
 mod TwoRunsReading
 mod TwoRunsPrinting
 mod TwoRunsNatives
+mod TwoRunsHolding
+mod TwoRunsCopying
+mod TwoRunsQuiet
+mod TwoRunsVariables
+mod TwoRunsBinding
+mod TwoRunsDefinitions
+mod TwoRunsReady
+mod TwoRunsAssumed
+mod TwoRunsComposed
+mod TwoRunsGoes

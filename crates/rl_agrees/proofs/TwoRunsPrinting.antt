@@ -16,17 +16,12 @@ use Rattle.rl_meaning.specs.TwoRunsEnds.{Begins, HasShown, short_of_levels, Part
 use Rattle.rl_agrees.proofs.TwoRunsGrowth.{grows_refl}
 use Rattle.rl_agrees.proofs.TwoRunsWays.{Is, is, with_counts_like, left_same, whole_read_like}
 use Rattle.rl_agrees.proofs.TwoRunsAtoms.{text_same, names_same}
+use Rattle.rl_agrees.proofs.TwoRunsJoined.{begins_refl, begins_trans}
 
 -- ---- fronts
 
-pub begins_refl : (xs : List ℕ) → Begins xs xs
-begins_refl xs = record { rest = []; is = sym (append-nil xs) }
-
 pub begins_more : (xs ys : List ℕ) → Begins xs (xs ++ ys)
 begins_more xs ys = record { rest = ys; is = refl }
-
-pub begins_trans : (xs ys zs : List ℕ) → Begins xs ys → Begins ys zs → Begins xs zs
-begins_trans xs ys zs h k = record { rest = h.rest ++ k.rest; is = k.is ∙ ap (λ l. l ++ k.rest) h.is ∙ append_assoc xs h.rest k.rest }
 
 -- ---- how far two printings come
 
