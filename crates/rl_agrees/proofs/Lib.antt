@@ -24,3 +24,4 @@ mod TwoRunsReady
 mod TwoRunsAssumed
 mod TwoRunsComposed
 mod TwoRunsGoes
+mod TwoRunsLoop

@@ -304,7 +304,7 @@ mark_like n ps bytes s t l = record { store = l.store; functions = l.functions; 
 line_shown : (s : State) → Shows s (print_end_of_line s)
 line_shown s = record { output = begins_more s.outside.output (10 ∷ []); notes = begins_refl s.outside.notes }
 
-fresh_like : (n : Names) (ps : List Place) (s t : State) → Like n ps s t → Like n ps (fresh_line s) (fresh_line t)
+pub fresh_like : (n : Names) (ps : List Place) (s t : State) → Like n ps s t → Like n ps (fresh_line s) (fresh_line t)
 fresh_like n ps s t l = at (s.outside.column == 0) (t.outside.column == 0) (λ k. (l.outside k).column == 0)
   where
     at : (b c : Bool) → b ≡ c → Like n ps (if b then s else print_end_of_line s) (if c then t else print_end_of_line t)

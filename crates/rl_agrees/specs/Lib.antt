@@ -1,3 +1,4 @@
 pub mod Later
 pub mod TwoRunsJobs
 pub mod TwoRunsRuns
+pub mod Laws
