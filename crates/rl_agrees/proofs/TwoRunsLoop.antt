@@ -3,7 +3,8 @@ use Rattle.std.proofs.Common.{◌≡◌, ◌∙◌, ◌⊎◌, inl, inr, ◌≤�
 use Rattle.std.specs.Prelude.{codes, decimal, min}
 use Rattle.rl_tree.specs.Value.{Value}
 use Rattle.rl_tree.specs.Name.{Name}
-use Rattle.rl_meaning.specs.State.{State, Function, SpecialForm, NativeFunction, HeldFunction, Definition, Dependency, Called, Fexpr, Whole, Coded, Expansion, Recorded}
+use Rattle.rl_tree.specs.Printing.{Page, with_atom}
+use Rattle.rl_meaning.specs.State.{State, Tree, Function, SpecialForm, NativeFunction, HeldFunction, Definition, Dependency, Called, Fexpr, Whole, Coded, Expansion, Recorded}
 use Rattle.rl_meaning.specs.Outcome.{Outcome, Done, Failed, Went, Returned, Stopped, Stop, Missing, then_do, Levels}
 use Rattle.rl_meaning.specs.Opening.{state_of}
 use Rattle.rl_meaning.specs.Errors.{error_text, unreadable}
@@ -22,7 +23,7 @@ use Rattle.rl_meaning.specs.TwoRunsStates.{Place, all_both, SameStore, SameFunct
 use Rattle.rl_meaning.specs.TwoRunsEnds.{Begins, HasShown, IsShort, OneBegins, Parted, by_event, right_short, left_short, short_by_event, both_short, Related, done, failed, went, returned, stopped, parted, Ends}
 use Rattle.rl_meaning.specs.Right.{Stood, AllAsTheyStood}
 use Rattle.rl_agrees.specs.Later.{IsIn}
-use Rattle.rl_agrees.specs.TwoRunsJobs.{EventWithin, Goes, same_here, SameJob, same_in, ReadyCode, Ready, IsWhole, Starts}
+use Rattle.rl_agrees.specs.TwoRunsJobs.{EventWithin, Goes, SameHere, same_here, SameJob, same_in, ReadyCode, Ready, IsWhole, Starts}
 use Rattle.rl_agrees.specs.TwoRunsRuns.{RunsAgree, alike, until_event, until_right_stop, until_left_stop, until_either, until_both_stop, StopsShort, HasRoom, HasNoEvent, SameRun, printed_by, noted_by, printed_first, noted_first, each_itself, names_of, IsSound, running, walking}
 use Rattle.rl_agrees.specs.Laws.{CodeAgrees}
 use Rattle.rl_agrees.proofs.TwoRunsLinked.{linked_cases}
@@ -79,12 +80,17 @@ silent_ends n ps s t o p e h k (returned m a b u v g r l) = returned m a b u v g
 silent_ends n ps s t o p e h k (stopped why u v w) = stopped why u v w
 silent_ends n ps s t o p e h k (parted _ _ a) = parted _ _ (silent_parted s t o p e h k a)
 
+-- ---- an atom is printed, which may break a line
+
+atom_like : (n : Names) (ps : List Place) (bytes : List ℕ) (s t : State) → Like n ps s t → Like n ps (print_atom bytes s) (print_atom bytes t)
+atom_like n ps bytes s t l = record { store = l.store; functions = l.functions; symbols = l.symbols; bindings = l.bindings; counts = l.counts; outside = λ k. let page : Page = with_atom (l.outside k).line_length (record { text = (l.outside k).output; column = (l.outside k).column }) bytes in record (l.outside k) { output = page.text; column = page.column }; gensyms = l.gensyms; compilation = l.compilation }
+
 -- ---- two states side by side
 
-record Abreast (n : Names) (ps : List Place) (s t : State) : Type 0 where
-  like : Like n ps s t
-  whole : IsWhole ps
-  ready : Ready the_compiler t
+pub record Abreast (n : Names) (ps : List Place) (s t : State) : Type 0 where
+  pub like : Like n ps s t
+  pub whole : IsWhole ps
+  pub ready : Ready the_compiler t
 
 abreast_on : (n m : Names) (ps : List Place) (s t u v : State) → Abreast n ps s t → Goes t v → Like m ps u v → Abreast m ps u v
 abreast_on n m ps s t u v i g l = record { like = l; whole = i.whole; ready = ready_stays the_compiler t v g i.ready }
@@ -175,3 +181,95 @@ goes_on_agrees n ps s t o p f g i w x y (returned m a b u v k r l) h = alike _ _
 goes_on_agrees n ps s t o p f g i w x y (stopped why u v e) h = alike _ _ refl e.outside e.turns
 goes_on_agrees n ps s t o p f g i w x y (parted _ _ a) h =
     ran_agrees (goes_on o f) (goes_on p g) _ _ refl refl (parted_in (λ o. as_outcome (goes_on o f)) (λ o. as_outcome (goes_on o g)) o p (goes_on_context f x) (goes_on_context g y) (w.within i.ready.event) a)
+
+module _ (facts : LoopFacts) where
+  -- ---- a statement
+
+  evaluate_is : (h : Here) (a : Tree) (s : State) → job the_compiler (In h Inside a) s ≡ evaluate h a s
+  evaluate_is h a s = facts.fuel.done (In h Inside a) s
+
+  evaluate_ends : (n : Names) (ps : List Place) (h g : Here) (a b : Tree) (s t : State) → SameHere n h g → SameTree n a b → Abreast n ps s t → Ends n ps (evaluate h a s) (evaluate g b t)
+  evaluate_ends n ps h g a b s t x y i =
+      subst (λ o. Ends n ps o (evaluate g b t)) (evaluate_is h a s) (subst (λ o. Ends n ps (job the_compiler (In h Inside a) s) o) (evaluate_is g b t)
+      (facts.composed n ps (In h Inside a) s (In g Inside b) t (record { same = same_in h g Inside a b x y; like = i.like; whole = i.whole; of_state = tt; ready = i.ready })))
+
+  held_goes : (l : Levels) (f : ℕ) (function : Function) (s : State) → Goes s (state_of (held_evaluated l f function s))
+  held_goes l f (HeldFunction held) s = subst (λ o. Goes s (state_of o)) (evaluate_is _ held.body s) (facts.job_goes _ s)
+  held_goes l f (SpecialForm form) s = goes_refl s
+  held_goes l f (NativeFunction native) s = goes_refl s
+
+  held_ends : (n : Names) (ps : List Place) (l m : Levels) (f g : ℕ) (a b : Function) (s t : State) → Roomier l m → Linked n.functions f g → SameFunction n a b → Abreast n ps s t → Ends n ps (held_evaluated l f a s) (held_evaluated m g b t)
+  held_ends n ps l m f g _ _ s t r h (same_special form) i = done n _ _ s t (grows_refl n) (same_id _) i.like
+  held_ends n ps l m f g _ _ s t r h (same_native native) i = done n _ _ s t (grows_refl n) (same_id _) i.like
+  held_ends n ps l m f g _ _ s t r h (same_held_function _ _ (same_held kind parameters kept a b k)) i = evaluate_ends n ps _ _ a b s t (same_here longest_chain kept l m f g r h) k i
+
+  statement_goes : (l : Levels) (v : Value) (s : State) → Goes s (state_of (statement l v s))
+  statement_goes l v s = then_goes {B = Value} s (hold_form l v s) (λ f t. held_evaluated l f (function_at t (pointer_to f)) t) (facts.hold_goes l v s) (λ f t. held_goes l f (function_at t (pointer_to f)) t)
+
+  pub statement_ends : (n : Names) (ps : List Place) (l m : Levels) (v w : Value) (s t : State) → Roomier l m → SameValue n v w → Abreast n ps s t → Ends n ps (statement l v s) (statement m w t)
+  statement_ends n ps l m v w s t r x i =
+      then_abreast {R = SameNumber} n ps s t _ _ _ _ i (facts.hold_goes m w t) (λ f u. held_goes l f (function_at u (pointer_to f)) u) (λ f u. held_goes m f (function_at u (pointer_to f)) u)
+      (silent_ends n ps s t _ _ i.like.outside (facts.hold_silent l v s) (facts.hold_silent m w t) (hold_form_related n ps l m v w s t r x i.like))
+      (λ k f g u y h j. held_ends k ps l m f g _ _ u y r h.linked (function_same k ps u y (pointer_to f) (pointer_to g) j.like (same_pointer f g 0 h.linked)) j)
+
+  after_context : (l : Levels) → Context (λ (o : Outcome Value). after_statement l o)
+  after_context l = record { stops = λ why s. refl; goes = goes }
+    where
+      goes : (o : Outcome Value) → Goes (state_of o) (state_of (after_statement l o))
+      goes (Done v s) = goes_refl s
+      goes (Failed n v s) = facts.error_goes l v s
+      goes (Went x s) = goes_refl s
+      goes (Returned v s) = goes_refl s
+      goes (Stopped why s) = goes_refl s
+
+  pub after_ends : (n : Names) (ps : List Place) (l m : Levels) (s t : State) (o p : Outcome Value) → Abreast n ps s t → Goes t (state_of p) → Ends n ps o p → Related {A = Unit {0}} Parted Is n ps (after_statement l o) (after_statement m p)
+  after_ends n ps l m s t o p i w (done k a b u v g r x) = done k tt tt u v g (is tt) x
+  after_ends n ps l m s t o p i w (failed k z a b u v g r x) = grown n k ps _ _ g (print_error_related k ps l m a b u v r x)
+  after_ends n ps l m s t o p i w (went k z u v g x) = done k tt tt u v g (is tt) x
+  after_ends n ps l m s t o p i w (returned k a b u v g r x) = done k tt tt u v g (is tt) x
+  after_ends n ps l m s t o p i w (stopped why u v e) = stopped why u v e
+  after_ends n ps l m s t o p i w (parted _ _ a) = parted _ _ (parted_in (λ o. after_statement l o) (λ o. after_statement m o) o p (after_context l) (after_context m) (w.within i.ready.event) a)
+
+  after_goes : (l : Levels) (v : Value) (s : State) → Goes s (state_of (after_statement l (statement l v s)))
+  after_goes l v s = goes_trans s _ _ (statement_goes l v s) ((after_context l).goes (statement l v s))
+
+  -- ---- all statements
+
+  reading_goes : (l : Levels) (size : ℕ) (f : List ℕ → State → Ran) → ((bytes : List ℕ) (s : State) → Goes s (f bytes s).state) → (reading : Reading) (s : State) → Goes s (read_and_run l size f reading s).state
+  reading_goes l size f h (Form v rest) s = goes_on_goes {A = Unit {0}} s (after_statement l (statement l v s)) (λ x t. f rest t) (after_goes l v s) (λ x t. h rest t)
+  reading_goes l size f h End s = goes_refl s
+  reading_goes l size f h (Unreadable k from) s = goes_trans s _ _ (facts.unreadable_goes (size - length from) s) (h (behind_line from) _)
+
+  run_goes : (n : ℕ) (l : Levels) (size : ℕ) (bytes : List ℕ) (s : State) → Goes s (run_within n l size bytes s).state
+  run_goes zero l size bytes s = goes_refl s
+  run_goes (suc n) l size bytes s = goes_on_goes {A = Reading} s (read_bytes false l bytes s) (λ reading t. read_and_run l size (λ rest s. run_within n l size rest s) reading t) (facts.read_goes l bytes s) (λ reading t. reading_goes l size (λ rest s. run_within n l size rest s) (λ rest s. run_goes n l size rest s) reading t)
+
+  unreadable_like : (n : Names) (ps : List Place) (k : ℕ) (s t : State) → Like n ps s t → Like n ps (print_unreadable k s) (print_unreadable k t)
+  unreadable_like n ps k s t l =
+      mark_like n ps (10 ∷ []) _ _ (atom_like n ps (error_text unreadable) _ _ (mark_like n ps (32 ∷ []) _ _ (atom_like n ps (decimal (min k (2 ^ 59 - 1))) _ _ (mark_like n ps (codes "***** ") _ _ (fresh_like n ps s t l)))))
+
+  reading_agrees : (n : Names) (ps : List Place) (l m : Levels) (size : ℕ) (f g : List ℕ → State → Ran) (x y : Reading) (s t : State) → Roomier l m
+      → ((bytes : List ℕ) (s : State) → Goes s (f bytes s).state) → ((bytes : List ℕ) (s : State) → Goes s (g bytes s).state)
+      → ((m : Names) (bytes : List ℕ) (u v : State) → Abreast m ps u v → RunsAgree (f bytes u) (g bytes v)) → SameReading n x y → Abreast n ps s t → RunsAgree (read_and_run l size f x s) (read_and_run m size g y t)
+  reading_agrees n ps l m size f g _ _ s t r d e h (same_form v w rest x) i =
+      goes_on_agrees {R = Is} n ps s t _ _ _ _ i (after_goes m w t) (λ z u. d rest u) (λ z u. e rest u)
+      (after_ends n ps l m s t _ _ i (statement_goes m w t) (statement_ends n ps l m v w s t r x i)) (λ k a b u v z j. h k rest u v j)
+  reading_agrees n ps l m size f g _ _ s t r d e h same_end i = alike _ _ refl i.like.outside i.like.counts.turns
+  reading_agrees n ps l m size f g _ _ s t r d e h (same_unreadable k from) i = h n (behind_line from) _ _ (abreast_on n n ps s t _ _ i (facts.unreadable_goes (size - length from) t) (unreadable_like n ps (size - length from) s t i.like))
+
+  run_agrees : (i : ℕ) (n : Names) (ps : List Place) (l m : Levels) (size : ℕ) (bytes : List ℕ) (s t : State) → Roomier l m → Abreast n ps s t → RunsAgree (run_within i l size bytes s) (run_within i m size bytes t)
+  run_agrees zero n ps l m size bytes s t r i = alike _ _ refl i.like.outside i.like.counts.turns
+  run_agrees (suc i) n ps l m size bytes s t r x =
+      goes_on_agrees {R = SameReading} n ps s t _ _ _ _ x (facts.read_goes m bytes t)
+      (λ reading u. reading_goes l size (λ rest s. run_within i l size rest s) (λ rest s. run_goes i l size rest s) reading u)
+      (λ reading u. reading_goes m size (λ rest s. run_within i m size rest s) (λ rest s. run_goes i m size rest s) reading u)
+      (silent_ends n ps s t _ _ x.like.outside (facts.read_silent l bytes s) (facts.read_silent m bytes t) (read_bytes_related n ps false l m bytes s t r x.like))
+      (λ k a b u v z j. reading_agrees k ps l m size (λ rest s. run_within i l size rest s) (λ rest s. run_within i m size rest s) a b u v r (λ rest s. run_goes i l size rest s) (λ rest s. run_goes i m size rest s)
+      (λ o rest u v j. run_agrees i o ps l m size rest u v r j) z j)
+
+  pub bytes_agree : (n : Names) (ps : List Place) (l m : Levels) (bytes : List ℕ) (s t : State) → Roomier l m → Abreast n ps s t → RunsAgree (run_bytes l bytes s) (run_bytes m bytes t)
+  bytes_agree n ps l m bytes s t r i = run_agrees (suc (length bytes)) n ps l m (length bytes) bytes s t r i
+
+  pub file_agrees : (n : Names) (ps : List Place) (l m : Levels) (name : Name) (file : Option (List ℕ)) (s t : State) → Roomier l m → Abreast n ps s t → RunsAgree (run_file l name file s) (run_file m name file t)
+  file_agrees n ps l m name None s t r i = alike _ _ refl i.like.outside i.like.counts.turns
+  file_agrees n ps l m name (Some file) s t r i = bytes_agree n ps l m (source_of file) s t r i
