@@ -8,6 +8,7 @@ use Rattle.rl_meaning.specs.State.{State, Tree, Function, SpecialForm, NativeFun
 use Rattle.rl_meaning.specs.Outcome.{Outcome, Done, Failed, Went, Returned, Stopped, Stop, Missing, then_do, Levels}
 use Rattle.rl_meaning.specs.Opening.{state_of}
 use Rattle.rl_meaning.specs.Errors.{error_text, unreadable}
+use Rattle.rl_meaning.specs.Symbols.{symbol_at}
 use Rattle.rl_meaning.specs.Reach.{same_definition}
 use Rattle.rl_meaning.specs.Standing.{stands, all_stand}
 use Rattle.rl_meaning.specs.Holding.{hold_form, pointer_to, function_at}
@@ -36,7 +37,7 @@ use Rattle.rl_agrees.proofs.TwoRunsReading.{SameReading, same_form, same_end, sa
 use Rattle.rl_agrees.proofs.TwoRunsPrinting.{mark_like, fresh_like, print_error_related}
 use Rattle.rl_agrees.proofs.TwoRunsHolding.{hold_form_related}
 use Rattle.rl_agrees.proofs.TwoRunsKnown.{all_both_whole}
-use Rattle.rl_agrees.proofs.TwoRunsJoined.{begins_trans, take_begins, shown_refl}
+use Rattle.rl_agrees.proofs.TwoRunsJoined.{begins_refl, begins_trans, take_begins, both_begin, shown_refl}
 use Rattle.rl_agrees.proofs.TwoRunsReady.{ready_stays}
 use Rattle.rl_agrees.proofs.TwoRunsComposed.{Respects}
 use Rattle.rl_agrees.proofs.TwoRunsGoes.{goes_refl, goes_trans, then_goes, Context, parted_in, then_context}
@@ -273,3 +274,148 @@ module _ (facts : LoopFacts) where
   pub file_agrees : (n : Names) (ps : List Place) (l m : Levels) (name : Name) (file : Option (List ℕ)) (s t : State) → Roomier l m → Abreast n ps s t → RunsAgree (run_file l name file s) (run_file m name file t)
   file_agrees n ps l m name None s t r i = alike _ _ refl i.like.outside i.like.counts.turns
   file_agrees n ps l m name (Some file) s t r i = bytes_agree n ps l m (source_of file) s t r i
+
+-- ---- the state in which both begin
+
+itself_at : (n r q : ℕ) → (Linked (each_itself n) r q → (r ≡ q) × (r < n)) → ((r ≡ n) × (q ≡ n)) ⊎ Linked (each_itself n) r q → (r ≡ q) × (r < suc n)
+itself_at n r q next (inl e) = (omega (arith, e.0, e.1), omega (arith, e.0))
+itself_at n r q next (inr k) = let e : (r ≡ q) × (r < n) = next k in (e.0, omega (arith, e.1))
+
+itself : (n r q : ℕ) → Linked (each_itself n) r q → (r ≡ q) × (r < n)
+itself zero r q h = absurd (elim h [ ])
+itself (suc n) r q h = itself_at n r q (λ k. itself n r q k) (linked_cases n n r q (each_itself n) h)
+
+itself_once : (n : ℕ) → OneToOne (each_itself n)
+itself_once n = record {
+  right = λ r q p h k. let x : (r ≡ q) × (r < n) = itself n r q h in let y : (r ≡ p) × (r < n) = itself n r p k in sym x.0 ∙ y.0;
+  left = λ r p q h k. let x : (r ≡ q) × (r < n) = itself n r q h in let y : (p ≡ q) × (p < n) = itself n p q k in x.0 ∙ sym y.0;
+}
+
+itself_within : (n : ℕ) → Within (each_itself n) n n
+itself_within n = record {
+  left = λ r q h. let x : (r ≡ q) × (r < n) = itself n r q h in x.1;
+  right = λ r q h. let x : (r ≡ q) × (r < n) = itself n r q h in omega (arith, x.0, x.1);
+}
+
+itself_gets : {A : Type 0} (R : A → A → Type 0) (n : ℕ) (xs : List A) → Each R xs xs → (r q : ℕ) → Linked (each_itself n) r q → Maybe R (slice_get xs r) (slice_get xs q)
+itself_gets R n xs h r q k = let x : (r ≡ q) × (r < n) = itself n r q k in subst (λ p. Maybe R (slice_get xs r) (slice_get xs p)) x.0 (each_get R xs xs r h)
+
+same_expansion : (e : Option Expansion) → SameExpansion e e
+same_expansion None = same_none
+same_expansion (Some e) = same_open e
+
+begins_like : (s : State) (cells : Option ℕ) → IsSound s → IsRoomier s.counts.cells cells → Like (names_of s) (all_both s.bindings) (running s) (walking cells s)
+begins_like s cells h r = record {
+  store = record { once = itself_once (length s.store); within = itself_within (length s.store); is = itself_gets _ (length s.store) s.store h.objects };
+  functions = record { once = itself_once (length s.functions); within = itself_within (length s.functions); is = itself_gets _ (length s.functions) s.functions h.functions };
+  symbols = h.symbols;
+  bindings = h.bindings;
+  counts = record { given = refl; turns = refl; cells = r; expansion = same_expansion s.counts.expansion };
+  outside = refl;
+  gensyms = refl;
+  compilation = record { walks = refl; coded = h.codes; answers = refl; levels = refl; requests = refl; compiles_all = refl };
+}
+
+-- ---- a walk begins ready where its state is
+
+definition_walking : (s : State) (cells : Option ℕ) (x y : Option Definition) → same_definition (walking cells s) x y ≡ same_definition s x y
+definition_walking s cells None None = refl
+definition_walking s cells None (Some e) = refl
+definition_walking s cells (Some d) None = refl
+definition_walking s cells (Some d) (Some e) = refl
+
+stands_walking : (s : State) (cells : Option ℕ) (d : Dependency) → stands (walking cells s) d ≡ stands s d
+stands_walking s cells (Called i) = refl
+stands_walking s cells (Fexpr i) = refl
+stands_walking s cells (Whole i kind p) = definition_walking s cells (Some (record { kind = kind; function = p })) (symbol_at s i).definition
+
+all_stand_walking : (s : State) (cells : Option ℕ) (ds : List Dependency) → all_stand (walking cells s) ds ≡ all_stand s ds
+all_stand_walking s cells [] = refl
+all_stand_walking s cells (d ∷ ds) = ap (λ b. b && all_stand (walking cells s) ds) (stands_walking s cells d) ∙ ap (λ b. stands s d && b) (all_stand_walking s cells ds)
+
+stood_walking : (s : State) (cells : Option ℕ) (cs : List Stood) → AllAsTheyStood s cs → AllAsTheyStood (walking cells s) cs
+stood_walking s cells [] h = tt
+stood_walking s cells (c ∷ cs) h = (h.0, stood_walking s cells cs h.1)
+
+code_walking : (s : State) (cells : Option ℕ) (c : Coded) → ReadyCode the_compiler s c → ReadyCode the_compiler (walking cells s) c
+code_walking s cells c r = record {
+  lowered = r.lowered;
+  held = r.held;
+  stood = r.stood;
+  right = r.right;
+  is = r.is;
+  stands = all_stand_walking s cells c.dependencies ∙ r.stands;
+  constants = stood_walking s cells r.stood r.constants;
+  older = r.older;
+}
+
+ready_walking : (s : State) (cells : Option ℕ) → Ready the_compiler s → Ready the_compiler (walking cells s)
+ready_walking s cells r = record { codes = λ c i. code_walking s cells c (r.codes c i); event = record { printed = r.event.printed; noted = r.event.noted } }
+
+-- ---- what it is that runs agree
+
+same_run : (o p : Ran) → RunsAgree o p → HasNoEvent p → HasRoom o → HasRoom p → SameRun o p
+same_run _ _ (alike o p e x y) n a b = record { ending = e; outside = x; turns = y }
+same_run _ _ (until_event o p r e h) n a b = absurd (cc)
+same_run _ _ (until_right_stop o p why e i h) n a b = absurd (b (record { why = why; is = e; short = i }))
+same_run _ _ (until_left_stop o p why e i h) n a b = absurd (a (record { why = why; is = e; short = i }))
+same_run _ _ (until_either o p why r e i x h k) n a b = absurd (cc)
+same_run _ _ (until_both_stop o p why other e x i j h k) n a b = absurd (a (record { why = why; is = e; short = i }))
+
+front_of : (o p : Ran) → RunsAgree o p → HasNoEvent p → HasRoom p → HasShown o.state.outside.output o.state.outside.notes p.state.outside
+front_of _ _ (alike o p e x y) n b = subst (λ z. HasShown o.state.outside.output o.state.outside.notes z) x (shown_refl o.state.outside)
+front_of _ _ (until_event o p r e h) n b = absurd (cc)
+front_of _ _ (until_right_stop o p why e i h) n b = absurd (b (record { why = why; is = e; short = i }))
+front_of _ _ (until_left_stop o p why e i h) n b = h
+front_of _ _ (until_either o p why r e i x h k) n b = absurd (cc)
+front_of _ _ (until_both_stop o p why other e x i j h k) n b = absurd (b (record { why = other; is = x; short = j }))
+
+printed_begins : (r : Option Recorded) (xs : List ℕ) → Begins (printed_by r xs) xs
+printed_begins None xs = begins_refl xs
+printed_begins (Some r) xs = take_begins r.printed xs
+
+noted_begins : (r : Option Recorded) (xs : List ℕ) → Begins (noted_by r xs) xs
+noted_begins None xs = begins_refl xs
+noted_begins (Some r) xs = take_begins r.noted xs
+
+-- what shows all that a run shows shows what it does first
+first_shown : (o p : Ran) → HasShown p.state.outside.output p.state.outside.notes o.state.outside → HasShown (printed_first p) (noted_first p) o.state.outside
+first_shown o p h = record { output = begins_trans _ _ _ (printed_begins p.state.watched.event p.state.outside.output) h.output; notes = begins_trans _ _ _ (noted_begins p.state.watched.event p.state.outside.notes) h.notes }
+
+shown_at_event : (o p : Ran) (r : Recorded) → p.state.watched.event ≡ Some r → HasShown (take r.printed p.state.outside.output) (take r.noted p.state.outside.notes) o.state.outside → HasShown (printed_first p) (noted_first p) o.state.outside
+shown_at_event o p r e h = subst (λ w. HasShown (printed_by w p.state.outside.output) (noted_by w p.state.outside.notes) o.state.outside) (sym e) h
+
+event_shown : (o p : Ran) → RunsAgree o p → HasRoom o → HasShown (printed_first p) (noted_first p) o.state.outside
+event_shown _ _ (alike o p e x y) a = first_shown o p (subst (λ z. HasShown z.output z.notes o.state.outside) x (shown_refl o.state.outside))
+event_shown _ _ (until_event o p r e h) a = shown_at_event o p r e h
+event_shown _ _ (until_right_stop o p why e i h) a = first_shown o p h
+event_shown _ _ (until_left_stop o p why e i h) a = absurd (a (record { why = why; is = e; short = i }))
+event_shown _ _ (until_either o p why r e i x h k) a = absurd (a (record { why = why; is = e; short = i }))
+event_shown _ _ (until_both_stop o p why other e x i j h k) a = absurd (a (record { why = why; is = e; short = i }))
+
+-- two lists of which one begins with the other, and a front of the first
+front_begins : (x y z : List ℕ) → Begins x y → OneBegins y z → OneBegins x z
+front_begins x y z h (inl k) = inl (begins_trans x y z h k)
+front_begins x y z h (inr k) = both_begin x z y h k
+
+either_shown : (o p : Ran) → RunsAgree o p → OneBegins (printed_first p) o.state.outside.output × OneBegins (noted_first p) o.state.outside.notes
+either_shown _ _ (alike o p e x y) = let h : HasShown (printed_first p) (noted_first p) o.state.outside = first_shown o p (subst (λ z. HasShown z.output z.notes o.state.outside) x (shown_refl o.state.outside)) in (inl h.output, inl h.notes)
+either_shown _ _ (until_event o p r e h) = let k : HasShown (printed_first p) (noted_first p) o.state.outside = shown_at_event o p r e h in (inl k.output, inl k.notes)
+either_shown _ _ (until_right_stop o p why e i h) = let k : HasShown (printed_first p) (noted_first p) o.state.outside = first_shown o p h in (inl k.output, inl k.notes)
+either_shown _ _ (until_left_stop o p why e i h) =
+    (both_begin _ _ p.state.outside.output (printed_begins p.state.watched.event p.state.outside.output) h.output, both_begin _ _ p.state.outside.notes (noted_begins p.state.watched.event p.state.outside.notes) h.notes)
+either_shown _ _ (until_either o p why r e i x h k) =
+    (subst (λ w. OneBegins (printed_by w p.state.outside.output) o.state.outside.output) (sym x) h, subst (λ w. OneBegins (noted_by w p.state.outside.notes) o.state.outside.notes) (sym x) k)
+either_shown _ _ (until_both_stop o p why other e x i j h k) =
+    (front_begins _ _ _ (printed_begins p.state.watched.event p.state.outside.output) h, front_begins _ _ _ (noted_begins p.state.watched.event p.state.outside.notes) k)
+
+-- ---- the law
+
+pub code_agrees : LoopFacts → CodeAgrees
+code_agrees facts = record {
+  runs = λ s l m cells source sound ready r e. bytes_agree facts (names_of s) (all_both s.bindings) l m source (running s) (walking cells s) r (record { like = begins_like s cells sound e; whole = all_both_whole s.bindings; ready = ready_walking s cells ready });
+  same = same_run;
+  event = event_shown;
+  front = front_of;
+  either = either_shown;
+}
