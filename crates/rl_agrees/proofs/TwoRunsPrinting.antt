@@ -1,7 +1,7 @@
 -- Printing of two runs side by side: it prints the same, or one of them has too few levels, and then what it printed is a front of what the other one prints.
-use Rattle.std.proofs.Common.{◌≡◌, ◌==◌, ◌∙◌, ◌+◌, ◌&&◌, if◌then◌else◌, ℕ, zero, suc, Bool, true, false, List, [], ◌∷◌, ◌++◌, length, Option, Some, None, refl, sym, ap, subst}
+use Rattle.std.proofs.Common.{◌≡◌, ◌==◌, ◌∙◌, ◌+◌, ◌&&◌, if◌then◌else◌, ℕ, zero, suc, Bool, true, false, List, [], ◌∷◌, ◌++◌, length, Option, Some, None, refl, sym, subst}
 use Rattle.std.specs.Prelude.{codes, nat_lt}
-use Rattle.std.proofs.lemmas.List.{append_assoc, append-nil}
+use Rattle.std.proofs.lemmas.List.{append-nil}
 use Rattle.rl_tree.specs.Value.{Value, Int, Id, Str, Ref, Fun, Object}
 use Rattle.rl_tree.specs.Atoms.{Style, Prin1, Prin2, atom_text}
 use Rattle.rl_tree.specs.Printing.{Page, Setting, Progress, Ending, Whole, NoTurn, TooDeep, with_text, with_atom, marked, with_atom_of, goes_on, and_then, with_turn_of, with_turn, with_level, Job, Element, Listed, Printer, places_printed, vector_printed, object_printed, value_printed, dotted_atom, rest_object, rest_printed, job_printed, printed}
