@@ -24,4 +24,5 @@ mod TwoRunsReady
 mod TwoRunsAssumed
 mod TwoRunsComposed
 mod TwoRunsGoes
+mod TwoRunsEnding
 mod TwoRunsLoop

@@ -83,11 +83,11 @@ goes_refl s = goes_with s s.counts s.bindings refl
 -- ---- ways of outcomes
 
 pub then_goes : {A B : Type 0} (s : State) (o : Outcome A) (f : A → State → Outcome B) → GoesOn s o → ((a : A) (t : State) → GoesOn t (f a t)) → GoesOn s (then_do o f)
-then_goes s (Done a t) f h k = goes_trans s t (state_of (f a t)) h (k a t)
-then_goes s (Failed n m t) f h k = h
-then_goes s (Went l t) f h k = h
-then_goes s (Returned v t) f h k = h
-then_goes s (Stopped why t) f h k = h
+then_goes s (Done a t) f h k = record { goes = goes_trans s t (state_of (f a t)) h.goes (k a t).goes }
+then_goes s (Failed n m t) f h k = record { goes = h.goes }
+then_goes s (Went l t) f h k = record { goes = h.goes }
+then_goes s (Returned v t) f h k = record { goes = h.goes }
+then_goes s (Stopped why t) f h k = record { goes = h.goes }
 
 pub choose_goes : {A : Type 0} (b : Bool) (s : State) (f g : State → Outcome A) → GoesOn s (f s) → GoesOn s (g s) → GoesOn s (choose b s f g)
 choose_goes true s f g h k = h
@@ -95,14 +95,21 @@ choose_goes false s f g h k = k
 
 entered_goes : {A : Type 0} (b : Bool) (l : ℕ) (s : State) (f : Levels → Outcome A) → ((l : Levels) → GoesOn s (f l)) → GoesOn s (entered b l s f)
 entered_goes true l s f h = h (Some l)
-entered_goes false l s f h = goes_refl s
+entered_goes false l s f h = record { goes = goes_refl s }
 
 pub deeper_goes : {A : Type 0} (n : ℕ) (l : Levels) (s : State) (f : Levels → Outcome A) → ((l : Levels) → GoesOn s (f l)) → GoesOn s (deeper n l s f)
 deeper_goes n None s f h = h None
 deeper_goes n (Some l) s f h = entered_goes _ _ s f h
 
 pub done_goes : {A : Type 0} (a : A) (s : State) → GoesOn s (Done a s)
-done_goes a s = goes_refl s
+done_goes a s = record { goes = goes_refl s }
+
+-- from a state to which this one went
+pub goes_from : {A : Type 0} (r s : State) (o : Outcome A) → Goes r s → GoesOn s o → GoesOn r o
+goes_from r s o h g = record { goes = goes_trans r s (state_of o) h g.goes }
+
+pub goes_to : {A B : Type 0} (s : State) (o : Outcome A) (p : Outcome B) → GoesOn s o → Goes (state_of o) (state_of p) → GoesOn s p
+goes_to s o p h g = record { goes = goes_trans s (state_of o) (state_of p) h.goes g }
 
 -- ---- apart, in what goes on
 
@@ -137,7 +144,7 @@ parted_in {A} {B} C D o p c d w (short_by_event why s _ r x e a b) =
 parted_in {A} {B} C D o p c d w (both_short why other s t x y a b) = subst (λ q. Parted q (D (Stopped other t))) (sym (c.stops why s)) (subst (λ q. Parted (Stopped why s) q) (sym (d.stops other t)) (both_short why other s t x y a b))
 
 pub then_context : {A B : Type 0} (f : A → State → Outcome B) → ((a : A) (t : State) → GoesOn t (f a t)) → Context (λ (o : Outcome A). then_do o f)
-then_context f h = record { stops = λ why s. refl; goes = λ o. then_goes (state_of o) o f (goes_refl (state_of o)) h }
+then_context f h = record { stops = λ why s. refl; goes = λ o. (then_goes (state_of o) o f (record { goes = goes_refl (state_of o) }) h).goes }
 
 pub restored_context : {A : Type 0} (n : ℕ) → Context (λ (o : Outcome A). restored n o)
 restored_context {A} n = record { stops = λ why s. refl; goes = goes }

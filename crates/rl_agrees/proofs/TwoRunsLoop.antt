@@ -29,89 +29,20 @@ use Rattle.rl_agrees.specs.Laws.{CodeAgrees}
 use Rattle.rl_agrees.proofs.TwoRunsLinked.{linked_cases}
 use Rattle.rl_agrees.proofs.TwoRunsGrowth.{grows_refl, grows_trans}
 use Rattle.rl_agrees.proofs.TwoRunsWays.{Beside, Short, Is, is}
-use Rattle.rl_agrees.proofs.TwoRunsWays as short
 use Rattle.rl_agrees.proofs.TwoRunsObjects.{each_get}
 use Rattle.rl_agrees.proofs.TwoRunsForms.{function_same}
-use Rattle.rl_agrees.proofs.TwoRunsReading.{SameReading, same_form, same_end, same_unreadable, read_bytes_related}
-use Rattle.rl_agrees.proofs.TwoRunsPrinting.{mark_like, fresh_like, print_error_related}
-use Rattle.rl_agrees.proofs.TwoRunsHolding.{hold_form_related}
+use Rattle.rl_agrees.proofs.TwoRunsPrinting.{mark_like, fresh_like}
 use Rattle.rl_agrees.proofs.TwoRunsKnown.{all_both_whole}
 use Rattle.rl_agrees.proofs.TwoRunsJoined.{begins_refl, begins_trans, take_begins, both_begin, shown_refl}
-use Rattle.rl_agrees.proofs.TwoRunsReady.{ready_stays}
+use Rattle.rl_agrees.proofs.TwoRunsAssumed.{AskGoes, GoesOn, OneRunFacts, TwoRunsFacts, SameReading, same_form, same_end, same_unreadable}
 use Rattle.rl_agrees.proofs.TwoRunsComposed.{Respects}
-use Rattle.rl_agrees.proofs.TwoRunsGoes.{goes_refl, goes_trans, then_goes, Context, parted_in, then_context}
-
--- ---- what is taken from elsewhere
-
--- nothing is printed or noted
-pub record IsSilent (s t : State) : Type 0 where
-  pub output : t.outside.output ≡ s.outside.output
-  pub notes : t.outside.notes ≡ s.outside.notes
-
--- evaluation respects the relation, and each part of a run goes on from its state
-pub record LoopFacts : Type 0 where
-  pub fuel : IsFuelEnough
-  pub composed : Respects (job the_compiler) (job the_compiler)
-  pub job_goes : (j : Job) (s : State) → Goes s (state_of (job the_compiler j s))
-  pub hold_goes : (l : Levels) (v : Value) (s : State) → Goes s (state_of (hold_form l v s))
-  pub hold_silent : (l : Levels) (v : Value) (s : State) → IsSilent s (state_of (hold_form l v s))
-  pub error_goes : (l : Levels) (v : Value) (s : State) → Goes s (state_of (print_error l v s))
-  pub read_goes : (l : Levels) (bytes : List ℕ) (s : State) → Goes s (state_of (read_bytes false l bytes s))
-  pub read_silent : (l : Levels) (bytes : List ℕ) (s : State) → IsSilent s (state_of (read_bytes false l bytes s))
-  pub unreadable_goes : (k : ℕ) (s : State) → Goes s (print_unreadable k s)
-
--- ---- what is silent
-
-silent_shown : (s t u v : State) → s.outside ≡ t.outside → IsSilent s u → IsSilent t v → HasShown v.outside.output v.outside.notes u.outside
-silent_shown s t u v e h k =
-    let x : u.outside.output ≡ v.outside.output = h.output ∙ ((λ i. (e i).output) ∙ sym k.output) in
-    let y : u.outside.notes ≡ v.outside.notes = h.notes ∙ ((λ i. (e i).notes) ∙ sym k.notes) in
-    subst (λ z. HasShown z v.outside.notes u.outside) x (subst (λ z. HasShown u.outside.output z u.outside) y (shown_refl u.outside))
-
-silent_parted : {A : Type 0} (s t : State) (o p : Outcome A) → s.outside ≡ t.outside → IsSilent s (state_of o) → IsSilent t (state_of p) → Short o p → Parted o p
-silent_parted s t o p e h k (short.right_short _ why v x) = right_short o why v x (silent_shown s t _ v e h k)
-silent_parted s t o p e h k (short.left_short why u _ x) = left_short why u p x (silent_shown t s _ u (sym e) k h)
-
-silent_ends : {A : Type 0} {R : Names → A → A → Type 0} (n : Names) (ps : List Place) (s t : State) (o p : Outcome A) → s.outside ≡ t.outside → IsSilent s (state_of o) → IsSilent t (state_of p) → Beside R n ps o p → Related Parted R n ps o p
-silent_ends n ps s t o p e h k (done m a b u v g r l) = done m a b u v g r l
-silent_ends n ps s t o p e h k (failed m z a b u v g r l) = failed m z a b u v g r l
-silent_ends n ps s t o p e h k (went m z u v g l) = went m z u v g l
-silent_ends n ps s t o p e h k (returned m a b u v g r l) = returned m a b u v g r l
-silent_ends n ps s t o p e h k (stopped why u v w) = stopped why u v w
-silent_ends n ps s t o p e h k (parted _ _ a) = parted _ _ (silent_parted s t o p e h k a)
+use Rattle.rl_agrees.proofs.TwoRunsGoes.{goes_refl, goes_trans, then_goes, Context, parted_in}
+use Rattle.rl_agrees.proofs.TwoRunsEnding.{Sides, further_ends, sides_on, then_ends, quiet_ends}
 
 -- ---- an atom is printed, which may break a line
 
 atom_like : (n : Names) (ps : List Place) (bytes : List ℕ) (s t : State) → Like n ps s t → Like n ps (print_atom bytes s) (print_atom bytes t)
 atom_like n ps bytes s t l = record { store = l.store; functions = l.functions; symbols = l.symbols; bindings = l.bindings; counts = l.counts; outside = λ k. let page : Page = with_atom (l.outside k).line_length (record { text = (l.outside k).output; column = (l.outside k).column }) bytes in record (l.outside k) { output = page.text; column = page.column }; gensyms = l.gensyms; compilation = l.compilation }
-
--- ---- two states side by side
-
-pub record Abreast (n : Names) (ps : List Place) (s t : State) : Type 0 where
-  pub like : Like n ps s t
-  pub whole : IsWhole ps
-  pub ready : Ready the_compiler t
-
-abreast_on : (n m : Names) (ps : List Place) (s t u v : State) → Abreast n ps s t → Goes t v → Like m ps u v → Abreast m ps u v
-abreast_on n m ps s t u v i g l = record { like = l; whole = i.whole; ready = ready_stays the_compiler t v g i.ready }
-
-grown : {A : Type 0} {R : Names → A → A → Type 0} (n m : Names) (ps : List Place) (o p : Outcome A) → Grows n m → Related {A = A} Parted R m ps o p → Related {A = A} Parted R n ps o p
-grown n m ps o p g (done k a b s t h r l) = done k a b s t (grows_trans n m k g h) r l
-grown n m ps o p g (failed k z v w s t h r l) = failed k z v w s t (grows_trans n m k g h) r l
-grown n m ps o p g (went k x s t h l) = went k x s t (grows_trans n m k g h) l
-grown n m ps o p g (returned k v w s t h r l) = returned k v w s t (grows_trans n m k g h) r l
-grown n m ps o p g (stopped why s t e) = stopped why s t e
-grown n m ps o p g (parted _ _ a) = parted _ _ a
-
-then_abreast : {A B : Type 0} {R : Names → A → A → Type 0} {S : Names → B → B → Type 0} (n : Names) (ps : List Place) (s t : State) (o p : Outcome A) (f g : A → State → Outcome B)
-    → Abreast n ps s t → Goes t (state_of p) → ((a : A) (s : State) → Goes s (state_of (f a s))) → ((a : A) (s : State) → Goes s (state_of (g a s))) → Related {A = A} Parted R n ps o p
-    → ((m : Names) (a b : A) (u v : State) → R m a b → Abreast m ps u v → Related {A = B} Parted S m ps (f a u) (g b v)) → Related {A = B} Parted S n ps (then_do o f) (then_do p g)
-then_abreast n ps s t o p f g i w x y (done m a b u v k r l) h = grown n m ps _ _ k (h m a b u v r (abreast_on n m ps s t u v i w l))
-then_abreast n ps s t o p f g i w x y (failed m z a b u v k r l) h = failed m z a b u v k r l
-then_abreast n ps s t o p f g i w x y (went m z u v k l) h = went m z u v k l
-then_abreast n ps s t o p f g i w x y (returned m a b u v k r l) h = returned m a b u v k r l
-then_abreast n ps s t o p f g i w x y (stopped why u v e) h = stopped why u v e
-then_abreast n ps s t o p f g i w x y (parted _ _ a) h = parted _ _ (parted_in (λ o. then_do o f) (λ o. then_do o g) o p (then_context f x) (then_context g y) (w.within i.ready.event) a)
 
 -- ---- runs that are apart
 
@@ -172,9 +103,9 @@ unfolding outcome_of
 goes_on_context {A} f h = record { stops = λ why s. refl; goes = λ o. subst (λ u. Goes (state_of o) u) (sym (state_is (goes_on o f).ending (goes_on o f).state)) (goes_on_goes (state_of o) o f (goes_refl (state_of o)) h) }
 
 goes_on_agrees : {A : Type 0} {R : Names → A → A → Type 0} (n : Names) (ps : List Place) (s t : State) (o p : Outcome A) (f g : A → State → Ran)
-    → Abreast n ps s t → Goes t (state_of p) → ((a : A) (t : State) → Goes t (f a t).state) → ((a : A) (t : State) → Goes t (g a t).state) → Related {A = A} Parted R n ps o p
-    → ((m : Names) (a b : A) (u v : State) → R m a b → Abreast m ps u v → RunsAgree (f a u) (g b v)) → RunsAgree (goes_on o f) (goes_on p g)
-goes_on_agrees n ps s t o p f g i w x y (done m a b u v k r l) h = h m a b u v r (abreast_on n m ps s t u v i w l)
+    → Sides the_compiler n ps s t → Goes t (state_of p) → ((a : A) (t : State) → Goes t (f a t).state) → ((a : A) (t : State) → Goes t (g a t).state) → Related {A = A} Parted R n ps o p
+    → ((m : Names) (a b : A) (u v : State) → R m a b → Sides the_compiler m ps u v → RunsAgree (f a u) (g b v)) → RunsAgree (goes_on o f) (goes_on p g)
+goes_on_agrees n ps s t o p f g i w x y (done m a b u v k r l) h = h m a b u v r (sides_on the_compiler n m ps s t u v i w l)
 goes_on_agrees n ps s t o p f g i w x y (failed m z a b u v k r l) h = alike _ _ refl l.outside l.counts.turns
 goes_on_agrees n ps s t o p f g i w x y (went m z u v k l) h = alike _ _ refl l.outside l.counts.turns
 goes_on_agrees n ps s t o p f g i w x y (returned m a b u v k r l) h = alike _ _ refl l.outside l.counts.turns
@@ -182,67 +113,81 @@ goes_on_agrees n ps s t o p f g i w x y (stopped why u v e) h = alike _ _ refl e
 goes_on_agrees n ps s t o p f g i w x y (parted _ _ a) h =
     ran_agrees (goes_on o f) (goes_on p g) _ _ refl refl (parted_in (λ o. as_outcome (goes_on o f)) (λ o. as_outcome (goes_on o g)) o p (goes_on_context f x) (goes_on_context g y) (w.within i.ready.event) a)
 
+-- evaluation respects the relation; and what is taken of one run, and of two
+pub record LoopFacts : Type 0 where
+  pub fuel : IsFuelEnough
+  pub composed : Respects (job the_compiler) (job the_compiler)
+  pub job_goes : AskGoes (job the_compiler)
+  pub one : OneRunFacts
+  pub two : TwoRunsFacts
+
 module _ (facts : LoopFacts) where
   -- ---- a statement
 
   evaluate_is : (h : Here) (a : Tree) (s : State) → job the_compiler (In h Inside a) s ≡ evaluate h a s
   evaluate_is h a s = facts.fuel.done (In h Inside a) s
 
-  evaluate_ends : (n : Names) (ps : List Place) (h g : Here) (a b : Tree) (s t : State) → SameHere n h g → SameTree n a b → Abreast n ps s t → Ends n ps (evaluate h a s) (evaluate g b t)
+  evaluate_ends : (n : Names) (ps : List Place) (h g : Here) (a b : Tree) (s t : State) → SameHere n h g → SameTree n a b → Sides the_compiler n ps s t → Ends n ps (evaluate h a s) (evaluate g b t)
   evaluate_ends n ps h g a b s t x y i =
       subst (λ o. Ends n ps o (evaluate g b t)) (evaluate_is h a s) (subst (λ o. Ends n ps (job the_compiler (In h Inside a) s) o) (evaluate_is g b t)
       (facts.composed n ps (In h Inside a) s (In g Inside b) t (record { same = same_in h g Inside a b x y; like = i.like; whole = i.whole; of_state = tt; ready = i.ready })))
 
-  held_goes : (l : Levels) (f : ℕ) (function : Function) (s : State) → Goes s (state_of (held_evaluated l f function s))
-  held_goes l f (HeldFunction held) s = subst (λ o. Goes s (state_of o)) (evaluate_is _ held.body s) (facts.job_goes _ s)
-  held_goes l f (SpecialForm form) s = goes_refl s
-  held_goes l f (NativeFunction native) s = goes_refl s
+  held_goes : (l : Levels) (f : ℕ) (function : Function) (s : State) → GoesOn s (held_evaluated l f function s)
+  held_goes l f (HeldFunction held) s = subst (λ o. GoesOn s o) (evaluate_is _ held.body s) (facts.job_goes _ s)
+  held_goes l f (SpecialForm form) s = record { goes = goes_refl s }
+  held_goes l f (NativeFunction native) s = record { goes = goes_refl s }
 
-  held_ends : (n : Names) (ps : List Place) (l m : Levels) (f g : ℕ) (a b : Function) (s t : State) → Roomier l m → Linked n.functions f g → SameFunction n a b → Abreast n ps s t → Ends n ps (held_evaluated l f a s) (held_evaluated m g b t)
+  held_ends : (n : Names) (ps : List Place) (l m : Levels) (f g : ℕ) (a b : Function) (s t : State) → Roomier l m → Linked n.functions f g → SameFunction n a b → Sides the_compiler n ps s t → Ends n ps (held_evaluated l f a s) (held_evaluated m g b t)
   held_ends n ps l m f g _ _ s t r h (same_special form) i = done n _ _ s t (grows_refl n) (same_id _) i.like
   held_ends n ps l m f g _ _ s t r h (same_native native) i = done n _ _ s t (grows_refl n) (same_id _) i.like
   held_ends n ps l m f g _ _ s t r h (same_held_function _ _ (same_held kind parameters kept a b k)) i = evaluate_ends n ps _ _ a b s t (same_here longest_chain kept l m f g r h) k i
 
-  statement_goes : (l : Levels) (v : Value) (s : State) → Goes s (state_of (statement l v s))
-  statement_goes l v s = then_goes {B = Value} s (hold_form l v s) (λ f t. held_evaluated l f (function_at t (pointer_to f)) t) (facts.hold_goes l v s) (λ f t. held_goes l f (function_at t (pointer_to f)) t)
+  statement_goes : (l : Levels) (v : Value) (s : State) → GoesOn s (statement l v s)
+  statement_goes l v s = then_goes s _ _ (facts.one.hold_form_goes l v s) (λ f t. held_goes l f (function_at t (pointer_to f)) t)
 
-  pub statement_ends : (n : Names) (ps : List Place) (l m : Levels) (v w : Value) (s t : State) → Roomier l m → SameValue n v w → Abreast n ps s t → Ends n ps (statement l v s) (statement m w t)
+  pub statement_ends : (n : Names) (ps : List Place) (l m : Levels) (v w : Value) (s t : State) → Roomier l m → SameValue n v w → Sides the_compiler n ps s t → Ends n ps (statement l v s) (statement m w t)
   statement_ends n ps l m v w s t r x i =
-      then_abreast {R = SameNumber} n ps s t _ _ _ _ i (facts.hold_goes m w t) (λ f u. held_goes l f (function_at u (pointer_to f)) u) (λ f u. held_goes m f (function_at u (pointer_to f)) u)
-      (silent_ends n ps s t _ _ i.like.outside (facts.hold_silent l v s) (facts.hold_silent m w t) (hold_form_related n ps l m v w s t r x i.like))
-      (λ k f g u y h j. held_ends k ps l m f g _ _ u y r h.linked (function_same k ps u y (pointer_to f) (pointer_to g) j.like (same_pointer f g 0 h.linked)) j)
+      then_ends the_compiler {R = SameNumber} n ps s t _ _ _ _ i (facts.one.hold_form_goes m w t) (λ f u. held_goes l f (function_at u (pointer_to f)) u) (λ f u. held_goes m f (function_at u (pointer_to f)) u)
+      (quiet_ends n ps s t _ _ i.like (facts.two.hold_form_quiet l v s) (facts.two.hold_form_quiet m w t) (facts.two.hold_form_ n ps l m v w s t r x i.like))
+      (λ k f g u y z h j. held_ends k ps l m f g _ _ u y r h.linked (function_same k ps u y (pointer_to f) (pointer_to g) j.like (same_pointer f g 0 h.linked)) j)
+
+  statement_on : (l : Levels) (v : Value) (s : State) → Goes s (state_of (statement l v s))
+  statement_on l v s = let g : GoesOn s (statement l v s) = statement_goes l v s in g.goes
 
   after_context : (l : Levels) → Context (λ (o : Outcome Value). after_statement l o)
   after_context l = record { stops = λ why s. refl; goes = goes }
     where
       goes : (o : Outcome Value) → Goes (state_of o) (state_of (after_statement l o))
       goes (Done v s) = goes_refl s
-      goes (Failed n v s) = facts.error_goes l v s
+      goes (Failed n v s) = let g : GoesOn s (print_error l v s) = facts.one.print_error_goes l v s in g.goes
       goes (Went x s) = goes_refl s
       goes (Returned v s) = goes_refl s
       goes (Stopped why s) = goes_refl s
 
-  pub after_ends : (n : Names) (ps : List Place) (l m : Levels) (s t : State) (o p : Outcome Value) → Abreast n ps s t → Goes t (state_of p) → Ends n ps o p → Related {A = Unit {0}} Parted Is n ps (after_statement l o) (after_statement m p)
+  pub after_ends : (n : Names) (ps : List Place) (l m : Levels) (s t : State) (o p : Outcome Value) → Sides the_compiler n ps s t → Goes t (state_of p) → Ends n ps o p → Related {A = Unit {0}} Parted Is n ps (after_statement l o) (after_statement m p)
   after_ends n ps l m s t o p i w (done k a b u v g r x) = done k tt tt u v g (is tt) x
-  after_ends n ps l m s t o p i w (failed k z a b u v g r x) = grown n k ps _ _ g (print_error_related k ps l m a b u v r x)
+  after_ends n ps l m s t o p i w (failed k z a b u v g r x) = further_ends n k ps _ _ g (facts.two.print_error_ k ps l m a b u v r x)
   after_ends n ps l m s t o p i w (went k z u v g x) = done k tt tt u v g (is tt) x
   after_ends n ps l m s t o p i w (returned k a b u v g r x) = done k tt tt u v g (is tt) x
   after_ends n ps l m s t o p i w (stopped why u v e) = stopped why u v e
   after_ends n ps l m s t o p i w (parted _ _ a) = parted _ _ (parted_in (λ o. after_statement l o) (λ o. after_statement m o) o p (after_context l) (after_context m) (w.within i.ready.event) a)
 
   after_goes : (l : Levels) (v : Value) (s : State) → Goes s (state_of (after_statement l (statement l v s)))
-  after_goes l v s = goes_trans s _ _ (statement_goes l v s) ((after_context l).goes (statement l v s))
+  after_goes l v s = let c : Context (λ (o : Outcome Value). after_statement l o) = after_context l in goes_trans s _ _ (statement_on l v s) (c.goes (statement l v s))
 
   -- ---- all statements
+
+  read_goes : (l : Levels) (bytes : List ℕ) (s : State) → Goes s (state_of (read_bytes false l bytes s))
+  read_goes l bytes s = let g : GoesOn s (read_bytes false l bytes s) = facts.one.read_goes false l bytes s in g.goes
 
   reading_goes : (l : Levels) (size : ℕ) (f : List ℕ → State → Ran) → ((bytes : List ℕ) (s : State) → Goes s (f bytes s).state) → (reading : Reading) (s : State) → Goes s (read_and_run l size f reading s).state
   reading_goes l size f h (Form v rest) s = goes_on_goes {A = Unit {0}} s (after_statement l (statement l v s)) (λ x t. f rest t) (after_goes l v s) (λ x t. h rest t)
   reading_goes l size f h End s = goes_refl s
-  reading_goes l size f h (Unreadable k from) s = goes_trans s _ _ (facts.unreadable_goes (size - length from) s) (h (behind_line from) _)
+  reading_goes l size f h (Unreadable k from) s = goes_trans s _ _ (facts.one.unreadable_goes (size - length from) s) (h (behind_line from) _)
 
   run_goes : (n : ℕ) (l : Levels) (size : ℕ) (bytes : List ℕ) (s : State) → Goes s (run_within n l size bytes s).state
   run_goes zero l size bytes s = goes_refl s
-  run_goes (suc n) l size bytes s = goes_on_goes {A = Reading} s (read_bytes false l bytes s) (λ reading t. read_and_run l size (λ rest s. run_within n l size rest s) reading t) (facts.read_goes l bytes s) (λ reading t. reading_goes l size (λ rest s. run_within n l size rest s) (λ rest s. run_goes n l size rest s) reading t)
+  run_goes (suc n) l size bytes s = goes_on_goes {A = Reading} s (read_bytes false l bytes s) (λ reading t. read_and_run l size (λ rest s. run_within n l size rest s) reading t) (read_goes l bytes s) (λ reading t. reading_goes l size (λ rest s. run_within n l size rest s) (λ rest s. run_goes n l size rest s) reading t)
 
   unreadable_like : (n : Names) (ps : List Place) (k : ℕ) (s t : State) → Like n ps s t → Like n ps (print_unreadable k s) (print_unreadable k t)
   unreadable_like n ps k s t l =
@@ -250,27 +195,27 @@ module _ (facts : LoopFacts) where
 
   reading_agrees : (n : Names) (ps : List Place) (l m : Levels) (size : ℕ) (f g : List ℕ → State → Ran) (x y : Reading) (s t : State) → Roomier l m
       → ((bytes : List ℕ) (s : State) → Goes s (f bytes s).state) → ((bytes : List ℕ) (s : State) → Goes s (g bytes s).state)
-      → ((m : Names) (bytes : List ℕ) (u v : State) → Abreast m ps u v → RunsAgree (f bytes u) (g bytes v)) → SameReading n x y → Abreast n ps s t → RunsAgree (read_and_run l size f x s) (read_and_run m size g y t)
+      → ((m : Names) (bytes : List ℕ) (u v : State) → Sides the_compiler m ps u v → RunsAgree (f bytes u) (g bytes v)) → SameReading n x y → Sides the_compiler n ps s t → RunsAgree (read_and_run l size f x s) (read_and_run m size g y t)
   reading_agrees n ps l m size f g _ _ s t r d e h (same_form v w rest x) i =
       goes_on_agrees {R = Is} n ps s t _ _ _ _ i (after_goes m w t) (λ z u. d rest u) (λ z u. e rest u)
-      (after_ends n ps l m s t _ _ i (statement_goes m w t) (statement_ends n ps l m v w s t r x i)) (λ k a b u v z j. h k rest u v j)
+      (after_ends n ps l m s t _ _ i (statement_on m w t) (statement_ends n ps l m v w s t r x i)) (λ k a b u v z j. h k rest u v j)
   reading_agrees n ps l m size f g _ _ s t r d e h same_end i = alike _ _ refl i.like.outside i.like.counts.turns
-  reading_agrees n ps l m size f g _ _ s t r d e h (same_unreadable k from) i = h n (behind_line from) _ _ (abreast_on n n ps s t _ _ i (facts.unreadable_goes (size - length from) t) (unreadable_like n ps (size - length from) s t i.like))
+  reading_agrees n ps l m size f g _ _ s t r d e h (same_unreadable k from) i = h n (behind_line from) _ _ (sides_on the_compiler n n ps s t _ _ i (facts.one.unreadable_goes (size - length from) t) (unreadable_like n ps (size - length from) s t i.like))
 
-  run_agrees : (i : ℕ) (n : Names) (ps : List Place) (l m : Levels) (size : ℕ) (bytes : List ℕ) (s t : State) → Roomier l m → Abreast n ps s t → RunsAgree (run_within i l size bytes s) (run_within i m size bytes t)
+  run_agrees : (i : ℕ) (n : Names) (ps : List Place) (l m : Levels) (size : ℕ) (bytes : List ℕ) (s t : State) → Roomier l m → Sides the_compiler n ps s t → RunsAgree (run_within i l size bytes s) (run_within i m size bytes t)
   run_agrees zero n ps l m size bytes s t r i = alike _ _ refl i.like.outside i.like.counts.turns
   run_agrees (suc i) n ps l m size bytes s t r x =
-      goes_on_agrees {R = SameReading} n ps s t _ _ _ _ x (facts.read_goes m bytes t)
+      goes_on_agrees {R = SameReading} n ps s t _ _ _ _ x (read_goes m bytes t)
       (λ reading u. reading_goes l size (λ rest s. run_within i l size rest s) (λ rest s. run_goes i l size rest s) reading u)
       (λ reading u. reading_goes m size (λ rest s. run_within i m size rest s) (λ rest s. run_goes i m size rest s) reading u)
-      (silent_ends n ps s t _ _ x.like.outside (facts.read_silent l bytes s) (facts.read_silent m bytes t) (read_bytes_related n ps false l m bytes s t r x.like))
+      (quiet_ends n ps s t _ _ x.like (facts.two.read_quiet false l bytes s) (facts.two.read_quiet false m bytes t) (facts.two.read_ n ps false l m bytes s t r x.like))
       (λ k a b u v z j. reading_agrees k ps l m size (λ rest s. run_within i l size rest s) (λ rest s. run_within i m size rest s) a b u v r (λ rest s. run_goes i l size rest s) (λ rest s. run_goes i m size rest s)
       (λ o rest u v j. run_agrees i o ps l m size rest u v r j) z j)
 
-  pub bytes_agree : (n : Names) (ps : List Place) (l m : Levels) (bytes : List ℕ) (s t : State) → Roomier l m → Abreast n ps s t → RunsAgree (run_bytes l bytes s) (run_bytes m bytes t)
+  pub bytes_agree : (n : Names) (ps : List Place) (l m : Levels) (bytes : List ℕ) (s t : State) → Roomier l m → Sides the_compiler n ps s t → RunsAgree (run_bytes l bytes s) (run_bytes m bytes t)
   bytes_agree n ps l m bytes s t r i = run_agrees (suc (length bytes)) n ps l m (length bytes) bytes s t r i
 
-  pub file_agrees : (n : Names) (ps : List Place) (l m : Levels) (name : Name) (file : Option (List ℕ)) (s t : State) → Roomier l m → Abreast n ps s t → RunsAgree (run_file l name file s) (run_file m name file t)
+  pub file_agrees : (n : Names) (ps : List Place) (l m : Levels) (name : Name) (file : Option (List ℕ)) (s t : State) → Roomier l m → Sides the_compiler n ps s t → RunsAgree (run_file l name file s) (run_file m name file t)
   file_agrees n ps l m name None s t r i = alike _ _ refl i.like.outside i.like.counts.turns
   file_agrees n ps l m name (Some file) s t r i = bytes_agree n ps l m (source_of file) s t r i
 
