@@ -5,30 +5,30 @@ use Rattle.rl_tree.specs.Value.{Value}
 use Rattle.rl_tree.specs.Name.{Name}
 use Rattle.rl_tree.specs.Printing.{Page, with_atom}
 use Rattle.rl_meaning.specs.State.{State, Tree, Function, SpecialForm, NativeFunction, HeldFunction, Definition, Dependency, Called, Fexpr, Whole, Coded, Expansion, Recorded}
-use Rattle.rl_meaning.specs.Outcome.{Outcome, Done, Failed, Went, Returned, Stopped, Stop, then_do, Levels}
+use Rattle.rl_meaning.specs.Outcome.{Outcome, Done, Failed, Went, Returned, Stopped, Stop, Levels}
 use Rattle.rl_meaning.specs.Opening.{state_of}
 use Rattle.rl_meaning.specs.Errors.{error_text, unreadable}
 use Rattle.rl_meaning.specs.Symbols.{symbol_at}
 use Rattle.rl_meaning.specs.Reach.{same_definition}
 use Rattle.rl_meaning.specs.Standing.{stands, all_stand}
-use Rattle.rl_meaning.specs.Holding.{hold_form, pointer_to, function_at}
+use Rattle.rl_meaning.specs.Holding.{pointer_to, function_at}
 use Rattle.rl_meaning.specs.Printing.{print_error}
 use Rattle.rl_meaning.specs.Input.{Reading, Form, End, Unreadable, read_bytes}
-use Rattle.rl_meaning.specs.Evaluation.{Job, In, Inside, Here, longest_chain}
+use Rattle.rl_meaning.specs.Evaluation.{In, Inside, Here, longest_chain}
 use Rattle.rl_meaning.specs.Jobs.{job, the_compiler, evaluate}
 use Rattle.rl_meaning.specs.Laws.{IsFuelEnough}
 use Rattle.rl_meaning.specs.Run.{Ending, Finished, Stops, Ran, held_evaluated, statement, after_statement, print_atom, print_unreadable, behind_line, goes_on, read_and_run, run_within, run_bytes, source_of, run_file}
 use Rattle.rl_meaning.specs.TwoRunsLinks.{Linked, OneToOne, Within}
-use Rattle.rl_meaning.specs.TwoRunsValues.{Names, Grows, Maybe, Each, SameValue, same_id, SameTree, SameFunction, same_special, same_native, same_held_function, same_held, same_pointer, SameNumber}
+use Rattle.rl_meaning.specs.TwoRunsValues.{Names, Maybe, Each, SameValue, same_id, SameTree, SameFunction, same_special, same_native, same_held_function, same_held, same_pointer, SameNumber}
 use Rattle.rl_meaning.specs.TwoRunsStates.{Place, all_both, SameExpansion, same_none, same_open, IsRoomier, Roomier, Like}
 use Rattle.rl_meaning.specs.TwoRunsEnds.{Begins, HasShown, OneBegins, Parted, by_event, right_short, left_short, short_by_event, both_short, Related, done, failed, went, returned, stopped, parted, Ends}
 use Rattle.rl_meaning.specs.Right.{Stood, AllAsTheyStood}
-use Rattle.rl_agrees.specs.TwoRunsJobs.{Goes, SameHere, same_here, same_in, ReadyCode, Ready, IsWhole}
+use Rattle.rl_agrees.specs.TwoRunsJobs.{Goes, SameHere, same_here, same_in, ReadyCode, Ready}
 use Rattle.rl_agrees.specs.TwoRunsRuns.{RunsAgree, alike, until_event, until_right_stop, until_left_stop, until_either, until_both_stop, HasRoom, HasNoEvent, SameRun, printed_by, noted_by, printed_first, noted_first, each_itself, names_of, IsSound, running, walking}
 use Rattle.rl_agrees.specs.Laws.{CodeAgrees}
 use Rattle.rl_agrees.proofs.TwoRunsLinked.{linked_cases}
-use Rattle.rl_agrees.proofs.TwoRunsGrowth.{grows_refl, grows_trans}
-use Rattle.rl_agrees.proofs.TwoRunsWays.{Beside, Short, Is, is}
+use Rattle.rl_agrees.proofs.TwoRunsGrowth.{grows_refl}
+use Rattle.rl_agrees.proofs.TwoRunsWays.{Is, is}
 use Rattle.rl_agrees.proofs.TwoRunsObjects.{each_get}
 use Rattle.rl_agrees.proofs.TwoRunsForms.{function_same}
 use Rattle.rl_agrees.proofs.TwoRunsPrinting.{mark_like, fresh_like}
