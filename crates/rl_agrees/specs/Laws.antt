@@ -10,14 +10,14 @@ use Rattle.rl_agrees.specs.TwoRunsJobs.{Ready}
 use Rattle.rl_agrees.specs.TwoRunsRuns.{RunsAgree, HasRoom, HasNoEvent, SameRun, printed_first, noted_first, IsSound, running, walking}
 
 pub record CodeAgrees : Type 0 where
-  -- from one sound state in which each code is right, over one source, where of two bounds that of the walk is no wider
+  -- from one sound state in which each code is right and rests on what stands, over one source; where both have a bound, that of the walk is no wider
   pub runs : (s : State) (l m : Levels) (cells : Option ℕ) (source : List ℕ) → IsSound s → Ready the_compiler s → Roomier l m → IsRoomier s.counts.cells cells
       → RunsAgree (run_bytes l source (running s)) (run_bytes m source (walking cells s))
-  -- which is: where the walk has no event, and neither stops for cells or levels, all that is to be seen is the same
+  -- which is: where the walk has no event, and neither stops for cells or levels, endings, output, notes, input and turns are the same
   pub same : (o p : Ran) → RunsAgree o p → HasNoEvent p → HasRoom o → HasRoom p → SameRun o p
-  -- where the run does not stop so, it shows all that the walk shows until its event
+  -- a run that does not stop so prints and notes all that the walk does until its first event
   pub event : (o p : Ran) → RunsAgree o p → HasRoom o → HasShown (printed_first p) (noted_first p) o.state.outside
-  -- where the walk has no event and does not stop so, it shows all that the run shows
+  -- a walk that has no event and does not stop so prints and notes all that the run does, wherever the run stops
   pub front : (o p : Ran) → RunsAgree o p → HasNoEvent p → HasRoom p → HasShown o.state.outside.output o.state.outside.notes p.state.outside
-  -- and else, of what the run shows and what the walk shows until its event, one begins with the other
+  -- and in any case, of what the run does and what the walk does until its first event, one begins with the other
   pub either : (o p : Ran) → RunsAgree o p → OneBegins (printed_first p) o.state.outside.output × OneBegins (noted_first p) o.state.outside.notes
