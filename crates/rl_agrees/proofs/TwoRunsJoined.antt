@@ -263,7 +263,7 @@ like_joined m k ps qs s t u e w v h g = let once : Once k = record { objects = g
 
 -- ---- fronts
 
-begins_refl : (x : List ℕ) → Begins x x
+pub begins_refl : (x : List ℕ) → Begins x x
 begins_refl x = record { rest = []; is = sym (append-nil x) }
 
 pub begins_trans : (x y z : List ℕ) → Begins x y → Begins y z → Begins x z

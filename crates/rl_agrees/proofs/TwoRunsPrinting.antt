@@ -1,7 +1,7 @@
 -- Printing of two runs side by side: it prints the same, or one of them has too few levels, and then what it printed is a front of what the other one prints.
-use Rattle.std.proofs.Common.{◌≡◌, ◌==◌, ◌∙◌, ◌+◌, ◌&&◌, if◌then◌else◌, ℕ, zero, suc, Bool, true, false, List, [], ◌∷◌, ◌++◌, length, Option, Some, None, refl, sym, ap, subst}
+use Rattle.std.proofs.Common.{◌≡◌, ◌==◌, ◌∙◌, ◌+◌, ◌&&◌, if◌then◌else◌, ℕ, zero, suc, Bool, true, false, List, [], ◌∷◌, ◌++◌, length, Option, Some, None, refl, sym, subst}
 use Rattle.std.specs.Prelude.{codes, nat_lt}
-use Rattle.std.proofs.lemmas.List.{append_assoc, append-nil}
+use Rattle.std.proofs.lemmas.List.{append-nil}
 use Rattle.rl_tree.specs.Value.{Value, Int, Id, Str, Ref, Fun, Object}
 use Rattle.rl_tree.specs.Atoms.{Style, Prin1, Prin2, atom_text}
 use Rattle.rl_tree.specs.Printing.{Page, Setting, Progress, Ending, Whole, NoTurn, TooDeep, with_text, with_atom, marked, with_atom_of, goes_on, and_then, with_turn_of, with_turn, with_level, Job, Element, Listed, Printer, places_printed, vector_printed, object_printed, value_printed, dotted_atom, rest_object, rest_printed, job_printed, printed}
@@ -16,17 +16,12 @@ use Rattle.rl_meaning.specs.TwoRunsEnds.{Begins, HasShown, short_of_levels, Part
 use Rattle.rl_agrees.proofs.TwoRunsGrowth.{grows_refl}
 use Rattle.rl_agrees.proofs.TwoRunsWays.{Is, is, with_counts_like, left_same, whole_read_like}
 use Rattle.rl_agrees.proofs.TwoRunsAtoms.{text_same, names_same}
+use Rattle.rl_agrees.proofs.TwoRunsJoined.{begins_refl, begins_trans}
 
 -- ---- fronts
 
-pub begins_refl : (xs : List ℕ) → Begins xs xs
-begins_refl xs = record { rest = []; is = sym (append-nil xs) }
-
 pub begins_more : (xs ys : List ℕ) → Begins xs (xs ++ ys)
 begins_more xs ys = record { rest = ys; is = refl }
-
-pub begins_trans : (xs ys zs : List ℕ) → Begins xs ys → Begins ys zs → Begins xs zs
-begins_trans xs ys zs h k = record { rest = h.rest ++ k.rest; is = k.is ∙ ap (λ l. l ++ k.rest) h.is ∙ append_assoc xs h.rest k.rest }
 
 -- ---- how far two printings come
 
@@ -309,7 +304,7 @@ mark_like n ps bytes s t l = record { store = l.store; functions = l.functions; 
 line_shown : (s : State) → Shows s (print_end_of_line s)
 line_shown s = record { output = begins_more s.outside.output (10 ∷ []); notes = begins_refl s.outside.notes }
 
-fresh_like : (n : Names) (ps : List Place) (s t : State) → Like n ps s t → Like n ps (fresh_line s) (fresh_line t)
+pub fresh_like : (n : Names) (ps : List Place) (s t : State) → Like n ps s t → Like n ps (fresh_line s) (fresh_line t)
 fresh_like n ps s t l = at (s.outside.column == 0) (t.outside.column == 0) (λ k. (l.outside k).column == 0)
   where
     at : (b c : Bool) → b ≡ c → Like n ps (if b then s else print_end_of_line s) (if c then t else print_end_of_line t)

@@ -1,4 +1,4 @@
--- Laws of one run: what was there stays, and only a statement of a PROG leaves by GO or RETURN.
+-- Laws of one run: what was there stays, and only a statement of a PROG leaves by GO or RETURN. And the law of two runs: one in which code runs agrees with the walk of the same program (this project's).
 use Rattle.std.specs.Prelude.{◌≡◌, ℕ, false, List, Option}
 use Rattle.rl_tree.specs.Name.{Name}
 use Rattle.rl_meaning.specs.State.{State}
@@ -6,9 +6,13 @@ use Rattle.rl_meaning.specs.Outcome.{Levels}
 use Rattle.rl_meaning.specs.Evaluation.{Job}
 use Rattle.rl_meaning.specs.Jobs.{job, the_compiler}
 use Rattle.rl_meaning.specs.Opening.{state_of}
-use Rattle.rl_meaning.specs.Run.{run_bytes, run_file}
+use Rattle.rl_meaning.specs.Run.{Ran, run_bytes, run_file}
+use Rattle.rl_meaning.specs.TwoRunsStates.{IsRoomier, Roomier}
+use Rattle.rl_meaning.specs.TwoRunsEnds.{HasShown, OneBegins}
 use Rattle.rl_agrees.specs.Later.{Later}
 use Rattle.rl_agrees.specs.Leaving.{IsPlain, is_statement}
+use Rattle.rl_agrees.specs.TwoRunsJobs.{Ready}
+use Rattle.rl_agrees.specs.TwoRunsRuns.{RunsAgree, HasRoom, HasNoEvent, SameRun, printed_first, noted_first, IsSound, running, walking}
 
 -- the state behind a job, and behind a run, is later than the one before
 pub record RunsGoOn : Type 0 where
@@ -18,3 +22,16 @@ pub record RunsGoOn : Type 0 where
 
 pub record OnlyStatementsLeave : Type 0 where
   pub plain : (j : Job) (s : State) → is_statement j ≡ false → IsPlain (job the_compiler j s)
+
+pub record CodeAgrees : Type 0 where
+  -- from one sound state in which each code is right and rests on what stands, over one source; where both have a bound, that of the walk is no wider
+  pub runs : (s : State) (l m : Levels) (cells : Option ℕ) (source : List ℕ) → IsSound s → Ready the_compiler s → Roomier l m → IsRoomier s.counts.cells cells
+      → RunsAgree (run_bytes l source (running s)) (run_bytes m source (walking cells s))
+  -- which is: where the walk has no event, and neither stops for cells or levels, endings, output, notes, input and turns are the same
+  pub same : (o p : Ran) → RunsAgree o p → HasNoEvent p → HasRoom o → HasRoom p → SameRun o p
+  -- a run that does not stop so prints and notes all that the walk does until its first event
+  pub event : (o p : Ran) → RunsAgree o p → HasRoom o → HasShown (printed_first p) (noted_first p) o.state.outside
+  -- a walk that has no event and does not stop so prints and notes all that the run does, wherever the run stops
+  pub front : (o p : Ran) → RunsAgree o p → HasNoEvent p → HasRoom p → HasShown o.state.outside.output o.state.outside.notes p.state.outside
+  -- and in any case, of what the run does and what the walk does until its first event, one begins with the other
+  pub either : (o p : Ran) → RunsAgree o p → OneBegins (printed_first p) o.state.outside.output × OneBegins (noted_first p) o.state.outside.notes

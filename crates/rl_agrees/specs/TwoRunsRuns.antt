@@ -1,8 +1,11 @@
 -- What it is for two whole runs to agree: the left one may run code, the right one walks all functions (this project's).
-use Rattle.std.specs.Prelude.{◌≡◌, take, Some}
-use Rattle.rl_meaning.specs.State.{Recorded}
+use Rattle.std.specs.Prelude.{◌≡◌, ℕ, zero, suc, true, false, List, length, take, Option, Some, None}
+use Rattle.rl_meaning.specs.State.{State, Recorded}
 use Rattle.rl_meaning.specs.Outcome.{Stop}
 use Rattle.rl_meaning.specs.Run.{Ran, Stops}
+use Rattle.rl_meaning.specs.TwoRunsLinks.{Links, unlinked, link}
+use Rattle.rl_meaning.specs.TwoRunsValues.{Names, Each, SameObject, SameFunction, SameSymbol, SameCoded}
+use Rattle.rl_meaning.specs.TwoRunsStates.{Aligned, all_both}
 use Rattle.rl_meaning.specs.TwoRunsEnds.{HasShown, IsShort, OneBegins}
 
 pub data RunsAgree : Ran → Ran → Type 0 where
@@ -19,3 +22,66 @@ pub data RunsAgree : Ran → Ran → Type 0 where
   -- both stopped for cells or levels: of what each had shown, one begins with the other
   until_both_stop : (o p : Ran) (why other : Stop) → o.ending ≡ Stops why → p.ending ≡ Stops other → IsShort why → IsShort other
       → OneBegins p.state.outside.output o.state.outside.output → OneBegins p.state.outside.notes o.state.outside.notes → RunsAgree o p
+
+-- ---- what is to be seen of a run
+
+-- it stopped for cells or levels
+pub record StopsShort (o : Ran) : Type 0 where
+  pub why : Stop
+  pub is : o.ending ≡ Stops why
+  pub short : IsShort why
+
+abbrev pub HasRoom : Ran → Type 0
+HasRoom o = StopsShort o → ⊥
+
+abbrev pub HasNoEvent : Ran → Type 0
+HasNoEvent o = o.state.watched.event ≡ None
+
+-- the same endings, output, notes, input and turns
+pub record SameRun (o p : Ran) : Type 0 where
+  pub ending : o.ending ≡ p.ending
+  pub outside : o.state.outside ≡ p.state.outside
+  pub turns : o.state.counts.turns ≡ p.state.counts.turns
+
+-- of this output, or of these notes, what was there at an event; or all, where there was none
+abbrev pub printed_by : Option Recorded → List ℕ → List ℕ
+printed_by None output = output
+printed_by (Some r) output = take r.printed output
+
+abbrev pub noted_by : Option Recorded → List ℕ → List ℕ
+noted_by None notes = notes
+noted_by (Some r) notes = take r.noted notes
+
+-- what a run printed and noted until its first event
+abbrev pub printed_first : Ran → List ℕ
+printed_first o = printed_by o.state.watched.event o.state.outside.output
+
+abbrev pub noted_first : Ran → List ℕ
+noted_first o = noted_by o.state.watched.event o.state.outside.notes
+
+-- ---- where two runs begin
+
+-- each number below this one is itself
+abbrev pub each_itself : ℕ → Links
+each_itself zero = unlinked
+each_itself (suc n) = link n n (each_itself n)
+
+-- the objects and functions of a state, each of which is itself
+abbrev pub names_of : State → Names
+names_of s = record { objects = each_itself (length s.store); functions = each_itself (length s.functions) }
+
+-- all that a state names is of the state: no object, function, identifier, binding or code has a number that stands for nothing
+pub record IsSound (s : State) : Type 0 where
+  pub objects : Each (SameObject (names_of s)) s.store s.store
+  pub functions : Each (SameFunction (names_of s)) s.functions s.functions
+  pub symbols : Each (SameSymbol (names_of s)) s.symbols s.symbols
+  pub bindings : Aligned (names_of s) (all_both s.bindings) s.bindings s.bindings
+  pub codes : Each (SameCoded (names_of s)) s.compilation.coded s.compilation.coded
+
+-- code runs
+abbrev pub running : State → State
+running s = record s { compilation = record s.compilation { runs_code = true } }
+
+-- all functions are walked, with so many cells
+abbrev pub walking : Option ℕ → State → State
+walking cells s = record s { counts = record s.counts { cells = cells }; compilation = record s.compilation { runs_code = false } }
