@@ -56,5 +56,6 @@ mod TwoRunsGoes
 mod TwoRunsEnding
 mod TwoRunsAsked
 mod TwoRunsEvaluation
+mod TwoRunsBlock
 mod TwoRunsMachine
 mod TwoRunsLoop

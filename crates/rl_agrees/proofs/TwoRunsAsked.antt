@@ -1,13 +1,13 @@
 -- What is asked of jobs and of the compiler of two runs side by side, and the states between which they stand.
-use Rattle.std.proofs.Common.{◌≡◌, ◌∙◌, ℕ, List, Option, Some, None, refl}
+use Rattle.std.proofs.Common.{ℕ, List, Option, Some, None}
 use Rattle.rl_tree.specs.Value.{Value}
-use Rattle.rl_meaning.specs.State.{State, Held, Pointer, Tree}
-use Rattle.rl_meaning.specs.Outcome.{Outcome, Stopped, Unbuilt, Levels}
+use Rattle.rl_meaning.specs.State.{State}
+use Rattle.rl_meaning.specs.Outcome.{Unbuilt}
 use Rattle.rl_meaning.specs.Evaluation.{Job, Run, Onward, Call_, From, In, Rec}
 use Rattle.rl_meaning.specs.Compiling.{Compiler, no_compiler}
 use Rattle.rl_meaning.specs.TwoRunsValues.{Names, Each, SameValue}
 use Rattle.rl_meaning.specs.TwoRunsStates.{Place, Like}
-use Rattle.rl_agrees.specs.TwoRunsJobs.{Goes, SameJob, Ready, IsOfState, IsWhole, Starts, EndsOf}
+use Rattle.rl_agrees.specs.TwoRunsJobs.{Goes, SameJob, IsOfState, Starts, EndsOf}
 use Rattle.rl_agrees.proofs.TwoRunsReady.{function_stays, ready_stays}
 use Rattle.rl_agrees.proofs.TwoRunsAssumed.{Ask, AskGoes, GoesOn, RecGoes}
 use Rattle.rl_agrees.proofs.TwoRunsGoes.{goes_refl}

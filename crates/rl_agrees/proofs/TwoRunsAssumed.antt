@@ -5,7 +5,7 @@ use Rattle.rl_tree.specs.declared.held.Kind.{Kind}
 use Rattle.rl_meaning.specs.Names.{Native, Special, Operation, Set, Prin1, Prin2, Print, Terpri}
 use Rattle.rl_meaning.specs.State.{State, Code, Tree, Kept, Held, Pointer, Function}
 use Rattle.rl_meaning.specs.Outcome.{Outcome, Levels, made_pair}
-use Rattle.rl_meaning.specs.Symbols.{with_top}
+use Rattle.rl_meaning.specs.Symbols.{with_top, list_elements}
 use Rattle.rl_meaning.specs.Constants.{objects_read}
 use Rattle.rl_meaning.specs.Holding.{hold_form, hold_expansion, hold_function, elements_of}
 use Rattle.rl_meaning.specs.Copying.{copied}
@@ -149,6 +149,7 @@ pub record TwoRunsFacts : Type 0 where
   pub assigned_ : (n : Names) (ps : List Place) (x : ℕ) (v w : Value) (s t : State) → SameValue n v w → Shown ps t.bindings → Like n ps s t → Ends n ps (assigned x v s) (assigned x w t)
   pub print_error_ : (n : Names) (ps : List Place) (l m : Levels) (v w : Value) (s t : State) → SameValue n v w → Like n ps s t → Related {A = Unit {0}} Parted Is n ps (print_error l v s) (print_error m w t)
   pub define_ : (n : Names) (ps : List Place) (i : ℕ) (kind : Kind) (p q : Pointer) (s t : State) → SamePointer n p q → Like n ps s t → Like n ps (define i kind p s) (define i kind q t)
+  pub list_elements_ : (n : Names) (ps : List Place) (s t : State) (v w : Value) → Like n ps s t → SameValue n v w → Maybe (Each (SameValue n)) (list_elements s v) (list_elements t w)
   -- reading
   pub read_ : (n : Names) (ps : List Place) (turns : Bool) (l m : Levels) (bytes : List ℕ) (s t : State) → Roomier l m → Like n ps s t → Beside SameReading n ps (read_bytes turns l bytes s) (read_bytes turns m bytes t)
   pub read_quiet : (turns : Bool) (l : Levels) (bytes : List ℕ) (s : State) → Quiet s (read_bytes turns l bytes s)

@@ -1,26 +1,24 @@
 -- A run in which code runs agrees with the walk of the same program: each code by itself does, and evaluation and c-macros respect that.
-use Rattle.std.proofs.Common.{◌≡◌, ◌∙◌, ◌≤◌, ◌<◌, ◌+◌, ◌==◌, ◌&&◌, if◌then◌else◌, ℕ, zero, suc, Bool, true, false, nat_lt, is_some, List, [], ◌∷◌, length, Option, Some, None, refl, sym, ap, subst, arith}
+use Rattle.std.proofs.Common.{◌≡◌, ◌∙◌, ◌≤◌, ◌<◌, ◌==◌, ◌&&◌, if◌then◌else◌, ℕ, zero, suc, Bool, true, false, nat_lt, List, ◌∷◌, length, Option, Some, None, refl, sym, ap, subst, arith}
 use Rattle.std.proofs.lemmas.Bool.Decides.{nat_tests}
 use Rattle.rl_tree.specs.Value.{Value}
-use Rattle.rl_meaning.specs.CMacros.{CMacro, Entry}
-use Rattle.rl_meaning.specs.State.{State, Code, Coded, Expansion, Held, Pointer, Function, HeldFunction, SpecialForm, NativeFunction, Recorded}
+use Rattle.rl_meaning.specs.CMacros.{Entry}
+use Rattle.rl_meaning.specs.State.{State, Code, Coded, Expansion, Held, Pointer, Function, HeldFunction}
 use Rattle.rl_meaning.specs.Outcome.{Outcome, Stopped, Turns, Levels}
-use Rattle.rl_meaning.specs.Opening.{state_of}
 use Rattle.rl_meaning.specs.Holding.{function_at}
 use Rattle.rl_meaning.specs.Holding as holding
 use Rattle.rl_meaning.specs.Variables.{with_mark, restored}
-use Rattle.rl_meaning.specs.Evaluation.{Job, Run, Onward, Call_, From, In, Here, Rec, Frame, Machine, walked, eval, statements, applied, longest_chain}
+use Rattle.rl_meaning.specs.Evaluation.{Job, Run, Onward, Call_, From, In, Here, Rec, Frame, walked, eval, statements, applied, longest_chain}
 use Rattle.rl_meaning.specs.Machine.{run, run_code, one_more, at_entry}
 use Rattle.rl_meaning.specs.Jobs.{names_function, code_among, code_outside, code_of, run_held, job_done, rank_of, rank, chain_of, job, jobs, the_compiler}
 use Rattle.rl_meaning.specs.Laws.{below_by, below, IsFuelEnough}
-use Rattle.rl_meaning.specs.TwoRunsLinks.{Linked, OneToOne}
+use Rattle.rl_meaning.specs.TwoRunsLinks.{OneToOne}
 use Rattle.rl_meaning.specs.TwoRunsValues.{Names, Maybe, nothing, just, Each, end, more, SameValue, SameHeld, SamePointer, same_pointer, SameCode, SameCoded, same_coded}
-use Rattle.rl_meaning.specs.TwoRunsValues as two
 use Rattle.rl_meaning.specs.TwoRunsStates.{Place, all_both, SameExpansion, same_none, same_open, Like, Roomier}
-use Rattle.rl_meaning.specs.TwoRunsEnds.{SameSeen, stopped, Ends}
-use Rattle.rl_meaning.specs.Right.{IsForeseen, AgreesWith, Right}
+use Rattle.rl_meaning.specs.TwoRunsEnds.{stopped, Ends}
+use Rattle.rl_meaning.specs.Right.{AgreesWith, Right}
 use Rattle.rl_agrees.specs.Later.{IsIn, first, further}
-use Rattle.rl_agrees.specs.TwoRunsJobs.{EventWithin, Goes, SameHere, same_here, SameJob, same_run, same_onward, same_call, same_from, same_in, ReadyCode, Ready, IsOfState, IsWhole, Starts, EndsSomewhere, EndsOf}
+use Rattle.rl_agrees.specs.TwoRunsJobs.{SameHere, same_here, SameJob, same_run, same_onward, same_call, same_from, same_in, ReadyCode, Ready, IsWhole, Starts, EndsSomewhere, EndsOf}
 use Rattle.rl_agrees.proofs.TwoRunsObjects.{linked_same}
 use Rattle.rl_agrees.proofs.TwoRunsKnown.{names_on_right, right_covers, knows, whole_places, all_both_whole}
 use Rattle.rl_agrees.proofs.TwoRunsJoined.{joined}

@@ -1,30 +1,30 @@
 -- The ways in which outcomes of two runs side by side are made, where the left one may run code: those that are apart stay so, as each run goes on.
-use Rattle.std.proofs.Common.{◌≡◌, ◌∙◌, ◌≤◌, ◌-◌, ℕ, ℤ, zero, suc, Bool, true, false, nat_le, is_some, List, [], ◌∷◌, ◌++◌, length, drop, Option, Some, None, refl, sym, ap, subst, arith}
+use Rattle.std.proofs.Common.{◌≡◌, ◌∙◌, ◌≤◌, ◌-◌, ℕ, zero, suc, Bool, true, false, nat_le, is_some, List, [], ◌∷◌, length, drop, Option, Some, None, refl, sym, ap, subst, arith}
 use Rattle.std.proofs.lemmas.Bool.Decides.{nat_tests}
 use Rattle.rl_tree.specs.Value.{Value, Id, Str}
 use Rattle.rl_tree.specs.declared.held.VarKind.{VarKind}
 use Rattle.rl_tree.specs.declared.held.VarKind.TheVariants as kind
-use Rattle.rl_meaning.specs.State.{State, Counts, Expansion, Entry, Binding, Mark, Scope, Local, Fluid, Kept, Pointer, Outside}
-use Rattle.rl_meaning.specs.Outcome.{Outcome, Done, Failed, Went, Returned, Stopped, Stop, Depth, then_do, choose, turn, Levels, entered, deeper, cells_within, run_room, expansion_within, expansion_room, room, made_pair, run_turn, expansion_turn, turn_of}
+use Rattle.rl_meaning.specs.State.{State, Counts, Expansion, Entry, Binding, Mark, Local, Fluid, Kept, Pointer, Outside}
+use Rattle.rl_meaning.specs.Outcome.{Outcome, Done, Failed, Went, Returned, Stopped, Stop, Depth, then_do, choose, turn, Levels, entered, deeper, cells_within, run_room, expansion_within, expansion_room, made_pair, run_turn, expansion_turn, turn_of}
 use Rattle.rl_meaning.specs.Opening.{state_of}
 use Rattle.rl_meaning.specs.Symbols.{nil, is_constant}
-use Rattle.rl_meaning.specs.Errors.{raise, fail, error_text, not_bindable}
+use Rattle.rl_meaning.specs.Errors.{fail, error_text, not_bindable}
 use Rattle.rl_meaning.specs.Holding.{kept_kind}
-use Rattle.rl_meaning.specs.Variables.{with_binding, with_mark, bound_as, bind, bind_all, binding_levels, with_oldest, restored, binding}
+use Rattle.rl_meaning.specs.Variables.{with_mark, bound_as, bind_all, binding_levels, with_oldest, restored, binding}
 use Rattle.rl_meaning.specs.Evaluation.{closed, without_expansion}
 use Rattle.rl_meaning.specs.Compiling.{Compiler}
-use Rattle.rl_meaning.specs.TwoRunsValues.{Names, Grows, Maybe, nothing, just, Each, end, more, SameValue, same_int, same_id, same_str, SamePointer}
-use Rattle.rl_meaning.specs.TwoRunsStates.{Place, Both, Hidden, HiddenMark, SameEntry, same_binding, same_mark, Aligned, bottom, both, hidden, hidden_mark, Shown, SameExpansion, same_none, same_open, SameCounts, Like, IsRoomier, Roomier}
+use Rattle.rl_meaning.specs.TwoRunsValues.{Names, Grows, Maybe, Each, end, more, SameValue, same_id, SamePointer}
+use Rattle.rl_meaning.specs.TwoRunsStates.{Place, Both, Hidden, HiddenMark, SameEntry, same_binding, same_mark, Aligned, bottom, both, hidden, hidden_mark, Shown, SameExpansion, same_none, same_open, SameCounts, Like, Roomier}
 use Rattle.rl_meaning.specs.TwoRunsEnds.{Begins, HasShown, IsShort, short_of_levels, Parted, SameSeen, Related, done, failed, went, returned, stopped, parted, Ends}
 use Rattle.rl_meaning.specs.TwoRunsEnds as ends
 use Rattle.rl_agrees.specs.TwoRunsJobs.{EventWithin, Goes, Ready, IsWhole, EndsSomewhere}
-use Rattle.rl_agrees.proofs.TwoRunsGrowth.{grows_refl, grows_trans, values_grow}
+use Rattle.rl_agrees.proofs.TwoRunsGrowth.{grows_refl, grows_trans}
 use Rattle.rl_agrees.proofs.TwoRunsWays.{Beside, Short, right_short, left_short, with_counts_like}
 use Rattle.rl_agrees.proofs.TwoRunsObjects.{fail_related}
-use Rattle.rl_agrees.proofs.TwoRunsJoined.{begins_trans, shown_refl}
+use Rattle.rl_agrees.proofs.TwoRunsJoined.{shown_refl}
 use Rattle.rl_agrees.proofs.TwoRunsReady.{ready_stays}
 use Rattle.rl_agrees.proofs.TwoRunsAssumed.{GoesOn, OneRunFacts, Quiet}
-use Rattle.rl_agrees.proofs.TwoRunsGoes.{goes_refl, goes_trans, goes_with, goes_to, then_goes, Context, parted_in, then_context, restored_context, closed_context}
+use Rattle.rl_agrees.proofs.TwoRunsGoes.{goes_with, goes_to, then_goes, parted_in, then_context, restored_context, closed_context}
 
 -- the ends of two runs of which the left one may run code
 abbrev pub Alike : {A : Type 0} → (Names → A → A → Type 0) → Names → List Place → Outcome A → Outcome A → Type 0
@@ -94,60 +94,68 @@ module _ (c : Compiler) where
   pub counts_sides : (n : Names) (ps : List Place) (s t : State) (a b : Counts) → is_some t.counts.cells ≡ is_some b.cells → SameCounts a b → Sides c n ps s t → Sides c n ps (record s { counts = a }) (record t { counts = b })
   counts_sides n ps s t a b e h i = record { like = with_counts_like n ps s t a b h i.like; whole = i.whole; ready = ready_stays c t _ (goes_with t b t.bindings e) i.ready }
 
+  -- E: how outcomes end, where a stop of both, and what is apart, is an end
+  module _ {A : Type 0} (E : Outcome A → Outcome A → Type 0) (n : Names) (ps : List Place) (s t : State) (i : Sides c n ps s t) (stops : (why : Stop) → E (Stopped why s) (Stopped why t)) where
+    pub turn_by : (f g : State → Outcome A) → ((u v : State) → Goes s u → Goes t v → Sides c n ps u v → E (f u) (g v)) → E (turn s f) (turn t g)
+    turn_by f g h = at s.counts.expansion t.counts.expansion i.like.counts.expansion
+      where
+        on : (a b : Counts) → is_some s.counts.cells ≡ is_some a.cells → is_some t.counts.cells ≡ is_some b.cells → SameCounts a b → E (f (record s { counts = a })) (g (record t { counts = b }))
+        on a b x y z = h _ _ (goes_with s a s.bindings x) (goes_with t b t.bindings y) (counts_sides n ps s t a b y z i)
+
+        run_at : (j k : ℕ) → j ≡ k → E (run_turn j s f) (run_turn k t g)
+        run_at zero zero e = stops _
+        run_at (suc j) (suc k) e = on _ _ refl refl (record { given = i.like.counts.given; turns = omega (arith, e); cells = i.like.counts.cells; expansion = i.like.counts.expansion })
+        run_at zero (suc k) e = absurd (omega (arith, e))
+        run_at (suc j) zero e = absurd (omega (arith, e))
+
+        expansion_at : (j : ℕ) (e : Expansion) → E (expansion_turn j e s f) (expansion_turn j e t g)
+        expansion_at zero e = stops _
+        expansion_at (suc j) e = on _ _ refl refl (record { given = i.like.counts.given; turns = i.like.counts.turns; cells = i.like.counts.cells; expansion = same_open _ })
+
+        at : (e x : Option Expansion) → SameExpansion e x → E (turn_of e s f) (turn_of x t g)
+        at _ _ same_none = run_at s.counts.turns t.counts.turns i.like.counts.turns
+        at _ _ (same_open e) = expansion_at e.turns e
+
+    shown_on : (s t : State) → s.outside ≡ t.outside → (u : State) → Goes s u → HasShown t.outside.output t.outside.notes u.outside
+    shown_on s t e u g = subst (λ (x : Outside). HasShown x.output x.notes u.outside) e (record { output = record { rest = g.later.output.rest; is = g.later.output.is }; notes = record { rest = g.later.notes.rest; is = g.later.notes.is } })
+
+    test_wider : (n l m : ℕ) → m ≤ l → nat_le n m ≡ true → nat_le n l ≡ true
+    test_wider n l m le e = grind (arith, nat_tests)
+
+    module _ (parts : (o p : Outcome A) → Parted o p → E o p) (f g : Levels → Outcome A) (x : (l : Levels) → GoesOn s (f l)) (y : (l : Levels) → GoesOn t (g l)) (h : (l m : Levels) → Roomier l m → E (f l) (g m)) where
+      right_stops : (l : Levels) → E (f l) (Stopped Depth t)
+      right_stops l = parts _ _ (ends.right_short (f l) Depth t short_of_levels (shown_on s t i.like.outside _ (x l).goes))
+
+      left_stops : (m : Levels) → E (Stopped Depth s) (g m)
+      left_stops m = parts _ _ (ends.left_short Depth s (g m) short_of_levels (shown_on t s (sym i.like.outside) _ (y m).goes))
+
+      entered_by : (b d : Bool) (l m : ℕ) → (d ≡ true → b ≡ true) → m ≤ l → E (entered b l s f) (entered d m t g)
+      entered_by true true l m e le = h (Some l) (Some m) (record { is = le })
+      entered_by false true l m e le = absurd (let z : false ≡ true = e refl in cc)
+      entered_by true false l m e le = right_stops (Some l)
+      entered_by false false l m e le = stops Depth
+
+      left_entered : (b : Bool) (l : ℕ) → E (entered b l s f) (g None)
+      left_entered true l = h (Some l) None (record { is = tt })
+      left_entered false l = left_stops None
+
+      right_entered : (d : Bool) (m : ℕ) → E (f None) (entered d m t g)
+      right_entered true m = h None (Some m) (record { is = tt })
+      right_entered false m = right_stops None
+
+      pub deeper_by : (k : ℕ) (l m : Levels) → Roomier l m → E (deeper k l s f) (deeper k m t g)
+      deeper_by k None None r = h None None r
+      deeper_by k (Some l) None r = left_entered (nat_le k l) (l - k)
+      deeper_by k None (Some m) r = right_entered (nat_le k m) (m - k)
+      deeper_by k (Some l) (Some m) r = let le : m ≤ l = r.is in entered_by (nat_le k l) (nat_le k m) (l - k) (m - k) (test_wider k l m le) (omega (arith, le))
+
   pub turn_ends : {A : Type 0} {R : Names → A → A → Type 0} (n : Names) (ps : List Place) (s t : State) (f g : State → Outcome A) → Sides c n ps s t
       → ((u v : State) → Goes s u → Goes t v → Sides c n ps u v → Alike R n ps (f u) (g v)) → Alike R n ps (turn s f) (turn t g)
-  turn_ends {R = R} n ps s t f g i h = at s.counts.expansion t.counts.expansion i.like.counts.expansion
-    where
-      on : (a b : Counts) → is_some s.counts.cells ≡ is_some a.cells → is_some t.counts.cells ≡ is_some b.cells → SameCounts a b → Alike R n ps (f (record s { counts = a })) (g (record t { counts = b }))
-      on a b x y z = h _ _ (goes_with s a s.bindings x) (goes_with t b t.bindings y) (counts_sides n ps s t a b y z i)
+  turn_ends {R = R} n ps s t f g i h = turn_by (Alike R n ps) n ps s t i (λ why. stopped_here c n ps why s t i) f g h
 
-      run_at : (j k : ℕ) → j ≡ k → Alike R n ps (run_turn j s f) (run_turn k t g)
-      run_at zero zero e = stopped_here c n ps _ s t i
-      run_at (suc j) (suc k) e = on _ _ refl refl (record { given = i.like.counts.given; turns = omega (arith, e); cells = i.like.counts.cells; expansion = i.like.counts.expansion })
-      run_at zero (suc k) e = absurd (omega (arith, e))
-      run_at (suc j) zero e = absurd (omega (arith, e))
-
-      expansion_at : (j : ℕ) (e : Expansion) → Alike R n ps (expansion_turn j e s f) (expansion_turn j e t g)
-      expansion_at zero e = stopped_here c n ps _ s t i
-      expansion_at (suc j) e = on _ _ refl refl (record { given = i.like.counts.given; turns = i.like.counts.turns; cells = i.like.counts.cells; expansion = same_open _ })
-
-      at : (e x : Option Expansion) → SameExpansion e x → Alike R n ps (turn_of e s f) (turn_of x t g)
-      at _ _ same_none = run_at s.counts.turns t.counts.turns i.like.counts.turns
-      at _ _ (same_open e) = expansion_at e.turns e
-
-  shown_on : (s t : State) → s.outside ≡ t.outside → (u : State) → Goes s u → HasShown t.outside.output t.outside.notes u.outside
-  shown_on s t e u g = subst (λ (x : Outside). HasShown x.output x.notes u.outside) e (record { output = record { rest = g.later.output.rest; is = g.later.output.is }; notes = record { rest = g.later.notes.rest; is = g.later.notes.is } })
-
-  test_wider : (n l m : ℕ) → m ≤ l → nat_le n m ≡ true → nat_le n l ≡ true
-  test_wider n l m le e = grind (arith, nat_tests)
-
-  module _ {A : Type 0} {R : Names → A → A → Type 0} (n : Names) (ps : List Place) (s t : State) (f g : Levels → Outcome A)
-      (i : Sides c n ps s t) (x : (l : Levels) → GoesOn s (f l)) (y : (l : Levels) → GoesOn t (g l)) (h : (l m : Levels) → Roomier l m → Alike R n ps (f l) (g m)) where
-    right_stops : (l : Levels) → Alike R n ps (f l) (Stopped Depth t)
-    right_stops l = parted _ _ (ends.right_short (f l) Depth t short_of_levels (shown_on s t i.like.outside _ (x l).goes))
-
-    left_stops : (m : Levels) → Alike R n ps (Stopped Depth s) (g m)
-    left_stops m = parted _ _ (ends.left_short Depth s (g m) short_of_levels (shown_on t s (sym i.like.outside) _ (y m).goes))
-
-    entered_ends : (b d : Bool) (l m : ℕ) → (d ≡ true → b ≡ true) → m ≤ l → Alike R n ps (entered b l s f) (entered d m t g)
-    entered_ends true true l m e le = h (Some l) (Some m) (record { is = le })
-    entered_ends false true l m e le = absurd (let z : false ≡ true = e refl in cc)
-    entered_ends true false l m e le = right_stops (Some l)
-    entered_ends false false l m e le = stopped_here c n ps Depth s t i
-
-    left_entered : (b : Bool) (l : ℕ) → Alike R n ps (entered b l s f) (g None)
-    left_entered true l = h (Some l) None (record { is = tt })
-    left_entered false l = left_stops None
-
-    right_entered : (d : Bool) (m : ℕ) → Alike R n ps (f None) (entered d m t g)
-    right_entered true m = h None (Some m) (record { is = tt })
-    right_entered false m = right_stops None
-
-    pub deeper_ends : (k : ℕ) (l m : Levels) → Roomier l m → Alike R n ps (deeper k l s f) (deeper k m t g)
-    deeper_ends k None None r = h None None r
-    deeper_ends k (Some l) None r = left_entered (nat_le k l) (l - k)
-    deeper_ends k None (Some m) r = right_entered (nat_le k m) (m - k)
-    deeper_ends k (Some l) (Some m) r = let le : m ≤ l = r.is in entered_ends (nat_le k l) (nat_le k m) (l - k) (m - k) (test_wider k l m le) (omega (arith, le))
+  pub deeper_ends : {A : Type 0} {R : Names → A → A → Type 0} (n : Names) (ps : List Place) (s t : State) (f g : Levels → Outcome A) → Sides c n ps s t → ((l : Levels) → GoesOn s (f l)) → ((l : Levels) → GoesOn t (g l)) → ((l m : Levels) → Roomier l m → Alike R n ps (f l) (g m))
+      → (k : ℕ) (l m : Levels) → Roomier l m → Alike R n ps (deeper k l s f) (deeper k m t g)
+  deeper_ends {R = R} n ps s t f g i x y h = deeper_by (Alike R n ps) n ps s t i (λ why. stopped_here c n ps why s t i) (λ o p a. parted o p a) f g x y h
 
 -- ---- what prints nothing
 

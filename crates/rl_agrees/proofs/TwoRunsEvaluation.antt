@@ -1,41 +1,41 @@
 -- Application and evaluation of two runs side by side: by two ways to do jobs that keep them side by side, all that evaluation does by itself keeps them so.
-use Rattle.std.proofs.Common.{◌≡◌, ◌∙◌, ◌==◌, ◌/◌, ℤ, ℕ, zero, suc, pos, Bool, true, false, is_some, List, [], ◌∷◌, ◌++◌, length, Option, Some, None, if◌then◌else◌, refl, sym, ap, subst, arith}
+use Rattle.std.proofs.Common.{◌≡◌, ◌==◌, ◌/◌, ℤ, ℕ, zero, suc, Bool, true, false, List, [], ◌∷◌, ◌++◌, length, Option, Some, None, if◌then◌else◌, refl, ap, arith}
 use Rattle.std.proofs.lemmas.Bool.Decides.{nat_tests}
-use Rattle.rl_tree.specs.Value.{Value, Int, Id, Str, Ref, Fun}
+use Rattle.rl_tree.specs.Value.{Value, Int, Id, Ref}
 use Rattle.rl_tree.specs.declared.held.Kind.{Kind}
 use Rattle.rl_tree.specs.declared.held.Kind.TheVariants.{Expr, Fexpr, Macro}
 use Rattle.rl_meaning.specs.Names.{Native, Special, arguments_of, Eval, Errorset, Apply, Putd, Compile, Faslout, Load}
-use Rattle.rl_meaning.specs.State.{State, Tree, Atom, Quoted, Pair, Literal, Kept, Held, Pointer, Definition, Symbol, Function, SpecialForm, NativeFunction, HeldFunction, Expansion}
-use Rattle.rl_meaning.specs.Outcome.{Outcome, Done, Failed, Went, Returned, Stopped, then_do, choose, turn, Levels, deeper, made_pair}
+use Rattle.rl_meaning.specs.State.{State, Tree, Held, Pointer, Definition, Symbol, Function, Expansion}
+use Rattle.rl_meaning.specs.Outcome.{Outcome, Done, Failed, Went, Returned, Stopped, then_do, Levels, deeper, made_pair}
 use Rattle.rl_meaning.specs.Opening.{state_of}
-use Rattle.rl_meaning.specs.Symbols.{nil, is_nil, lambda_id, pair_at, symbol_at}
-use Rattle.rl_meaning.specs.Errors.{fail, undefined, wrong_count, wrong_type, misplaced, badly_formed, system_name}
+use Rattle.rl_meaning.specs.Symbols.{nil, is_nil, lambda_id, pair_at}
+use Rattle.rl_meaning.specs.Errors.{fail, undefined, wrong_count, wrong_type, misplaced, system_name}
 use Rattle.rl_meaning.specs.Constants.{reading, reading_pair}
 use Rattle.rl_meaning.specs.Holding.{hold_form, hold_expansion, elements_of, pointer_value, pointer_to, function_at}
 use Rattle.rl_meaning.specs.Copying.{copied}
-use Rattle.rl_meaning.specs.Variables.{with_mark, restored}
+use Rattle.rl_meaning.specs.Variables.{with_mark}
 use Rattle.rl_meaning.specs.Atoms.{proper}
 use Rattle.rl_meaning.specs.Definitions.{define, own_name, hold_lambda}
-use Rattle.rl_meaning.specs.Printing.{print_error, note, note_value, note_error}
+use Rattle.rl_meaning.specs.Printing.{note, note_value, note_error}
 use Rattle.rl_meaning.specs.Natives.{native, argument}
 use Rattle.rl_meaning.specs.Walks.{Walked}
 use Rattle.std.specs.Prelude.{codes}
 use Rattle.std.specs.Fmt.{signed_decimal}
-use Rattle.rl_meaning.specs.Forms.{after_label, hold_part}
+use Rattle.rl_meaning.specs.Forms.{after_label}
 use Rattle.rl_meaning.specs.Compiling.{Compiler}
-use Rattle.rl_meaning.specs.Evaluation.{Position, Statement, Inside, Here, longest_chain, Job, Run, Onward, Call_, From, In, Rec, bad_form, misplaced_at, deeper_here, opened_expansion, with_expansion, closed_expansion, without_expansion, closed, print_unless_nil, caught, Target, Function_, Lambda, Undefined, WrongType, target_function, target_definition, target_pair, target_of, with_arguments, kind_of_definition, held_applied, form_evaluated, evaluated, errorset, list_applied, applied_to, apply_target, apply, native_applied, counted, called_as, function_applied, applied, name_applied, called, fexpr_called, expansion_of, expanded_body, macro_called, in_chain, jumped, in_prog, function_defined, define_function}
+use Rattle.rl_meaning.specs.Evaluation.{Position, Statement, Inside, Here, longest_chain, Run, Call_, From, In, Rec, misplaced_at, opened_expansion, with_expansion, closed_expansion, without_expansion, print_unless_nil, caught, Target, Function_, Lambda, Undefined, WrongType, target_function, target_definition, target_pair, target_of, with_arguments, kind_of_definition, held_applied, form_evaluated, evaluated, errorset, list_applied, applied_to, apply_target, apply, native_applied, counted, called_as, function_applied, applied, name_applied, called, fexpr_called, expansion_of, expanded_body, macro_called, in_chain, jumped, in_prog, function_defined, define_function}
 use Rattle.rl_meaning.specs.TwoRunsLinks.{Linked}
-use Rattle.rl_meaning.specs.TwoRunsValues.{Names, Grows, Maybe, nothing, just, Each, end, more, SameValue, same_int, same_id, same_str, same_ref, same_fun, SameParts, same_parts, SameTree, same_atom, same_quoted, same_node, same_literal, SameHeld, same_held, SameFunction, same_special, same_native, same_held_function, SamePointer, same_pointer, SameNumber, SameDefinition, same_definition, SameSymbol, same_symbol}
+use Rattle.rl_meaning.specs.TwoRunsValues.{Names, Grows, Maybe, nothing, just, Each, end, more, SameValue, same_int, same_id, same_str, same_ref, same_fun, SameParts, same_parts, SameTree, same_atom, same_node, SameHeld, same_held, SameFunction, same_special, same_native, same_held_function, SamePointer, same_pointer, SameNumber, SameDefinition, same_definition, SameSymbol, same_symbol}
 use Rattle.rl_meaning.specs.TwoRunsStates.{Place, Both, SameExpansion, same_none, same_open, Like, Roomier}
 use Rattle.rl_meaning.specs.TwoRunsEnds.{done, failed, went, returned, stopped, parted}
-use Rattle.rl_agrees.specs.TwoRunsJobs.{EventWithin, Goes, SameHere, same_here, SameJob, same_run, same_call, same_from, same_in, IsOfState}
-use Rattle.rl_agrees.proofs.TwoRunsGrowth.{grows_refl, grows_trans, value_grows, values_grow, tree_grows, pointer_grows, held_grows}
-use Rattle.rl_agrees.proofs.TwoRunsWays.{Beside, Is, is, reading_like, pair_read_like, with_counts_like}
+use Rattle.rl_agrees.specs.TwoRunsJobs.{Goes, same_here, same_run, same_call, same_from, same_in, IsOfState}
+use Rattle.rl_agrees.proofs.TwoRunsGrowth.{grows_refl, value_grows, values_grow, tree_grows, pointer_grows}
+use Rattle.rl_agrees.proofs.TwoRunsWays.{Is, is, reading_like, pair_read_like, with_counts_like}
 use Rattle.rl_agrees.proofs.TwoRunsObjects.{pair_same, nil_same, symbol_same, each_length, each_at, made_pair_related}
 use Rattle.rl_agrees.proofs.TwoRunsForms.{label_same, function_same, definition_same}
 use Rattle.rl_agrees.proofs.TwoRunsReady.{ready_stays}
-use Rattle.rl_agrees.proofs.TwoRunsAssumed.{Ask, AskGoes, GoesOn, RecGoes, OneRunFacts, TwoRunsFacts, may_part, SameList, same_list, Quiet}
-use Rattle.rl_agrees.proofs.TwoRunsGoes.{goes_refl, goes_trans, goes_with, then_goes, choose_goes, deeper_goes, goes_from, goes_to, Context, parted_in}
+use Rattle.rl_agrees.proofs.TwoRunsAssumed.{Ask, AskGoes, GoesOn, RecGoes, OneRunFacts, TwoRunsFacts, may_part, SameList, same_list}
+use Rattle.rl_agrees.proofs.TwoRunsGoes.{goes_refl, goes_trans, then_goes, choose_goes, deeper_goes, goes_to, Context, parted_in}
 use Rattle.rl_agrees.proofs.TwoRunsEnding.{Alike, Sides, further_ends, done_here, stopped_here, sides_on, then_ends, closed_ends, choose_ends, turn_ends, counts_sides, deeper_ends, quiet_ends, pair_quiet, fail_ends, fail_goes, restored_ends, mark_sides}
 use Rattle.rl_agrees.proofs.TwoRunsAsked.{by, Respects, CompilerRespects, rec_goes, of_state_stays, starts, taken_sides}
 
@@ -358,7 +358,7 @@ module _ (c : Compiler) (cr : CompilerRespects c) (one : OneRunFacts) (two : Two
 
   -- ---- FEXPRs and macros
 
-  copied_ends : (n : Names) (ps : List Place) (l m : Levels) (a b : Tree) (s t : State) → Roomier l m → SameTree n a b → Sides c n ps s t → Alike SameValue n ps (copied l a s) (copied m b t)
+  pub copied_ends : (n : Names) (ps : List Place) (l m : Levels) (a b : Tree) (s t : State) → Roomier l m → SameTree n a b → Sides c n ps s t → Alike SameValue n ps (copied l a s) (copied m b t)
   copied_ends n ps l m a b s t r h i = quiet_ends n ps s t _ _ i.like (two.copied_quiet l a s) (two.copied_quiet m b t) (two.copied_ n ps l m a b s t r h i.like)
 
   pub fexpr_ends : (n : Names) (ps : List Place) (i : ℕ) (here : Here) (m : Levels) (h : ℕ) (a b : Tree) (s t : State) → Roomier here.levels m → SameTree n a b → Sides c n ps s t → Alike SameValue n ps (fexpr_called rec i here a s) (fexpr_called rec' i (record here { levels = m; holder = h }) b t)
@@ -423,7 +423,7 @@ module _ (c : Compiler) (cr : CompilerRespects c) (one : OneRunFacts) (two : Two
 
   -- ---- definitions
 
-  own_ends : (n : Names) (ps : List Place) (i : ℕ) (s t : State) (f g : State → Outcome Value) → Sides c n ps s t → Alike SameValue n ps (f s) (g t) → Alike SameValue n ps (own_name i s f) (own_name i t g)
+  pub own_ends : (n : Names) (ps : List Place) (i : ℕ) (s t : State) (f g : State → Outcome Value) → Sides c n ps s t → Alike SameValue n ps (f s) (g t) → Alike SameValue n ps (own_name i s f) (own_name i t g)
   own_ends n ps i s t f g e h = choose_ends c n ps _ _ s t _ _ _ _ (system_is n _ _ (symbol_same n ps s t i e.like)) (fail_ends c n ps system_name _ _ s t e (same_id i)) h
 
   define_then : (v : Value) (i : ℕ) (kind : Kind) (p : Pointer) (s : State) → Goes s (c.defined v (define i kind p s))

@@ -1,18 +1,16 @@
 -- What goes on from a state, and what goes on from there; and what two runs side by side show as each goes on.
-use Rattle.std.proofs.Common.{◌≡◌, ◌∙◌, ◌⊎◌, inl, inr, ◌≤◌, ◌<◌, ◌+◌, ℕ, ℤ, zero, suc, Bool, true, false, is_some, List, [], ◌∷◌, ◌++◌, length, take, slice_get, Option, Some, None, refl, sym, ap, subst, append-nil, append_assoc, arith}
+use Rattle.std.proofs.Common.{◌≡◌, ◌∙◌, inl, inr, ◌≤◌, ℕ, Bool, true, false, is_some, List, [], ◌++◌, length, take, Some, None, refl, sym, ap, subst, append-nil, append_assoc, arith}
 use Rattle.std.proofs.Common.{length-append}
 use Rattle.std.proofs.lemmas.List.{take-append-le}
-use Rattle.rl_tree.specs.Value.{Value}
-use Rattle.rl_meaning.specs.State.{State, Counts, Entry, Recorded, Outside, Expansion}
-use Rattle.rl_meaning.specs.Constants.{changed_at}
-use Rattle.rl_meaning.specs.Outcome.{Outcome, Done, Failed, Went, Returned, Stopped, Stop, Turns, then_do, choose, entered, deeper, Levels}
+use Rattle.rl_meaning.specs.State.{State, Counts, Entry}
+use Rattle.rl_meaning.specs.Outcome.{Outcome, Done, Failed, Went, Returned, Stopped, Stop, then_do, choose, entered, deeper, Levels}
 use Rattle.rl_meaning.specs.Opening.{state_of}
-use Rattle.rl_meaning.specs.Variables.{with_oldest, restored}
-use Rattle.rl_meaning.specs.Evaluation.{closed, without_expansion}
-use Rattle.rl_meaning.specs.TwoRunsEnds.{Begins, HasShown, IsShort, OneBegins, Parted, by_event, right_short, left_short, short_by_event, both_short}
+use Rattle.rl_meaning.specs.Variables.{restored}
+use Rattle.rl_meaning.specs.Evaluation.{closed}
+use Rattle.rl_meaning.specs.TwoRunsEnds.{Begins, HasShown, OneBegins, Parted, by_event, right_short, left_short, short_by_event, both_short}
 use Rattle.rl_agrees.specs.Later.{IsMore, IsNoted, StaysOrNoted, NotedBefore, Later}
 use Rattle.rl_agrees.specs.TwoRunsJobs.{EventWithin, Goes}
-use Rattle.rl_agrees.proofs.TwoRunsJoined.{begins_trans, take_begins, both_begin}
+use Rattle.rl_agrees.proofs.TwoRunsJoined.{begins_trans}
 use Rattle.rl_agrees.proofs.TwoRunsAssumed.{GoesOn}
 
 -- ---- a preorder

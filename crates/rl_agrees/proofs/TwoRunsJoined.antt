@@ -6,7 +6,7 @@ use Rattle.rl_meaning.specs.CMacros.{Operand, CMacro}
 use Rattle.rl_meaning.specs.State.{State, Tree, Held, Pointer, Function, Definition, Symbol, Entry, Dependency, Coded, Compilation, Counts, Expansion, Outside, Recorded}
 use Rattle.rl_meaning.specs.TwoRunsLinks.{Links, unlinked, link, Linked, newest, older, OneToOne, Within}
 use Rattle.rl_meaning.specs.TwoRunsValues.{Names, Grows, Maybe, nothing, just, Each, end, more, SameValue, same_int, same_id, same_str, same_ref, same_fun, SameObject, same_pair, same_vector, SameTree, same_atom, same_quoted, same_node, same_literal, SameHeld, same_held, SameFunction, same_special, same_native, same_held_function, SamePointer, same_pointer, SameDefinition, same_definition, SameSymbol, same_symbol, SameOperand, same_slot, same_constant, same_variable, same_register, SameMacro, same_load, same_copy, same_jump_eq, same_jump_ne, same_macro, SameDependency, same_called, same_fexpr, same_whole, SameCoded, same_coded}
-use Rattle.rl_meaning.specs.TwoRunsStates.{SameStore, SameFunctions, Place, SameEntry, same_binding, same_mark, Aligned, bottom, both, hidden, hidden_mark, all_both, SameExpansion, same_none, same_open, IsRoomier, SameCounts, SameCompilation, Like}
+use Rattle.rl_meaning.specs.TwoRunsStates.{SameStore, SameFunctions, Place, SameEntry, same_binding, same_mark, Aligned, bottom, both, hidden, hidden_mark, SameExpansion, same_none, same_open, IsRoomier, SameCounts, SameCompilation, Like}
 use Rattle.rl_meaning.specs.Outcome.{Outcome, Done, Failed, Went, Returned, Stopped, Stop}
 use Rattle.rl_meaning.specs.Opening.{state_of}
 use Rattle.rl_meaning.specs.TwoRunsEnds.{Begins, HasShown, IsShort, OneBegins, Parted, by_event, right_short, left_short, short_by_event, both_short, SameSeen, Related, done, failed, went, returned, stopped, parted, Ends}

@@ -1,11 +1,11 @@
 -- What is linked on the right of two runs is known to itself: the names to which the right state comes.
-use Rattle.std.proofs.Common.{◌≡◌, ◌⊎◌, inl, inr, ◌<◌, ℕ, List, [], ◌∷◌, length, slice_get, Option, Some, None, refl, sym, subst, arith}
+use Rattle.std.proofs.Common.{◌≡◌, inl, inr, ◌<◌, ℕ, List, [], ◌∷◌, slice_get, Option, Some, None, refl, sym, subst, arith}
 use Rattle.rl_tree.specs.Value.{Value, Object, Store}
 use Rattle.rl_meaning.specs.CMacros.{Operand, CMacro}
-use Rattle.rl_meaning.specs.State.{State, Tree, Held, Pointer, Function, Definition, Symbol, Entry, Dependency, Code, Coded, Compilation, Counts, Expansion}
+use Rattle.rl_meaning.specs.State.{State, Tree, Held, Pointer, Function, Definition, Symbol, Entry, Dependency, Code, Coded, Expansion}
 use Rattle.rl_meaning.specs.TwoRunsLinks.{Links, unlinked, link, Linked, newest, older, OneToOne, Within}
 use Rattle.rl_meaning.specs.TwoRunsValues.{Names, Maybe, nothing, just, Each, end, more, SameValue, same_int, same_id, same_str, same_ref, same_fun, SameObject, same_pair, same_vector, SameTree, same_atom, same_quoted, same_node, same_literal, SameHeld, same_held, SameFunction, same_special, same_native, same_held_function, SamePointer, same_pointer, SameDefinition, same_definition, SameSymbol, same_symbol, SameOperand, same_slot, same_constant, same_variable, same_register, SameMacro, same_load, same_copy, same_jump_eq, same_jump_ne, same_macro, SameCode, SameDependency, same_called, same_fexpr, same_whole, SameCoded, same_coded}
-use Rattle.rl_meaning.specs.TwoRunsStates.{SameStore, SameFunctions, Place, Both, SameEntry, same_binding, same_mark, Aligned, bottom, both, hidden, hidden_mark, all_both, SameExpansion, same_none, same_open, IsRoomier, SameCounts, SameCompilation, Like}
+use Rattle.rl_meaning.specs.TwoRunsStates.{SameStore, SameFunctions, Place, Both, SameEntry, same_binding, same_mark, Aligned, bottom, both, hidden, hidden_mark, all_both, SameExpansion, same_none, same_open, IsRoomier, Like}
 use Rattle.rl_meaning.specs.Right.{IsIdentity, Knows}
 use Rattle.rl_agrees.specs.TwoRunsJobs.{IsWhole}
 use Rattle.rl_agrees.proofs.TwoRunsLinked.{linked_cases}

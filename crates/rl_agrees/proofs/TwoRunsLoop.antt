@@ -35,7 +35,7 @@ use Rattle.rl_agrees.proofs.TwoRunsPrinting.{mark_like, fresh_like}
 use Rattle.rl_agrees.proofs.TwoRunsKnown.{all_both_whole}
 use Rattle.rl_agrees.proofs.TwoRunsJoined.{begins_refl, begins_trans, take_begins, both_begin, shown_refl}
 use Rattle.rl_agrees.proofs.TwoRunsAssumed.{AskGoes, GoesOn, OneRunFacts, TwoRunsFacts, SameReading, same_form, same_end, same_unreadable}
-use Rattle.rl_agrees.proofs.TwoRunsComposed.{Respects}
+use Rattle.rl_agrees.proofs.TwoRunsAsked.{Respects}
 use Rattle.rl_agrees.proofs.TwoRunsGoes.{goes_refl, goes_trans, then_goes, Context, parted_in}
 use Rattle.rl_agrees.proofs.TwoRunsEnding.{Sides, further_ends, sides_on, then_ends, quiet_ends}
 
@@ -116,7 +116,7 @@ goes_on_agrees n ps s t o p f g i w x y (parted _ _ a) h =
 -- evaluation respects the relation; and what is taken of one run, and of two
 pub record LoopFacts : Type 0 where
   pub fuel : IsFuelEnough
-  pub composed : Respects (job the_compiler) (job the_compiler)
+  pub composed : Respects the_compiler (job the_compiler) (job the_compiler)
   pub job_goes : AskGoes (job the_compiler)
   pub one : OneRunFacts
   pub two : TwoRunsFacts

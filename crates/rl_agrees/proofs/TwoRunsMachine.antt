@@ -9,19 +9,19 @@ use Rattle.rl_meaning.specs.State.{State, Code, Counts, Expansion, Tree, Kept, H
 use Rattle.rl_meaning.specs.CMacros.{Operand, CMacro, Alloc, Dealloc, Load, Store, SetVar, Move, Copy, Link, LinkE, Self, CallNative, Jump, JumpNil, JumpT, JumpEq, JumpNe, Label, GoTo, Bind, ProgBind, Free, Exit, Raise}
 use Rattle.rl_meaning.specs.CMacros as macros
 use Rattle.rl_meaning.specs.Outcome.{Outcome, Done, Stopped, Stop, Depth, then_do, choose, run_turn, expansion_turn, turn_of, turn, Levels, entered, deeper}
-use Rattle.rl_meaning.specs.Symbols.{nil, nil_id, same, is_constant, symbol_at, list_elements}
+use Rattle.rl_meaning.specs.Symbols.{nil, nil_id, same, is_constant, symbol_at}
 use Rattle.rl_meaning.specs.Errors.{fail, wrong_count, wrong_type, badly_formed, not_bindable, system_name}
-use Rattle.rl_meaning.specs.Holding.{kept_kind, hold_function, form_at}
+use Rattle.rl_meaning.specs.Holding.{function_id, kept_kind, hold_function, form_at}
 use Rattle.rl_meaning.specs.Copying.{copied}
 use Rattle.rl_meaning.specs.Variables.{assigned, with_binding, with_mark, bound_as, bind, bind_all, binding_levels, with_oldest, restored}
 use Rattle.rl_meaning.specs.Definitions.{own_name}
 use Rattle.rl_meaning.specs.Forms.{fits}
 use Rattle.rl_meaning.specs.Opening.{state_of}
 use Rattle.rl_meaning.specs.Evaluation.{Rec, Onward, Bound, Machine, Frame, called, kind_of_definition, function_defined, define_function}
-use Rattle.rl_meaning.specs.Machine.{all_registers, register, with_register, nils, registers_of, after_link, arguments, with_slot, allocated, deallocated, content, with_bound, bound, levels_freed, freed, undone, one_more, ended, at_entry, is_function, is_same, behind, behind_entry, part_linked, list_linked, definition_linked, form_linked, function_linked, linked_to, linked, again, run, seek, run_code}
+use Rattle.rl_meaning.specs.Machine.{as_list, unless, proper_elements, all_registers, register, with_register, nils, registers_of, after_link, arguments, with_slot, allocated, deallocated, content, with_bound, bound, levels_freed, freed, undone, one_more, ended, at_entry, is_function, is_same, behind, behind_entry, part_linked, list_linked, definition_linked, form_linked, function_linked, linked_to, linked, again, run, seek, run_code}
 use Rattle.rl_meaning.specs.Jobs.{the_compiler}
 use Rattle.rl_meaning.specs.TwoRunsLinks.{OneToOne}
-use Rattle.rl_meaning.specs.TwoRunsValues.{Names, Grows, Maybe, nothing, just, Each, end, more, SameValue, same_int, same_id, same_str, same_ref, same_fun, SameTree, SameHeld, same_held, SameFunction, same_special, same_native, same_held_function, SamePointer, same_pointer, SameNumber, SameDefinition, same_definition, SameOperand, same_slot, same_constant, same_variable, same_register, SameMacro, same_load, same_copy, same_jump_eq, same_jump_ne, same_macro, SameCode}
+use Rattle.rl_meaning.specs.TwoRunsValues.{Names, Grows, Maybe, nothing, just, Each, end, more, SameValue, same_int, same_id, same_str, same_ref, same_fun, SameTree, SameHeld, same_held, SameFunction, same_special, same_native, same_held_function, SamePointer, same_pointer, SameNumber, SameDefinition, same_definition, SameOperand, same_slot, same_constant, same_variable, same_register, SameMacro, same_load, same_copy, same_jump_eq, same_jump_ne, same_macro, SameCode, same_atom, same_quoted, same_node, same_literal}
 use Rattle.rl_meaning.specs.TwoRunsStates.{Place, Both, Hidden, HiddenMark, same_binding, Aligned, bottom, both, hidden, hidden_mark, SameExpansion, same_none, same_open, SameCounts, Like, Roomier}
 use Rattle.rl_meaning.specs.TwoRunsEnds.{HasShown, short_of_levels, Parted, Related, done, failed, went, returned, stopped, parted, Ends}
 use Rattle.rl_meaning.specs.TwoRunsEnds as ends
@@ -37,7 +37,7 @@ use Rattle.rl_agrees.proofs.TwoRunsEnding.{further_ends, shown_whole, quiet_ends
 use Rattle.rl_agrees.proofs.TwoRunsGoes.{goes_with, goes_from, then_goes, choose_goes, done_goes, parted_in, then_context}
 use Rattle.rl_agrees.proofs.TwoRunsForms.{fits_same, function_same, form_same, definition_same}
 use Rattle.rl_agrees.proofs.TwoRunsProperties.{cdr_same}
-use Rattle.rl_agrees.proofs.TwoRunsSpine.{list_elements_same}
+use Rattle.rl_agrees.proofs.TwoRunsSpine.{is_improper_same, list_elements_same}
 use Rattle.rl_agrees.proofs.TwoRunsHolding.{hold_function_related}
 use Rattle.rl_agrees.proofs.TwoRunsCopying.{copied_related}
 use Rattle.rl_agrees.proofs.TwoRunsQuiet.{later_shows, fail_ends}
@@ -53,6 +53,25 @@ pub record EvaluationRespects (rec rec' : Rec) : Type 0 where
   -- definitions: of a function that was held, and of a list of arguments that is a part of a held form
   pub function_defined_ : (n : Names) (ps : List Place) (form : Special) (i : ℕ) (s t : State) (o p : Outcome ℕ) → Like n ps s t → IsWhole ps → Ready the_compiler t → GoesOn t p → Related Parted SameNumber n ps o p → Ends n ps (function_defined rec form i o) (function_defined rec' form i p)
   pub define_function_ : (n : Names) (ps : List Place) (form : Special) (l m : Levels) (a b : Tree) (s t : State) → Roomier l m → SameTree n a b → Like n ps s t → IsWhole ps → Ready the_compiler t → Ends n ps (define_function rec form l a s) (define_function rec' form m b t)
+
+-- ---- lists of arguments
+
+-- a FUNCTION form as the list that it is
+as_list_same : (n : Names) (a b : Tree) → SameTree n a b → SameTree n (as_list a) (as_list b)
+as_list_same n _ _ (same_atom v w h) = same_atom v w h
+as_list_same n _ _ (same_quoted v w h) = same_quoted v w h
+as_list_same n _ _ (same_node a d b e h k) = same_node a d b e h k
+as_list_same n _ _ (same_literal i a b h) = same_node _ _ _ _ (same_atom _ _ (same_id function_id)) (same_node _ _ _ _ h (same_atom _ _ (same_id nil_id)))
+
+unless_same : (n : Names) (b c : Bool) (o p : Option (List Value)) → b ≡ c → Maybe (Each (SameValue n)) o p → Maybe (Each (SameValue n)) (unless b o) (unless c p)
+unless_same n b c o p e h = subst (λ x. Maybe (Each (SameValue n)) (unless b o) (unless x p)) e (at b)
+  where
+    at : (b : Bool) → Maybe (Each (SameValue n)) (unless b o) (unless b p)
+    at true = nothing
+    at false = h
+
+proper_elements_same : (n : Names) (ps : List Place) (s t : State) (v w : Value) → Like n ps s t → SameValue n v w → Maybe (Each (SameValue n)) (proper_elements s v) (proper_elements t w)
+proper_elements_same n ps s t v w l h = unless_same n _ _ _ _ (is_improper_same n ps s t v w l h) (list_elements_same n ps s t v w l h)
 
 -- ---- where no binding is lacking: code leaves other bindings, but all of them are there on both sides
 
@@ -463,12 +482,12 @@ module _ (one : OneRunFacts) (two : TwoRunsFacts) (ask ask' : Ask) (left : AskGo
   list_linked_somewhere n form i l j v w _ _ s t r e (just _ _ (more _ _ _ _ h k)) x = fail_somewhere n badly_formed (Id i) (Id i) s t (same_id i) x
 
   by_list_somewhere : (n : Names) (form : Special) (i : ℕ) (l j : Levels) (v w : Value) (s t : State) → Roomier l j → SameValue n v w → Abreast n s t
-      → Somewhere SameValue n (list_linked rec form i l v (list_elements s v) s) (list_linked rec' form i j w (list_elements t w) t)
-  by_list_somewhere n form i l j v w s t r e x = list_linked_somewhere n form i l j v w _ _ s t r e (list_elements_same n x.places s t v w x.like e) x
+      → Somewhere SameValue n (list_linked rec form i l v (proper_elements s v) s) (list_linked rec' form i j w (proper_elements t w) t)
+  by_list_somewhere n form i l j v w s t r e x = list_linked_somewhere n form i l j v w _ _ s t r e (proper_elements_same n x.places s t v w x.like e) x
 
   definition_linked_somewhere : (n : Names) (form : Special) (i : ℕ) (l j : Levels) (vs ws : List Value) (s t : State) → Roomier l j → Each (SameValue n) vs ws → Abreast n s t → Somewhere SameValue n (definition_linked rec form i l vs s) (definition_linked rec' form i j ws t)
   definition_linked_somewhere n form i l j _ _ s t r end x = fail_somewhere n wrong_count (Id i) (Id i) s t (same_id i) x
-  definition_linked_somewhere n form i l j _ _ s t r (more _ _ _ _ (same_fun f g place h) end) x = part_linked_somewhere n form i l j _ _ s t r (form_same n x.places s t _ _ x.like (same_fun f g place h)) x
+  definition_linked_somewhere n form i l j _ _ s t r (more _ _ _ _ (same_fun f g place h) end) x = part_linked_somewhere n form i l j _ _ s t r (as_list_same n _ _ (form_same n x.places s t _ _ x.like (same_fun f g place h))) x
   definition_linked_somewhere n form i l j _ _ s t r (more _ _ _ _ (same_int z) end) x = by_list_somewhere n form i l j _ _ s t r (same_int z) x
   definition_linked_somewhere n form i l j _ _ s t r (more _ _ _ _ (same_id z) end) x = by_list_somewhere n form i l j _ _ s t r (same_id z) x
   definition_linked_somewhere n form i l j _ _ s t r (more _ _ _ _ (same_str z) end) x = by_list_somewhere n form i l j _ _ s t r (same_str z) x

@@ -1,16 +1,16 @@
 -- The right run stays ready as it goes on: functions stay, codes only go, and constants change only where that is noted.
-use Rattle.std.proofs.Common.{◌≡◌, ◌∙◌, ◌⊎◌, inl, inr, ◌≤◌, ◌<◌, ◌+◌, nat_lt, ℕ, zero, suc, Bool, true, false, is_some, List, [], ◌∷◌, ◌++◌, length, slice_get, slice_index_or, unwrap_or, Option, Some, None, refl, sym, ap, subst, arith}
+use Rattle.std.proofs.Common.{◌≡◌, ◌∙◌, inl, inr, ◌≤◌, ◌<◌, ℕ, zero, suc, true, List, [], ◌∷◌, ◌++◌, length, slice_get, slice_index_or, Some, refl, sym, ap, subst, arith}
 use Rattle.std.proofs.Common.{length-append}
 use Rattle.std.proofs.lemmas.Bool.Decides.{nat_tests}
-use Rattle.rl_tree.specs.Value.{Value, Object, Store}
-use Rattle.rl_meaning.specs.State.{State, Coded, Held, Pointer, Function, HeldFunction, SpecialForm, NativeFunction, Recorded, Change}
+use Rattle.rl_tree.specs.Value.{Object, Store}
+use Rattle.rl_meaning.specs.State.{State, Coded, Held, Pointer, Function, HeldFunction}
 use Rattle.rl_meaning.specs.Constants.{changed_at}
 use Rattle.rl_meaning.specs.Holding.{no_function, function_in, function_at}
 use Rattle.rl_meaning.specs.Standing.{all_stand}
 use Rattle.rl_meaning.specs.Compiling.{Compiler}
 use Rattle.rl_meaning.specs.Right.{Stood, is_later, AsItStood, AllAsTheyStood}
-use Rattle.rl_agrees.specs.Later.{IsMore, IsNoted, StaysOrNoted, NotedBefore, IsIn, first, further, CodesStand, Later}
-use Rattle.rl_agrees.specs.TwoRunsJobs.{EventWithin, Goes, ReadyCode, Ready, IsOfState}
+use Rattle.rl_agrees.specs.Later.{IsMore, IsNoted, StaysOrNoted, NotedBefore, IsIn, first, further, Later}
+use Rattle.rl_agrees.specs.TwoRunsJobs.{Goes, ReadyCode, Ready}
 
 -- ---- functions
 

@@ -1,5 +1,5 @@
 -- When two jobs of two runs side by side are the same, when they may start, and how they end: the left run may run code, the right one walks all functions (this project's).
-use Rattle.std.specs.Prelude.{◌≡◌, ◌≤◌, ◌<◌, ℕ, true, is_some, List, [], ◌∷◌, length, Option, Some, None}
+use Rattle.std.specs.Prelude.{◌≡◌, ◌≤◌, ◌<◌, ℕ, true, is_some, List, [], ◌∷◌, length, Option, Some}
 use Rattle.rl_tree.specs.Value.{Value}
 use Rattle.rl_meaning.specs.State.{State, Code, Coded, Kept, Held, Pointer, Tree, HeldFunction, Recorded}
 use Rattle.rl_meaning.specs.Outcome.{Outcome, Levels}
