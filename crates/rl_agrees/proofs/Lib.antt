@@ -29,7 +29,7 @@ mod OneRunPrinting
 mod OneRunReader
 mod OneRunReading
 mod OneRunNatives
-mod OneRunHeads
+mod Heads
 mod OneRunEvaluation
 mod OneRunForms
 mod OneRunMachine
@@ -38,6 +38,7 @@ mod LaterLists
 mod LaterStands
 mod OneRunLater
 mod OneRunQuiet
+mod OneRunGoes
 mod OneRunLaws
 mod PlainWays
 mod PlainObjects
@@ -48,7 +49,6 @@ mod PlainHeads
 mod PlainEvaluation
 mod PlainAlone
 mod PlainRows
-mod TwoRunsHeads
 mod TwoRunsReady
 mod TwoRunsAssumed
 mod TwoRunsComposed
@@ -58,4 +58,6 @@ mod TwoRunsAsked
 mod TwoRunsEvaluation
 mod TwoRunsBlock
 mod TwoRunsMachine
+mod TwoRunsMixed
+mod TwoRunsGiven
 mod TwoRunsLoop

@@ -26,7 +26,7 @@ pub record Steps (P : State → State → Type 0) : Type 0 where
   pub and_then : (s t u : State) → P s t → P t u → P s u
   -- turns that are taken, of the run or of the open expansion; cells of each; and an expansion that opens, and is over
   pub turns : (n : ℕ) (s : State) → P s (turns_taken s.counts.expansion n s)
-  pub cells : (n : ℕ) (s : State) → P s (record s { counts = record s.counts { cells = Some n } })
+  pub cells : (n m : ℕ) (s : State) → s.counts.cells ≡ Some m → P s (record s { counts = record s.counts { cells = Some n } })
   pub expansion_cells : (n : ℕ) (e : Expansion) (s : State) → s.counts.expansion ≡ Some e → P s (record s { counts = record s.counts { expansion = Some (record e { cells = n }) } })
   pub opened : (f : ℕ) (s : State) → P s (with_expansion f s)
   pub closed : (f : ℕ) (s t : State) → P (with_expansion f s) t → P s (without_expansion t)
@@ -205,20 +205,20 @@ module _ {P : State → State → Type 0} (steps : Steps P) {r : State} where
   pub room_claims : {A : Type 0} (Claim : Outcome A → Type 0) (cost : ℕ) (s : State) (next : State → Outcome A) → Follows P r s → ((why : Stop) (t : State) → Follows P r t → Claim (Stopped why t)) → ((t : State) → Follows P r t → Claim (next t)) → Claim (room cost s next)
   room_claims Claim cost s next h stops k = at s.counts.expansion refl
     where
-      run_within : (b : Bool) (c : ℕ) (t : State) → Follows P r t → Claim (cells_within b c t next)
-      run_within true c t f = k _ (follows_then steps r t _ f (steps.cells c t))
-      run_within false c t f = stops _ t f
+      run_within : (b : Bool) (c m : ℕ) (t : State) → t.counts.cells ≡ Some m → Follows P r t → Claim (cells_within b c t next)
+      run_within true c m t e f = k _ (follows_then steps r t _ f (steps.cells c m t e))
+      run_within false c m t e f = stops _ t f
 
-      more : (o : Option ℕ) (t : State) → Follows P r t → Claim (run_room o cost t next)
-      more None t f = k t f
-      more (Some c) t f = run_within (nat_le cost c) (c - cost) t f
+      more : (o : Option ℕ) (t : State) → t.counts.cells ≡ o → Follows P r t → Claim (run_room o cost t next)
+      more None t e f = k t f
+      more (Some c) t e f = run_within (nat_le cost c) (c - cost) c t e f
 
       within : (b : Bool) (x : Expansion) → s.counts.expansion ≡ Some x → Claim (expansion_within b x cost s (λ t. run_room t.counts.cells cost t next))
-      within true x e = more _ _ (follows_then steps r s _ h (steps.expansion_cells (x.cells - cost) x s e))
+      within true x e = more _ _ refl (follows_then steps r s _ h (steps.expansion_cells (x.cells - cost) x s e))
       within false x e = stops _ s h
 
       at : (o : Option Expansion) → s.counts.expansion ≡ o → Claim (expansion_room o cost s (λ t. run_room t.counts.cells cost t next))
-      at None e = more _ s h
+      at None e = more _ s refl h
       at (Some x) e = within (nat_le cost x.cells) x e
 
 module _ {P : State → State → Type 0} (steps : Steps P) {position : Position} {r : State} where

@@ -12,7 +12,7 @@ use Rattle.rl_meaning.specs.Variables.{with_mark}
 use Rattle.rl_meaning.specs.Forms.{Form, Call, Applied, Bad, head_of, count_of, call_levels, fits, lambda_parameters}
 use Rattle.rl_meaning.specs.Errors.{badly_formed}
 use Rattle.rl_meaning.specs.Evaluation.{Position, Statement, Inside, Here, Rec, longest_chain, of_none, operation_of, atom_in, identifiers_in, eval, arguments, applied_lambda, progn, clauses, clause, conjunction, disjunction, setq, returning, prog, statements, listed, combined, combined_rest, walked}
-use Rattle.rl_agrees.proofs.OneRunHeads.{lambda_form, call_form, special_form, list_form}
+use Rattle.rl_agrees.proofs.Heads.{lambda_form, call_form, special_form, list_form}
 use Rattle.rl_agrees.proofs.OneRun.{Follows, LeadsAt, Leads, anywhere, done_leads, then_leads, choose_leads, deeper_leads}
 use Rattle.rl_agrees.proofs.OneRunObjects.{fail_leads, pair_leads}
 use Rattle.rl_agrees.proofs.OneRunVariables.{mark_follows, variable_leads, assigned_leads, operated_leads, restored_leads, binding_leads}
@@ -137,6 +137,27 @@ module _ {P : State → State → Type 0} {rec : Rec} (keeps : RecLeads P rec) {
         then_leads _ _ (then_leads _ _ (eval_leads inner Inside e s h) (λ w t h. combined_rest_leads form inner w rest t h))
         (λ w u h. operated_leads keeps.steps (operation_of form) (v ∷ w ∷ []) u h))
     combined_rest_leads form here v end s h = done_leads v s h
+
+  -- a special form by itself
+  pub special_form_leads : (here : Here) (position : Position) (args : Tree) (form : Special) (s : State) → Follows P r s → LeadsAt P position r (special_form rec here position args s form)
+  special_form_leads here position args Quote s h = anywhere position _ (quoted_leads keeps args s h)
+  special_form_leads here position args names.Function s h = anywhere position _ (function_named_leads keeps args s h)
+  special_form_leads here position args Cond s h = clauses_lead here position args s h
+  special_form_leads here position args Progn s h = progn_leads here position nil args s h
+  special_form_leads here position args And s h = anywhere position _ (conjunction_leads here (truth true) args s h)
+  special_form_leads here position args Or s h = anywhere position _ (disjunction_leads here args s h)
+  special_form_leads here position args Setq s h = anywhere position _ (setq_leads here args s h)
+  special_form_leads here position args Prog s h = anywhere position _ (prog_leads here args s h)
+  special_form_leads here position args Go s h = going_leads keeps position args s h
+  special_form_leads here position args Return s h = returning_leads here position args s h
+  special_form_leads here position args List_ s h = anywhere position _ (listed_leads here args s h)
+  special_form_leads here position args Plus s h = anywhere position _ (combined_leads Plus here args s h)
+  special_form_leads here position args Times s h = anywhere position _ (combined_leads Times here args s h)
+  special_form_leads here position args Max s h = anywhere position _ (combined_leads Max here args s h)
+  special_form_leads here position args Min s h = anywhere position _ (combined_leads Min here args s h)
+  special_form_leads here position args De s h = anywhere position _ (define_function_leads keeps De here.levels args s h)
+  special_form_leads here position args Df s h = anywhere position _ (define_function_leads keeps Df here.levels args s h)
+  special_form_leads here position args Dm s h = anywhere position _ (define_function_leads keeps Dm here.levels args s h)
 
   pub walked_leads : (levels : Levels) (holder : ℕ) (f : Option Pointer) (held : Held) (vs : List Value) (s : State) → Follows P r s → Leads P r (walked rec levels holder f held vs s)
   walked_leads levels holder f held vs s h =

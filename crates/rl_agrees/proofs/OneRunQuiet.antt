@@ -58,7 +58,7 @@ quiet_steps = record {
   same = λ s. untold s s refl refl;
   and_then = quiet_then;
   turns = λ n s. turns_quiet s.counts.expansion n s;
-  cells = λ n s. untold s _ refl refl;
+  cells = λ n m s h. untold s _ refl refl;
   expansion_cells = λ n e s h. untold s _ refl refl;
   opened = λ f s. untold s (with_expansion f s) refl refl;
   closed = λ f s t h. record { output = h.output; notes = h.notes; objects = h.objects };

@@ -9,7 +9,7 @@ use Rattle.rl_meaning.specs.TwoRunsValues.{Names, Each, SameValue}
 use Rattle.rl_meaning.specs.TwoRunsStates.{Place, Like}
 use Rattle.rl_agrees.specs.TwoRunsJobs.{Goes, SameJob, IsOfState, Starts, EndsOf}
 use Rattle.rl_agrees.proofs.TwoRunsReady.{function_stays, ready_stays}
-use Rattle.rl_agrees.proofs.TwoRunsAssumed.{Ask, AskGoes, GoesOn, RecGoes}
+use Rattle.rl_agrees.proofs.TwoRunsAssumed.{Ask, AskGoes, GoesOn, IsPlainCompiler, RecGoes}
 use Rattle.rl_agrees.proofs.TwoRunsGoes.{goes_refl}
 use Rattle.rl_agrees.proofs.TwoRunsEnding.{Alike, Sides, stopped_here}
 
@@ -32,6 +32,7 @@ pub record CompilerRespects (c : Compiler) : Type 0 where
   pub names_goes : (vs : List Value) (s : State) → GoesOn s (c.compile_names vs s)
   pub writes_goes : (vs : List Value) (s : State) → GoesOn s (c.write_file vs s)
   pub loads_goes : (vs : List Value) (s : State) → GoesOn s (c.load_file vs s)
+  pub plain : IsPlainCompiler c
 
 pub no_compiler_respects : CompilerRespects no_compiler
 no_compiler_respects = record {
@@ -45,10 +46,11 @@ no_compiler_respects = record {
   names_goes = λ vs s. record { goes = goes_refl s };
   writes_goes = λ vs s. record { goes = goes_refl s };
   loads_goes = λ vs s. record { goes = goes_refl s };
+  plain = record { names = λ vs s. tt; writes = λ vs s. tt; loads = λ vs s. tt };
 }
 
 pub rec_goes : (c : Compiler) → CompilerRespects c → (ask : Ask) → AskGoes ask → RecGoes (by c ask)
-rec_goes c cr ask h = record { ask = h; taken = cr.taken_goes; defined = cr.defined_goes; names = cr.names_goes; writes = cr.writes_goes; loads = cr.loads_goes }
+rec_goes c cr ask h = record { ask = h; taken = cr.taken_goes; defined = cr.defined_goes; names = cr.names_goes; writes = cr.writes_goes; loads = cr.loads_goes; plain = cr.plain }
 
 pub of_state_stays : (j : Job) (s t : State) → Goes s t → IsOfState j s → IsOfState j t
 of_state_stays (Run name l holder (Some p) held vs) s t g h = (function_stays s t p held g.later.functions h.0, h.1, h.2)

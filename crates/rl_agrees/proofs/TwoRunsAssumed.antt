@@ -15,18 +15,22 @@ use Rattle.rl_meaning.specs.Definitions.{define, hold_lambda}
 use Rattle.rl_meaning.specs.Printing.{print_error, note}
 use Rattle.rl_meaning.specs.Natives.{native}
 use Rattle.rl_meaning.specs.Forms.{hold_part}
-use Rattle.rl_meaning.specs.Input.{Reading, Form, End, Unreadable, read_bytes}
+use Rattle.rl_meaning.specs.Input.{read_bytes}
 use Rattle.rl_meaning.specs.Walks.{Walked}
 use Rattle.rl_meaning.specs.Opening.{state_of}
 use Rattle.rl_meaning.specs.Run.{print_unreadable}
 use Rattle.rl_meaning.specs.Evaluation.{Job, Rec, Here, Position, Machine, Frame, Target, form_evaluated, list_applied, applied_to, called, fexpr_called, macro_called, expansion_of, expanded_body, jumped, eval, arguments, progn, clauses, conjunction, disjunction, statements, listed, combined_rest}
+use Rattle.rl_meaning.specs.Compiling.{Compiler}
 use Rattle.rl_meaning.specs.Machine.{linked, run, seek, run_code}
 use Rattle.rl_meaning.specs.TwoRunsValues.{Names, Maybe, Each, SameValue, SameParts, SameTree, SamePointer, SameNumber}
 use Rattle.rl_meaning.specs.TwoRunsStates.{Place, Like, Roomier, Shown}
 use Rattle.rl_meaning.specs.TwoRunsEnds.{Parted, Related, Ends}
+use Rattle.rl_agrees.specs.Leaving.{IsPlain, is_statement}
 use Rattle.rl_agrees.specs.TwoRunsJobs.{Goes}
-use Rattle.rl_agrees.proofs.TwoRunsHeads.{special_form}
+use Rattle.rl_agrees.proofs.Heads.{special_form}
 use Rattle.rl_agrees.proofs.TwoRunsWays.{Beside, Is}
+use Rattle.rl_agrees.proofs.TwoRunsWalks.{SameWalked}
+use Rattle.rl_agrees.proofs.TwoRunsReading.{SameReading}
 
 -- ---- one run
 
@@ -37,8 +41,16 @@ pub record GoesOn {A : Type 0} (s : State) (o : Outcome A) : Type 0 where
 abbrev pub Ask : Type 0
 Ask = Job → State → Outcome Value
 
-abbrev pub AskGoes : Ask → Type 0
-AskGoes ask = (j : Job) (s : State) → GoesOn s (ask j s)
+-- jobs go on, and only a statement of a PROG leaves by GO or RETURN
+pub record AskGoes (ask : Ask) : Type 0 where
+  pub goes : (j : Job) (s : State) → GoesOn s (ask j s)
+  pub plain : (j : Job) (s : State) → is_statement j ≡ false → IsPlain (ask j s)
+
+-- compilation neither goes nor returns
+pub record IsPlainCompiler (c : Compiler) : Type 0 where
+  pub names : (vs : List Value) (s : State) → IsPlain (c.compile_names vs s)
+  pub writes : (vs : List Value) (s : State) → IsPlain (c.write_file vs s)
+  pub loads : (vs : List Value) (s : State) → IsPlain (c.load_file vs s)
 
 -- jobs go on, and what compilation does
 pub record RecGoes (rec : Rec) : Type 0 where
@@ -48,6 +60,7 @@ pub record RecGoes (rec : Rec) : Type 0 where
   pub names : (vs : List Value) (s : State) → GoesOn s (rec.compiler.compile_names vs s)
   pub writes : (vs : List Value) (s : State) → GoesOn s (rec.compiler.write_file vs s)
   pub loads : (vs : List Value) (s : State) → GoesOn s (rec.compiler.load_file vs s)
+  pub plain : IsPlainCompiler rec.compiler
 
 pub record OneRunFacts : Type 0 where
   -- what asks for no job
@@ -115,13 +128,8 @@ may_part Terpri = true
 may_part other = false
 
 -- of the ends of two walks along lists
-pub data SameList (n : Names) : Walked (List Value) → Walked (List Value) → Type 0 where
-  same_list : (xs ys : List Value) (x y : Option Value) → Each (SameValue n) xs ys → Maybe (SameValue n) x y → SameList n (record { result = xs; end = x }) (record { result = ys; end = y })
-
-pub data SameReading (n : Names) : Reading → Reading → Type 0 where
-  same_form : (v w : Value) (rest : List ℕ) → SameValue n v w → SameReading n (Form v rest) (Form w rest)
-  same_end : SameReading n End End
-  same_unreadable : (k : ℕ) (rest : List ℕ) → SameReading n (Unreadable k rest) (Unreadable k rest)
+abbrev pub SameList : (n : Names) → Walked (List Value) → Walked (List Value) → Type 0
+SameList n v w = SameWalked (λ n xs ys. Each (SameValue n) xs ys) n v w
 
 pub record TwoRunsFacts : Type 0 where
   pub hold_form_ : (n : Names) (ps : List Place) (l m : Levels) (v w : Value) (s t : State) → Roomier l m → SameValue n v w → Like n ps s t → Beside SameNumber n ps (hold_form l v s) (hold_form m w t)

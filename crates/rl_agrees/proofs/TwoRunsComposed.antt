@@ -229,7 +229,7 @@ module _
         (code_respects (below i) (below i) (below_goes i) (below_goes i) (below_respects i ih) n ps l m p (Some f) a b code entry.code vs ws s t r pq hh same vv st.like st.whole st.ready)) in
         subst (λ qs. Ends n qs (job the_compiler j s) (job the_compiler k t)) (sym (whole_places n ps s.bindings t.bindings st.whole st.like.bindings))
         (joined n (names_on_right n) (right_covers n) first.places (all_both t.bindings) first.whole (all_both_whole t.bindings) (job the_compiler j s) P (job the_compiler k t)
-        ((job_goes k t).goes.within st.ready.event) second.events (sym (code_goes m (Some f) b entry.code ws t).goes.bounded ∙ (job_goes k t).goes.bounded) first.ends second.ends)
+        ((job_goes.goes k t).goes.within st.ready.event) second.events (sym (code_goes m (Some f) b entry.code ws t).goes.bounded ∙ (job_goes.goes k t).goes.bounded) first.ends second.ends)
 
     code_agrees : (i : ℕ) → Below i → (n : Names) (ps : List Place) (name : Option ℕ) (l m : Levels) (h g : ℕ) (p q : Option Pointer) (a b : Held) (vs ws : List Value) (s t : State) (code : Code)
         → Starts the_compiler n ps (Run name l h p a vs) s (Run name m g q b ws) t → Roomier l m → Maybe (SamePointer n) p q → SameHeld n a b → Each (SameValue n) vs ws

@@ -34,7 +34,8 @@ use Rattle.rl_agrees.proofs.TwoRunsWays.{Is, is, reading_like, pair_read_like, w
 use Rattle.rl_agrees.proofs.TwoRunsObjects.{pair_same, nil_same, symbol_same, each_length, each_at, made_pair_related}
 use Rattle.rl_agrees.proofs.TwoRunsForms.{label_same, function_same, definition_same}
 use Rattle.rl_agrees.proofs.TwoRunsReady.{ready_stays}
-use Rattle.rl_agrees.proofs.TwoRunsAssumed.{Ask, AskGoes, GoesOn, RecGoes, OneRunFacts, TwoRunsFacts, may_part, SameList, same_list}
+use Rattle.rl_agrees.proofs.TwoRunsAssumed.{Ask, AskGoes, GoesOn, RecGoes, OneRunFacts, TwoRunsFacts, may_part, SameList}
+use Rattle.rl_agrees.proofs.TwoRunsWalks.{same_walked}
 use Rattle.rl_agrees.proofs.TwoRunsGoes.{goes_refl, goes_trans, then_goes, choose_goes, deeper_goes, goes_to, Context, parted_in}
 use Rattle.rl_agrees.proofs.TwoRunsEnding.{Alike, Sides, further_ends, done_here, stopped_here, sides_on, then_ends, closed_ends, choose_ends, turn_ends, counts_sides, deeper_ends, quiet_ends, pair_quiet, fail_ends, fail_goes, restored_ends, mark_sides}
 use Rattle.rl_agrees.proofs.TwoRunsAsked.{by, Respects, CompilerRespects, rec_goes, of_state_stays, starts, taken_sides}
@@ -174,7 +175,7 @@ module _ (c : Compiler) (cr : CompilerRespects c) (one : OneRunFacts) (two : Two
       let u' : State = c.requests_taken name u in
       let v' : State = c.requests_taken name v in
       let j : Sides c n ps u' v' = taken_sides c cr n ps name u v i in
-      deeper_ends c n ps u' v' _ _ j (λ l. ga (Run name l h p a xs) u') (λ m. gb (Run name m g q b ys) v')
+      deeper_ends c n ps u' v' _ _ j (λ l. ga.goes (Run name l h p a xs) u') (λ m. gb.goes (Run name m g q b ys) v')
       (λ l m r. respects n ps (Run name l h p a xs) u' (Run name m g q b ys) v' (starts c n ps _ _ u' v' (same_run name l m h g p q a b xs ys r x pq ab vv) j
       (of_state_stays (Run name m g q b ys) t v' (goes_trans t v v' gv (cr.taken_goes name v)) e))) 1 l m r)
 
@@ -183,7 +184,7 @@ module _ (c : Compiler) (cr : CompilerRespects c) (one : OneRunFacts) (two : Two
       let j : Sides c n (Both ∷ ps) (with_mark None s) (with_mark None t) = mark_sides c n ps None None s t nothing i in
       let h' : Here = record { levels = l; chain = longest_chain; kept = kept; holder = f } in
       let g' : Here = record { levels = m; chain = longest_chain; kept = kept; holder = g } in
-      restored_ends n ps s t _ _ i.whole i.like ((gb (In g' Inside b) (with_mark None t)).goes.within j.ready.event)
+      restored_ends n ps s t _ _ i.whole i.like ((gb.goes (In g' Inside b) (with_mark None t)).goes.within j.ready.event)
       (record { places = Both ∷ ps; whole = j.whole; deep = omega arith; ends = respects n (Both ∷ ps) (In h' Inside a) (with_mark None s) (In g' Inside b) (with_mark None t) (starts c n (Both ∷ ps) _ _ _ _ (same_in h' g' Inside a b (same_here longest_chain kept l m f g r x) h) j tt) })
   form_ends n ps l m f g _ _ s t r x (same_special form) i = done_here c n ps nil nil s t (same_id 0) i
   form_ends n ps l m f g _ _ s t r x (same_native native) i = done_here c n ps nil nil s t (same_id 0) i
@@ -247,7 +248,7 @@ module _ (c : Compiler) (cr : CompilerRespects c) (one : OneRunFacts) (two : Two
       at : (k' : Names) (w z : Walked (List Value)) (s t : State) → Grows n k' → SameList k' w z → Sides c k' ps s t
           → Alike SameValue k' ps (with_arguments (proper w.end (Some w.result)) u s (λ vs s. deeper (length vs / 8) l s (λ levels. applied_to rec levels x vs s)))
           (with_arguments (proper z.end (Some z.result)) v t (λ vs s. deeper (length vs / 8) m s (λ levels. applied_to rec' levels y vs s)))
-      at k' _ _ s t g (same_list xs ys f h vv xx) i = proper_ends c one k' ps f h xs ys u v s t _ _ xx (value_grows n k' u v k g) i
+      at k' _ _ s t g (same_walked xs ys f h vv xx) i = proper_ends c one k' ps f h xs ys u v s t _ _ xx (value_grows n k' u v k g) i
           (rw (← each_length (SameValue k') xs ys vv) (deeper_ends c k' ps s t _ _ i (λ l. one.applied_to_goes rec gl l x xs s) (λ l. one.applied_to_goes rec' gr l y ys t)
           (λ l m r. applied_to_ends k' ps l m x y xs ys s t r (target_grows n k' x y a g) vv i) (length xs / 8) l m r))
 

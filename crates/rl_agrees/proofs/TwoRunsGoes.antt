@@ -21,7 +21,7 @@ more_refl xs = record { rest = []; is = sym (append-nil xs) }
 more_trans : {A : Type 0} (xs ys zs : List A) → IsMore xs ys → IsMore ys zs → IsMore xs zs
 more_trans xs ys zs h g = record { rest = h.rest ++ g.rest; is = g.is ∙ (ap (λ w. w ++ g.rest) h.is ∙ append_assoc xs h.rest g.rest) }
 
-more_length : {A : Type 0} (xs ys : List A) → IsMore xs ys → length xs ≤ length ys
+pub more_length : {A : Type 0} (xs ys : List A) → IsMore xs ys → length xs ≤ length ys
 more_length xs ys h = let x : length ys ≡ length (xs ++ h.rest) = ap (λ fs. length fs) h.is in omega (arith, x, length-append xs h.rest)
 
 noted_lower : (t : State) (r n m : ℕ) → m ≤ n → IsNoted t r n → IsNoted t r m

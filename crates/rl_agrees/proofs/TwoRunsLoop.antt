@@ -34,7 +34,8 @@ use Rattle.rl_agrees.proofs.TwoRunsForms.{function_same}
 use Rattle.rl_agrees.proofs.TwoRunsPrinting.{mark_like, fresh_like}
 use Rattle.rl_agrees.proofs.TwoRunsKnown.{all_both_whole}
 use Rattle.rl_agrees.proofs.TwoRunsJoined.{begins_refl, begins_trans, take_begins, both_begin, shown_refl}
-use Rattle.rl_agrees.proofs.TwoRunsAssumed.{AskGoes, GoesOn, OneRunFacts, TwoRunsFacts, SameReading, same_form, same_end, same_unreadable}
+use Rattle.rl_agrees.proofs.TwoRunsAssumed.{AskGoes, GoesOn, OneRunFacts, TwoRunsFacts}
+use Rattle.rl_agrees.proofs.TwoRunsReading.{SameReading, same_form, same_end, same_unreadable}
 use Rattle.rl_agrees.proofs.TwoRunsAsked.{Respects}
 use Rattle.rl_agrees.proofs.TwoRunsGoes.{goes_refl, goes_trans, then_goes, Context, parted_in}
 use Rattle.rl_agrees.proofs.TwoRunsEnding.{Sides, further_ends, sides_on, then_ends, quiet_ends}
@@ -133,7 +134,7 @@ module _ (facts : LoopFacts) where
       (facts.composed n ps (In h Inside a) s (In g Inside b) t (record { same = same_in h g Inside a b x y; like = i.like; whole = i.whole; of_state = tt; ready = i.ready })))
 
   held_goes : (l : Levels) (f : ℕ) (function : Function) (s : State) → GoesOn s (held_evaluated l f function s)
-  held_goes l f (HeldFunction held) s = subst (λ o. GoesOn s o) (evaluate_is _ held.body s) (facts.job_goes _ s)
+  held_goes l f (HeldFunction held) s = subst (λ o. GoesOn s o) (evaluate_is _ held.body s) (facts.job_goes.goes _ s)
   held_goes l f (SpecialForm form) s = record { goes = goes_refl s }
   held_goes l f (NativeFunction native) s = record { goes = goes_refl s }
 

@@ -524,7 +524,7 @@ module _ (one : OneRunFacts) (two : TwoRunsFacts) (ask ask' : Ask) (left : AskGo
       record { places = r.places; whole = r.whole; ends = r.ends }
 
   marked_goes : (ask : Ask) → AskGoes ask → (f : Frame) (m : Machine) (c : Code) (p : Option Pointer) (s : State) → GoesOn s (ask (Onward f m c) (with_mark p s))
-  marked_goes ask h f m c p s = goes_from s (with_mark p s) (ask (Onward f m c) (with_mark p s)) (goes_with s s.counts _ refl) (h (Onward f m c) (with_mark p s))
+  marked_goes ask h f m c p s = goes_from s (with_mark p s) (ask (Onward f m c) (with_mark p s)) (goes_with s s.counts _ refl) (h.goes (Onward f m c) (with_mark p s))
 
   again_somewhere : (n : Names) (f g : Frame) (vs ws : List Value) (s t : State) → SameFrame n f g → Each (SameValue n) vs ws → Abreast n s t → Somewhere SameValue n (again rec f vs s) (again rec' g ws t)
   again_somewhere n f g vs ws s t h e x =

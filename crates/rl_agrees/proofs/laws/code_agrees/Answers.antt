@@ -1,0 +1,5 @@
+use Rattle.rl_agrees.proofs.TwoRunsGiven.{code_agrees}
+use Rattle.rl_agrees.proofs.laws.code_agrees.Goals as goal
+
+pub returns : goal.returns
+returns c = code_agrees c.fuel_is_enough.ensures
