@@ -1,0 +1,31 @@
+-- What parsing has to do with the grammar.
+use Rattle.std.specs.Prelude.{◌≡◌, ◌↔◌, ℕ, suc, ◌<◌, ◌≤◌, ◌-◌, List, [], ◌++◌, length, take}
+use Rattle.rl_grammar.specs.Token.{Separator, Token}
+use Rattle.rl_grammar.specs.Tree.{Body}
+use Rattle.rl_grammar.specs.Grammar.{IsStatement}
+use Rattle.rl_grammar.specs.Form.{Meant, Means}
+use Rattle.rl_grammar.specs.Statement.{Parsed, Syntax, parse_statement}
+
+abbrev pub ParsesGrammar : Type 0
+ParsesGrammar = (ts : List Token) (a : Body) (s : Separator) (rest : List Token) → (parse_statement ts ≡ Parsed a s rest) ↔ IsStatement ts a s rest
+
+-- tokens begin with one statement, which means one thing, or with none
+abbrev pub MeansOne : Type 0
+MeansOne = (ts : List Token) (m n : Meant) (rest more : List Token) → Means ts m rest → Means ts n more → (m ≡ n) × (rest ≡ more)
+
+-- some statement begins with these tokens
+pub record BeginsStatement (ts : List Token) : Type 0 where
+  pub more : List Token
+  pub tree : Body
+  pub separator : Separator
+  pub is : IsStatement (ts ++ more) tree separator []
+
+-- the tokens begin with no statement; some statement begins with the first k, and none with one more
+pub record IsRefusedAt (ts : List Token) (k : ℕ) : Type 0 where
+  pub none : (a : Body) (s : Separator) (rest : List Token) → IsStatement ts a s rest → ⊥
+  pub within : k ≤ length ts
+  pub begins : BeginsStatement (take k ts)
+  pub stops : k < length ts → BeginsStatement (take (suc k) ts) → ⊥
+
+abbrev pub RefusesFirst : Type 0
+RefusesFirst = (ts : List Token) (k : ℕ) → ((from : List Token) × (parse_statement ts ≡ Syntax from) × (k ≡ length ts - length from)) ↔ IsRefusedAt ts k
