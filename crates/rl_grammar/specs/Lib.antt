@@ -4,4 +4,9 @@ pub mod Grammar
 pub mod Form
 pub mod Parser
 pub mod Statement
+pub mod Written
+pub mod Lexer
+pub mod Nesting
+pub mod Within
+pub mod Source
 pub mod Laws
