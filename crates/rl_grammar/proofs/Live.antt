@@ -3,7 +3,7 @@ use Rattle.std.proofs.Common.{◌≡◌, true, List, [], ◌∷◌, refl, ◌∙
 use Rattle.rl_grammar.specs.Token.{Semicolon, Do, Token, Identifier, Assign, Close, Colon, Then, Until, In, Does, Separating, End}
 use Rattle.rl_grammar.specs.Tree.{Head, Plain, Just, Also, NoParameters, NoneListed, Listed, Labels, Unlabelled, Label, Declarations, Declared, Group, Block, Prog, group_end, GoBare, Tree, Variable, Bare, Call, Apply, Paren, Set, Binary, Raise, Pair, Negate, Signed, IfThen, IfElse, WhileDo, RepeatUntil, ForTo, EachIn, LambdaOf, Grouped, ReturnNone, ReturnOf, GoingTo, Nothing, Something}
 use Rattle.rl_grammar.specs.Grammar.{is_else, begins, is_lambda}
-use Rattle.rl_grammar.specs.Parser.{with_last, Behind, NoPiece, with_piece, Frame, InBinary, InPower, InPair, InNot, InSign, InApply, InSet, InParen, InCond, InThen, InElse, InWhile, InDo, InRepeat, InUntil, InFrom, InTo, InFor, InOf, InEach, InLambda, InArgs, InPiece, InReturn, wanted, Listing, Begun, Opening, Naming, Parted, Over, State, Want, Named, Has, Opened, Shut, Returned, AtPiece, AtName, AtDeclarations, AtScalar, AtNames, AtMore, AtParameters, AtFor, AtIndex, AtEach, AtIn, AtGo, AtGoal, Step, Goes, ended, after, Read, after_step, run}
+use Rattle.rl_grammar.specs.Parser.{with_last, Behind, NoPiece, with_piece, Frame, InBinary, InPower, InPair, InNot, InSign, InApply, InSet, InParen, InCond, InThen, InElse, InWhile, InDo, InRepeat, InUntil, InFrom, InTo, InFor, InOf, InEach, InLambda, InArgs, InPiece, InReturn, wanted, Listing, Begun, Opening, Naming, Parted, Over, State, Want, Named, Has, Opened, Shut, Returned, AtPiece, AtName, AtDeclarations, AtScalar, AtNames, AtMore, AtParameters, AtFor, AtIndex, AtEach, AtIn, AtGo, AtGoal, Step, Goes, ended, after, is_colon, Read, after_step, run}
 use Rattle.rl_tree.specs.Name.{t_name}
 use Rattle.std.proofs.lemmas.Bool.{cond_both, cond-false, not-true}
 use Rattle.rl_grammar.proofs.Complete.{closes, closes_goes, closes_else, closes_follows, closes_begins, name_read, shut_read, reduced, by_step}
@@ -116,11 +116,18 @@ finish (InPiece Block ps ls ∷ fs) a = let outer = finish fs (Grouped Block (wi
 finish (InPiece (Prog ds) ps ls ∷ fs) a = let outer = finish fs (Grouped (Prog ds) (with_piece ps (Something ls a))) in record { tree = outer.tree; read = outer.read }
 finish (InReturn ∷ fs) a = reduces InReturn fs a (ReturnOf a) refl (finish fs (ReturnOf a))
 
+-- the tokens make a label of a name that may be one
+abbrev pub LabelsName : State → List Token → Type 0
+LabelsName (AtName fs g ps ls x) [] = ⊥
+LabelsName (AtName fs g ps ls x) (t ∷ ts) = is_colon t ≡ true
+LabelsName s ts = Unit {0}
+
 -- tokens that end the statement well
 pub record Live (s : State) : Type 0 where
   pub tokens : List Token
   pub tree : Tree
   pub read : run s tokens ≡ Read tree Semicolon []
+  pub labels : LabelsName s tokens
 
 pieces_live : (fs : List Frame) (g : Group) (ps : Behind) (ls : Labels) → Finish (AtPiece fs g ps ls) (group_end g ∷ ending fs)
 pieces_live fs Block ps ls = let outer = finish fs (Grouped Block (with_piece ps (Nothing ls))) in record { tree = outer.tree; read = outer.read }
@@ -133,29 +140,29 @@ want_live : (fs : List Frame) → Finish (Want fs) (Identifier t_name ∷ ending
 want_live fs = operand fs (finish fs zero_variable)
 
 parameters_live : (fs : List Frame) (l : Listing) → Live (AtParameters fs l)
-parameters_live fs Begun = let end = want_live (InLambda NoParameters ∷ fs) in record { tokens = Separating Semicolon ∷ Identifier t_name ∷ ending fs; tree = end.tree; read = end.read }
-parameters_live fs Opening = let end = want_live (InLambda NoneListed ∷ fs) in record { tokens = Close ∷ Separating Semicolon ∷ Identifier t_name ∷ ending fs; tree = end.tree; read = end.read }
-parameters_live fs (Naming xs) = let end = want_live (InLambda (Listed xs) ∷ fs) in record { tokens = Close ∷ Separating Semicolon ∷ Identifier t_name ∷ ending fs; tree = end.tree; read = end.read }
-parameters_live fs (Parted xs) = let end = want_live (InLambda (Listed (Also xs t_name)) ∷ fs) in record { tokens = Identifier t_name ∷ Close ∷ Separating Semicolon ∷ Identifier t_name ∷ ending fs; tree = end.tree; read = end.read }
-parameters_live fs (Over p) = let end = want_live (InLambda p ∷ fs) in record { tokens = Separating Semicolon ∷ Identifier t_name ∷ ending fs; tree = end.tree; read = end.read }
+parameters_live fs Begun = let end = want_live (InLambda NoParameters ∷ fs) in record { tokens = Separating Semicolon ∷ Identifier t_name ∷ ending fs; tree = end.tree; read = end.read; labels = tt }
+parameters_live fs Opening = let end = want_live (InLambda NoneListed ∷ fs) in record { tokens = Close ∷ Separating Semicolon ∷ Identifier t_name ∷ ending fs; tree = end.tree; read = end.read; labels = tt }
+parameters_live fs (Naming xs) = let end = want_live (InLambda (Listed xs) ∷ fs) in record { tokens = Close ∷ Separating Semicolon ∷ Identifier t_name ∷ ending fs; tree = end.tree; read = end.read; labels = tt }
+parameters_live fs (Parted xs) = let end = want_live (InLambda (Listed (Also xs t_name)) ∷ fs) in record { tokens = Identifier t_name ∷ Close ∷ Separating Semicolon ∷ Identifier t_name ∷ ending fs; tree = end.tree; read = end.read; labels = tt }
+parameters_live fs (Over p) = let end = want_live (InLambda p ∷ fs) in record { tokens = Separating Semicolon ∷ Identifier t_name ∷ ending fs; tree = end.tree; read = end.read; labels = tt }
 
 pub live : (s : State) → Live s
-live (Want fs) = let end = want_live fs in record { tokens = Identifier t_name ∷ ending fs; tree = end.tree; read = end.read }
-live (Named fs h) = let end = name_reads fs h (closer fs) (closers fs) (closer_closes fs) (finish fs (Variable h)) in record { tokens = ending fs; tree = end.tree; read = end.read }
-live (Has fs a) = let end = finish fs a in record { tokens = ending fs; tree = end.tree; read = end.read }
-live (Opened fs c) = let end = finish fs (Bare c) in record { tokens = Close ∷ ending fs; tree = end.tree; read = end.read }
-live (Shut fs a) = let end = finish fs (Paren a) in record { tokens = ending fs; tree = end.tree; read = shut_read fs a (closer fs) (closers fs) (closes_follows _ (closer_closes fs)) ∙ end.read }
-live (Returned fs) = let end = finish fs ReturnNone in record { tokens = ending fs; tree = end.tree; read = by_step (Returned fs) (closer fs) (closers fs) _ (cond-false (begins (closer fs)) _ _ (closes_begins _ (closer_closes fs))) ∙ end.read }
-live (AtPiece fs g ps ls) = let end = pieces_live fs g ps ls in record { tokens = group_end g ∷ ending fs; tree = end.tree; read = end.read }
-live (AtName fs g ps ls x) = let end = pieces_live fs g ps (Label ls x) in record { tokens = Colon ∷ group_end g ∷ ending fs; tree = end.tree; read = end.read }
-live (AtDeclarations fs ds) = let end = declarations_live fs ds in record { tokens = End ∷ ending fs; tree = end.tree; read = end.read }
-live (AtScalar fs ds) = let end = declarations_live fs (Declared ds (Just t_name)) in record { tokens = Identifier t_name ∷ Separating Semicolon ∷ End ∷ ending fs; tree = end.tree; read = end.read }
-live (AtNames fs ds xs) = let end = declarations_live fs (Declared ds xs) in record { tokens = Separating Semicolon ∷ End ∷ ending fs; tree = end.tree; read = end.read }
-live (AtMore fs ds xs) = let end = declarations_live fs (Declared ds (Also xs t_name)) in record { tokens = Identifier t_name ∷ Separating Semicolon ∷ End ∷ ending fs; tree = end.tree; read = end.read }
+live (Want fs) = let end = want_live fs in record { tokens = Identifier t_name ∷ ending fs; tree = end.tree; read = end.read; labels = tt }
+live (Named fs h) = let end = name_reads fs h (closer fs) (closers fs) (closer_closes fs) (finish fs (Variable h)) in record { tokens = ending fs; tree = end.tree; read = end.read; labels = tt }
+live (Has fs a) = let end = finish fs a in record { tokens = ending fs; tree = end.tree; read = end.read; labels = tt }
+live (Opened fs c) = let end = finish fs (Bare c) in record { tokens = Close ∷ ending fs; tree = end.tree; read = end.read; labels = tt }
+live (Shut fs a) = let end = finish fs (Paren a) in record { tokens = ending fs; tree = end.tree; read = shut_read fs a (closer fs) (closers fs) (closes_follows _ (closer_closes fs)) ∙ end.read; labels = tt }
+live (Returned fs) = let end = finish fs ReturnNone in record { tokens = ending fs; tree = end.tree; read = by_step (Returned fs) (closer fs) (closers fs) _ (cond-false (begins (closer fs)) _ _ (closes_begins _ (closer_closes fs))) ∙ end.read; labels = tt }
+live (AtPiece fs g ps ls) = let end = pieces_live fs g ps ls in record { tokens = group_end g ∷ ending fs; tree = end.tree; read = end.read; labels = tt }
+live (AtName fs g ps ls x) = let end = pieces_live fs g ps (Label ls x) in record { tokens = Colon ∷ group_end g ∷ ending fs; tree = end.tree; read = end.read; labels = refl }
+live (AtDeclarations fs ds) = let end = declarations_live fs ds in record { tokens = End ∷ ending fs; tree = end.tree; read = end.read; labels = tt }
+live (AtScalar fs ds) = let end = declarations_live fs (Declared ds (Just t_name)) in record { tokens = Identifier t_name ∷ Separating Semicolon ∷ End ∷ ending fs; tree = end.tree; read = end.read; labels = tt }
+live (AtNames fs ds xs) = let end = declarations_live fs (Declared ds xs) in record { tokens = Separating Semicolon ∷ End ∷ ending fs; tree = end.tree; read = end.read; labels = tt }
+live (AtMore fs ds xs) = let end = declarations_live fs (Declared ds (Also xs t_name)) in record { tokens = Identifier t_name ∷ Separating Semicolon ∷ End ∷ ending fs; tree = end.tree; read = end.read; labels = tt }
 live (AtParameters fs l) = parameters_live fs l
-live (AtFor fs) = let end = want_live (InFrom t_name ∷ fs) in record { tokens = Identifier t_name ∷ Assign ∷ Identifier t_name ∷ ending (InFrom t_name ∷ fs); tree = end.tree; read = end.read }
-live (AtIndex fs x) = let end = want_live (InFrom x ∷ fs) in record { tokens = Assign ∷ Identifier t_name ∷ ending (InFrom x ∷ fs); tree = end.tree; read = end.read }
-live (AtEach fs e) = let end = want_live (InOf e t_name ∷ fs) in record { tokens = Identifier t_name ∷ In ∷ Identifier t_name ∷ ending (InOf e t_name ∷ fs); tree = end.tree; read = end.read }
-live (AtIn fs e x) = let end = want_live (InOf e x ∷ fs) in record { tokens = In ∷ Identifier t_name ∷ ending (InOf e x ∷ fs); tree = end.tree; read = end.read }
-live (AtGo fs) = let end = finish fs (GoingTo GoBare t_name) in record { tokens = Identifier t_name ∷ ending fs; tree = end.tree; read = end.read }
-live (AtGoal fs g) = let end = finish fs (GoingTo g t_name) in record { tokens = Identifier t_name ∷ ending fs; tree = end.tree; read = end.read }
+live (AtFor fs) = let end = want_live (InFrom t_name ∷ fs) in record { tokens = Identifier t_name ∷ Assign ∷ Identifier t_name ∷ ending (InFrom t_name ∷ fs); tree = end.tree; read = end.read; labels = tt }
+live (AtIndex fs x) = let end = want_live (InFrom x ∷ fs) in record { tokens = Assign ∷ Identifier t_name ∷ ending (InFrom x ∷ fs); tree = end.tree; read = end.read; labels = tt }
+live (AtEach fs e) = let end = want_live (InOf e t_name ∷ fs) in record { tokens = Identifier t_name ∷ In ∷ Identifier t_name ∷ ending (InOf e t_name ∷ fs); tree = end.tree; read = end.read; labels = tt }
+live (AtIn fs e x) = let end = want_live (InOf e x ∷ fs) in record { tokens = In ∷ Identifier t_name ∷ ending (InOf e x ∷ fs); tree = end.tree; read = end.read; labels = tt }
+live (AtGo fs) = let end = finish fs (GoingTo GoBare t_name) in record { tokens = Identifier t_name ∷ ending fs; tree = end.tree; read = end.read; labels = tt }
+live (AtGoal fs g) = let end = finish fs (GoingTo g t_name) in record { tokens = Identifier t_name ∷ ending fs; tree = end.tree; read = end.read; labels = tt }

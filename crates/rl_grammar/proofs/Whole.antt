@@ -5,10 +5,11 @@ use Rattle.rl_grammar.specs.Tree.{Names, Just, Also, names_spelled, Parameters, 
 use Rattle.rl_grammar.specs.Grammar.{begins, BodyFits, IsStatement}
 use Rattle.rl_grammar.specs.Parser.{Listing, Begun, Opening, Naming, Parted, Over, State, Want, Step, Goes, Done, Refuses, step, Outcome, Read, Refused, after_step, run}
 use Rattle.rl_grammar.specs.Statement.{MaybeFiles, NoFiles, SomeFiles, with_file, Place, Start, AtMode, AtKind, AtProcedure, AtListing, AtEnd, AtFile, AtFiles, Inside, PlaceStep, GoesTo, Ends, Fails, inside, at_body, at_start, at_mode, at_kind, at_procedure, at_listing, at_end, at_file, at_files, place_step, Result, Parsed, Syntax, after_place, run_place, parse_statement}
+use Rattle.rl_grammar.specs.Source.{fits}
 use Rattle.rl_tree.specs.Name.{Name, t_name}
 use Rattle.rl_grammar.proofs.Sound.{shown_listing, shown_state, StateFits, Holds, Front, step_holds}
 use Rattle.rl_grammar.proofs.Complete.{first, expr_is_parsed}
-use Rattle.rl_grammar.proofs.Live.{live}
+use Rattle.rl_grammar.proofs.Live.{LabelsName, live}
 
 -- ---- inside an expr
 
@@ -197,24 +198,29 @@ statement_is_parsed ts b p rest s = ap parse_statement s.is ∙ body_read b p re
 
 -- ---- some tokens end it well
 
+abbrev pub LabelsPlace : Place → List Token → Type 0
+LabelsPlace (Inside b s) ts = LabelsName s ts
+LabelsPlace s ts = Unit {0}
+
 pub record PlaceLive (s : Place) : Type 0 where
   pub tokens : List Token
   pub body : Body
   pub read : run_place s tokens ≡ Parsed body Semicolon []
+  pub labels : LabelsPlace s tokens
 
 pub place_live : (s : Place) → PlaceLive s
-place_live Start = record { tokens = Separating Semicolon ∷ []; body = Empty; read = refl }
-place_live (AtMode m) = record { tokens = Separating Semicolon ∷ []; body = Only m; read = refl }
-place_live (AtKind m k) = record { tokens = Procedure ∷ Identifier t_name ∷ Separating Semicolon ∷ Integer 0 ∷ Separating Semicolon ∷ []; body = Based (Defining m (OfKind k) t_name NoParameters) (Whole 0); read = refl }
-place_live (AtProcedure m k) = record { tokens = Identifier t_name ∷ Separating Semicolon ∷ Integer 0 ∷ Separating Semicolon ∷ []; body = Based (Defining m k t_name NoParameters) (Whole 0); read = refl }
-place_live (AtListing m k x Begun) = record { tokens = Separating Semicolon ∷ Integer 0 ∷ Separating Semicolon ∷ []; body = Based (Defining m k x NoParameters) (Whole 0); read = refl }
-place_live (AtListing m k x Opening) = record { tokens = Close ∷ Separating Semicolon ∷ Integer 0 ∷ Separating Semicolon ∷ []; body = Based (Defining m k x NoneListed) (Whole 0); read = refl }
-place_live (AtListing m k x (Naming xs)) = record { tokens = Close ∷ Separating Semicolon ∷ Integer 0 ∷ Separating Semicolon ∷ []; body = Based (Defining m k x (Listed xs)) (Whole 0); read = refl }
-place_live (AtListing m k x (Parted xs)) = record { tokens = Identifier t_name ∷ Close ∷ Separating Semicolon ∷ Integer 0 ∷ Separating Semicolon ∷ []; body = Based (Defining m k x (Listed (Also xs t_name))) (Whole 0); read = refl }
-place_live (AtListing m k x (Over p)) = record { tokens = Separating Semicolon ∷ Integer 0 ∷ Separating Semicolon ∷ []; body = Based (Defining m k x p) (Whole 0); read = refl }
-place_live AtEnd = record { tokens = Separating Semicolon ∷ []; body = Ending; read = refl }
-place_live (AtFile ks) = record { tokens = String [] ∷ Separating Semicolon ∷ []; body = InFiles (with_file ks []); read = refl }
-place_live (AtFiles ks) = record { tokens = Separating Semicolon ∷ []; body = InFiles ks; read = refl }
+place_live Start = record { tokens = Separating Semicolon ∷ []; body = Empty; read = refl; labels = tt }
+place_live (AtMode m) = record { tokens = Separating Semicolon ∷ []; body = Only m; read = refl; labels = tt }
+place_live (AtKind m k) = record { tokens = Procedure ∷ Identifier t_name ∷ Separating Semicolon ∷ Integer 0 ∷ Separating Semicolon ∷ []; body = Based (Defining m (OfKind k) t_name NoParameters) (Whole 0); read = refl; labels = tt }
+place_live (AtProcedure m k) = record { tokens = Identifier t_name ∷ Separating Semicolon ∷ Integer 0 ∷ Separating Semicolon ∷ []; body = Based (Defining m k t_name NoParameters) (Whole 0); read = refl; labels = tt }
+place_live (AtListing m k x Begun) = record { tokens = Separating Semicolon ∷ Integer 0 ∷ Separating Semicolon ∷ []; body = Based (Defining m k x NoParameters) (Whole 0); read = refl; labels = tt }
+place_live (AtListing m k x Opening) = record { tokens = Close ∷ Separating Semicolon ∷ Integer 0 ∷ Separating Semicolon ∷ []; body = Based (Defining m k x NoneListed) (Whole 0); read = refl; labels = tt }
+place_live (AtListing m k x (Naming xs)) = record { tokens = Close ∷ Separating Semicolon ∷ Integer 0 ∷ Separating Semicolon ∷ []; body = Based (Defining m k x (Listed xs)) (Whole 0); read = refl; labels = tt }
+place_live (AtListing m k x (Parted xs)) = record { tokens = Identifier t_name ∷ Close ∷ Separating Semicolon ∷ Integer 0 ∷ Separating Semicolon ∷ []; body = Based (Defining m k x (Listed (Also xs t_name))) (Whole 0); read = refl; labels = tt }
+place_live (AtListing m k x (Over p)) = record { tokens = Separating Semicolon ∷ Integer 0 ∷ Separating Semicolon ∷ []; body = Based (Defining m k x p) (Whole 0); read = refl; labels = tt }
+place_live AtEnd = record { tokens = Separating Semicolon ∷ []; body = Ending; read = refl; labels = tt }
+place_live (AtFile ks) = record { tokens = String [] ∷ Separating Semicolon ∷ []; body = InFiles (with_file ks []); read = refl; labels = tt }
+place_live (AtFiles ks) = record { tokens = Separating Semicolon ∷ []; body = InFiles ks; read = refl; labels = tt }
 place_live (Inside b s) =
     let l = live s in
-    record { tokens = l.tokens; body = Based b l.tree; read = inside_run l.tokens b s ∙ ap (wrap b) l.read }
+    record { tokens = l.tokens; body = Based b l.tree; read = inside_run l.tokens b s ∙ ap (wrap b) l.read; labels = l.labels }
