@@ -1,7 +1,11 @@
 -- What parsing has to do with the grammar.
 use Rattle.std.specs.Prelude.{◌≡◌, ◌↔◌, ℕ, suc, ◌<◌, ◌≤◌, ◌-◌, true, nat_le, List, [], ◌++◌, length, take}
 use Rattle.std.specs.List.{list_all}
+use Rattle.rl_text.specs.Gap.{IsBlankText}
 use Rattle.rl_grammar.specs.Token.{Separator, Token}
+use Rattle.rl_grammar.specs.Written.{IsFirst}
+use Rattle.rl_grammar.specs.Lexer.{Begins, NoneLeft, Stops, first_token}
+use Rattle.rl_grammar.specs.Refusal.{IsBadAt}
 use Rattle.rl_grammar.specs.Tree.{Body}
 use Rattle.rl_grammar.specs.Grammar.{IsStatement}
 use Rattle.rl_grammar.specs.Form.{Meant, Means}
@@ -62,3 +66,21 @@ pub record IsRefusedWithin (ts : List Token) (k : ℕ) : Type 0 where
 
 abbrev pub RefusesWithin : Type 0
 RefusesWithin = (ts : List Token) (k : ℕ) → ((from : List Token) × (parse_within ts ≡ Syntax from) × (k ≡ length ts - length from)) ↔ IsRefusedWithin ts k
+
+-- ---- tokens
+
+-- a token is found exactly where the bytes begin with it, behind blanks and comments
+abbrev pub FindsToken : Type 0
+FindsToken = (bytes at rest : List ℕ) (token : Token) → (first_token bytes ≡ Begins token at rest) ↔ IsFirst token bytes at rest
+
+-- none is found exactly where nothing but blanks and comments is there
+abbrev pub FindsNoToken : Type 0
+FindsNoToken = (bytes : List ℕ) → (first_token bytes ≡ NoneLeft) ↔ IsBlankText bytes
+
+-- bytes begin with one token, which stands at one place and takes so many bytes, or with none
+abbrev pub FindsOneToken : Type 0
+FindsOneToken = (bytes at rest after more : List ℕ) (token other : Token) → IsFirst token bytes at rest → IsFirst other bytes after more → (token ≡ other) × (at ≡ after) × (rest ≡ more)
+
+-- bytes are bad exactly at the first with which no token goes on, or at their end inside a token
+abbrev pub RefusesByte : Type 0
+RefusesByte = (bytes : List ℕ) (k : ℕ) → ((from : List ℕ) × (first_token bytes ≡ Stops from) × (k ≡ length bytes - length from)) ↔ IsBadAt bytes k

@@ -6,6 +6,7 @@ pub mod Parser
 pub mod Statement
 pub mod Written
 pub mod Lexer
+pub mod Refusal
 pub mod Nesting
 pub mod Within
 pub mod Source

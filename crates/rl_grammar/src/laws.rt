@@ -1,12 +1,18 @@
 //! Laws of the grammar. A law is the contract of a function that does nothing.
 ghost use Rattle.rl_grammar.specs.Laws.{
   CountsTokens,
+  FindsNoToken,
+  FindsOneToken,
+  FindsToken,
   MeansOne,
   ParsesGrammar,
   ParsesWithin,
+  RefusesByte,
   RefusesFirst,
   RefusesWithin,
 };
+
+use rl_text::laws::{blank_text_has_none, unreadable_at_first_byte, what_is_found_is_spelled};
 
 /// A statement is parsed exactly where the tokens begin with it, and what is left is what follows it.
 pub fn parses_grammar()
@@ -39,3 +45,31 @@ pub fn parses_within()
 pub fn refuses_within()
     ensures { RefusesWithin }
 {}
+
+/// A token is found exactly where the bytes begin with it behind blanks and comments, and what is left is what follows it.
+pub fn finds_token()
+    ensures { FindsToken }
+{
+    what_is_found_is_spelled();
+}
+
+/// No token is found exactly where nothing but blanks and comments is there.
+pub fn finds_no_token()
+    ensures { FindsNoToken }
+{}
+
+/// Bytes begin with one token, which stands at one place and takes so many of them; or with none.
+pub fn finds_one_token()
+    ensures { FindsOneToken }
+{
+    what_is_found_is_spelled();
+}
+
+/// Bytes are bad exactly at the first of them with which no token goes on, or at their end inside a token.
+pub fn refuses_byte()
+    ensures { RefusesByte }
+{
+    what_is_found_is_spelled();
+    blank_text_has_none();
+    unreadable_at_first_byte();
+}
