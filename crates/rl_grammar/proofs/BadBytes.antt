@@ -248,6 +248,25 @@ bad_behind finds blank refuses bytes from (b ∷ bs) e bad =
 stops_is_bad : FindsSpelled → FindsNone → text.RefusesFirst → (bytes from : List ℕ) → first_token bytes ≡ Stops from → IsBadAt bytes (length bytes - length from)
 stops_is_bad finds blank refuses bytes from bad = bad_behind finds blank refuses bytes from (behind_gap false bytes) refl bad
 
+-- the bytes that are left are those from the bad one on
+dropped_behind : FindsSpelled → FindsNone → text.RefusesFirst → (bytes from here : List ℕ) → behind_gap false bytes ≡ here → first_behind here ≡ Stops from → from ≡ drop (length bytes - length from) bytes
+dropped_behind finds blank refuses bytes from [] e bad = absurd cc
+dropped_behind finds blank refuses bytes from (b ∷ bs) e bad =
+    let s = found_solid bytes b bs e in
+    let here = lexed_bad finds blank refuses b bs from (bad_of (b ∷ bs) from (lexed b bs) bad) in
+    let front : List ℕ = s.behind.gap ++ take here.count (b ∷ bs) in
+    let parts : bytes ≡ front ++ from = s.behind.is ∙ ap (λ (xs : List ℕ). s.behind.gap ++ xs) (sym (take-append-drop here.count (b ∷ bs))) ∙ sym (append_assoc s.behind.gap (take here.count (b ∷ bs)) (drop here.count (b ∷ bs))) ∙ ap (λ (xs : List ℕ). front ++ xs) (sym here.is) in
+    let sizes = ap length parts ∙ length-append front from in
+    let place : length bytes - length from ≡ length front = omega arith in
+    sym (ap (λ (n : ℕ). drop n bytes) place ∙ ap (drop (length front)) parts ∙ drop_front front from)
+  where
+    drop_front : (xs ys : List ℕ) → drop (length xs) (xs ++ ys) ≡ ys
+    drop_front [] ys = refl
+    drop_front (x ∷ xs) ys = drop_front xs ys
+
+pub stops_dropped : FindsSpelled → FindsNone → text.RefusesFirst → (bytes from : List ℕ) → first_token bytes ≡ Stops from → from ≡ drop (length bytes - length from) bytes
+stops_dropped finds blank refuses bytes from bad = dropped_behind finds blank refuses bytes from (behind_gap false bytes) refl bad
+
 -- ---- one place
 
 -- a shorter front of a token is one

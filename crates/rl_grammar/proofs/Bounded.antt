@@ -8,7 +8,7 @@ use Rattle.rl_grammar.specs.Parser.{Frame, State, AtName, is_colon}
 use Rattle.rl_grammar.specs.Statement.{Place, Inside, PlaceStep, GoesTo, Ends, Fails, place_step, Parsed, after_place, run_place}
 use Rattle.rl_grammar.specs.Nesting.{bound}
 use Rattle.rl_grammar.specs.Within.{nesting, depth, bounded_place, admits_place, place_within, run_within}
-use Rattle.rl_grammar.specs.Laws.{AllWithin}
+use Rattle.rl_grammar.specs.Bound.{AllWithin}
 use Rattle.rl_grammar.proofs.Deep.{name_depth}
 use Rattle.rl_grammar.proofs.Counted.{told_place, owed, known_behind, known}
 

@@ -9,7 +9,7 @@ use Rattle.rl_grammar.specs.Parser.{Frame, AtName, is_colon}
 use Rattle.rl_grammar.specs.Statement.{Place, Start, Inside, PlaceStep, GoesTo, Ends, Fails, place_step, Result, Parsed, Syntax, after_place, run_place}
 use Rattle.rl_grammar.specs.Nesting.{statement_nests}
 use Rattle.rl_grammar.specs.Within.{nesting, place_within, run_within, parse_within}
-use Rattle.rl_grammar.specs.Laws.{AllWithin, BeginsWithin, IsRefusedWithin}
+use Rattle.rl_grammar.specs.Bound.{AllWithin, BeginsWithin, IsRefusedWithin}
 use Rattle.rl_grammar.proofs.Deep.{name_depth}
 use Rattle.rl_grammar.proofs.Counted.{told_place, owed, known_behind, known, statement_is_known}
 use Rattle.rl_grammar.proofs.Bounded.{small, Low, Passes, Taken, Passed, Ended, Failed, token_taken, by_step, by_within, known_by, all_parts, all_from, owed_small, owed_admits, told_small, taken, ends_within, name_low, parsed_within, within_parsed}
@@ -126,7 +126,7 @@ suffix_after s t ts from (Failed e) refused each =
     let is : t ∷ ts ≡ from = cc in
     let same = ap length is in omega arith
 
-suffix : (ts : List Token) (s : Place) (from : List Token) → run_within s ts ≡ Syntax from → length from ≤ length ts
+pub suffix : (ts : List Token) (s : Place) (from : List Token) → run_within s ts ≡ Syntax from → length from ≤ length ts
 suffix [] s from refused = let none : from ≡ [] = cc in rw none (omega arith)
 suffix (t ∷ ts) s from refused = suffix_after s t ts from (token_taken s t) refused (λ next refused. suffix ts next from refused)
 
@@ -182,8 +182,11 @@ take_all ns i j below all =
     let split = all_parts (take i (take j ns)) (drop i (take j ns)) (subst (λ (ns : List ℕ). AllWithin ns) (sym part) all) in
     subst (λ (ns : List ℕ). AllWithin ns) (take-take i j ns below) split.0
 
+pub all_taken : (i : ℕ) (ns : List ℕ) → AllWithin ns → AllWithin (take i ns)
+all_taken i ns all = (all_parts (take i ns) (drop i ns) (subst (λ (ns : List ℕ). AllWithin ns) (sym (take-append-drop i ns)) all)).0
+
 -- a shorter front of a statement is one
-shorter_begins : (ts : List Token) (j k : ℕ) → j ≤ k → BeginsWithin (take k ts) → BeginsWithin (take j ts)
+pub shorter_begins : (ts : List Token) (j k : ℕ) → j ≤ k → BeginsWithin (take k ts) → BeginsWithin (take j ts)
 shorter_begins ts j k below begins =
     let part = take-append-drop j (take k ts) in
     let front = take-take j k ts below in
@@ -220,12 +223,12 @@ stops_at ts (t ∷ others) s more begins =
     none_further ts t others s (rw e at begins)
 
 -- what is within the bound is parsed
-statement_within : (ts : List Token) (a : Body) (p : Separator) (rest : List Token) → IsStatement ts a p rest → AllWithin (statement_nests a) → parse_within ts ≡ Parsed a p rest
+pub statement_within : (ts : List Token) (a : Body) (p : Separator) (rest : List Token) → IsStatement ts a p rest → AllWithin (statement_nests a) → parse_within ts ≡ Parsed a p rest
 statement_within ts a p rest is all =
     let parsed = statement_is_parsed ts a p rest is in
     within_parsed ts Start a p rest parsed (subst (λ (ns : List ℕ). AllWithin ns) (sym (statement_is_known ts a p rest parsed)) all)
 
-within_statement : (ts : List Token) (a : Body) (p : Separator) (rest : List Token) → parse_within ts ≡ Parsed a p rest → IsStatement ts a p rest × AllWithin (statement_nests a)
+pub within_statement : (ts : List Token) (a : Body) (p : Separator) (rest : List Token) → parse_within ts ≡ Parsed a p rest → IsStatement ts a p rest × AllWithin (statement_nests a)
 within_statement ts a p rest e =
     let parsed = parsed_within ts Start a p rest tt e in
     (parsed_is_statement ts a p rest parsed.0, subst (λ (ns : List ℕ). AllWithin ns) (statement_is_known ts a p rest parsed.0) parsed.1)
@@ -241,7 +244,7 @@ refused_behind ts from refused s = record {
   stops = rw s.is (stops_at ts from s);
 }
 
-refused_at : (ts from : List Token) → parse_within ts ≡ Syntax from → IsRefusedWithin ts (length ts - length from)
+pub refused_at : (ts from : List Token) → parse_within ts ≡ Syntax from → IsRefusedWithin ts (length ts - length from)
 refused_at ts from refused =
     let s = stops ts Start from tt refused in
     let all : length ts ≡ length s.front + length from = ap length s.is ∙ length-append s.front from in

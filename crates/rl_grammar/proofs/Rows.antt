@@ -3,16 +3,15 @@ use Rattle.std.proofs.Common.{◌≡◌, ℕ, zero, suc, ◌-◌, List, [], ◌�
 use Rattle.std.specs.Prelude.{codes}
 use Rattle.rl_text.specs.Reading.{Reading, Found, reading}
 use Rattle.rl_grammar.specs.Form.{Meant, IsEmpty, IsEnd, Reads, Evaluates, meant}
-use Rattle.rl_grammar.specs.Source.{Sourced, Unreadable, source_statement}
-use Rattle.rl_grammar.specs.Source as source
+use Rattle.rl_grammar.specs.SourceReader.{SourceResult, HasStatement, Unreadable, source_statement}
 
 -- what a statement means, or the number of bytes before the one that is refused
 pub data Answer : Type 0 where
   Says : Meant → Answer
   Refused : ℕ → Answer
 
-abbrev pub answered : List ℕ → Sourced → Answer
-answered bytes (source.Reads b s rest) = Says (meant b)
+abbrev pub answered : List ℕ → SourceResult → Answer
+answered bytes (HasStatement b s rest) = Says (meant b)
 answered bytes (Unreadable from) = Refused (length bytes - length from)
 
 abbrev pub answer : List ℕ → Answer

@@ -5,7 +5,6 @@ use Rattle.rl_grammar.specs.Tree.{Names, Just, Also, names_spelled, Parameters, 
 use Rattle.rl_grammar.specs.Grammar.{begins, BodyFits, IsStatement}
 use Rattle.rl_grammar.specs.Parser.{Listing, Begun, Opening, Naming, Parted, Over, State, Want, Step, Goes, Done, Refuses, step, Outcome, Read, Refused, after_step, run}
 use Rattle.rl_grammar.specs.Statement.{MaybeFiles, NoFiles, SomeFiles, with_file, Place, Start, AtMode, AtKind, AtProcedure, AtListing, AtEnd, AtFile, AtFiles, Inside, PlaceStep, GoesTo, Ends, Fails, inside, at_body, at_start, at_mode, at_kind, at_procedure, at_listing, at_end, at_file, at_files, place_step, Result, Parsed, Syntax, after_place, run_place, parse_statement}
-use Rattle.rl_grammar.specs.Source.{fits}
 use Rattle.rl_tree.specs.Name.{Name, t_name}
 use Rattle.rl_grammar.proofs.Sound.{shown_listing, shown_state, StateFits, Holds, Front, step_holds}
 use Rattle.rl_grammar.proofs.Complete.{first, expr_is_parsed}

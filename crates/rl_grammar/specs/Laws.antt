@@ -1,6 +1,5 @@
 -- What parsing has to do with the grammar.
-use Rattle.std.specs.Prelude.{◌≡◌, ◌↔◌, ℕ, suc, ◌<◌, ◌≤◌, ◌-◌, true, nat_le, List, [], ◌++◌, length, take}
-use Rattle.std.specs.List.{list_all}
+use Rattle.std.specs.Prelude.{◌≡◌, ◌↔◌, ℕ, suc, ◌<◌, ◌≤◌, ◌-◌, List, [], ◌++◌, length, take}
 use Rattle.rl_text.specs.Gap.{IsBlankText}
 use Rattle.rl_grammar.specs.Token.{Separator, Token}
 use Rattle.rl_grammar.specs.Written.{IsFirst}
@@ -10,8 +9,11 @@ use Rattle.rl_grammar.specs.Tree.{Body}
 use Rattle.rl_grammar.specs.Grammar.{IsStatement}
 use Rattle.rl_grammar.specs.Form.{Meant, Means}
 use Rattle.rl_grammar.specs.Statement.{Parsed, Syntax, parse_statement}
-use Rattle.rl_grammar.specs.Nesting.{statement_nests, bound}
+use Rattle.rl_grammar.specs.Nesting.{statement_nests}
 use Rattle.rl_grammar.specs.Within.{parse_within}
+use Rattle.rl_grammar.specs.Bound.{AllWithin, IsRefusedWithin}
+use Rattle.rl_grammar.specs.Source.{IsSource, IsUnreadable}
+use Rattle.rl_grammar.specs.SourceReader.{HasStatement, Unreadable, source_statement}
 
 abbrev pub ParsesGrammar : Type 0
 ParsesGrammar = (ts : List Token) (a : Body) (s : Separator) (rest : List Token) → (parse_statement ts ≡ Parsed a s rest) ↔ IsStatement ts a s rest
@@ -39,30 +41,12 @@ RefusesFirst = (ts : List Token) (k : ℕ) → ((from : List Token) × (parse_st
 
 -- ---- with bounded nesting
 
-abbrev pub AllWithin : List ℕ → Type 0
-AllWithin ns = list_all (λ n. nat_le n bound) ns ≡ true
-
 -- what is unfinished is counted at each token, and the separator's is the last
 abbrev pub CountsTokens : Type 0
 CountsTokens = (ts : List Token) (a : Body) (s : Separator) → IsStatement ts a s [] → length (statement_nests a) ≡ length ts
 
 abbrev pub ParsesWithin : Type 0
 ParsesWithin = (ts : List Token) (a : Body) (s : Separator) (rest : List Token) → (parse_within ts ≡ Parsed a s rest) ↔ (IsStatement ts a s rest × AllWithin (statement_nests a))
-
--- some statement begins with these tokens, and at none of them is more unfinished than the bound
-pub record BeginsWithin (ts : List Token) : Type 0 where
-  pub more : List Token
-  pub tree : Body
-  pub separator : Separator
-  pub is : IsStatement (ts ++ more) tree separator []
-  pub within : AllWithin (take (length ts) (statement_nests tree))
-
--- the tokens begin with no statement within the bound; some statement begins with the first k and is within the bound at them, and none with one more
-pub record IsRefusedWithin (ts : List Token) (k : ℕ) : Type 0 where
-  pub none : (a : Body) (s : Separator) (rest : List Token) → IsStatement ts a s rest → AllWithin (statement_nests a) → ⊥
-  pub within : k ≤ length ts
-  pub begins : BeginsWithin (take k ts)
-  pub stops : k < length ts → BeginsWithin (take (suc k) ts) → ⊥
 
 abbrev pub RefusesWithin : Type 0
 RefusesWithin = (ts : List Token) (k : ℕ) → ((from : List Token) × (parse_within ts ≡ Syntax from) × (k ≡ length ts - length from)) ↔ IsRefusedWithin ts k
@@ -84,3 +68,13 @@ FindsOneToken = (bytes at rest after more : List ℕ) (token other : Token) → 
 -- bytes are bad exactly at the first with which no token goes on, or at their end inside a token
 abbrev pub RefusesByte : Type 0
 RefusesByte = (bytes : List ℕ) (k : ℕ) → ((from : List ℕ) × (first_token bytes ≡ Stops from) × (k ≡ length bytes - length from)) ↔ IsBadAt bytes k
+
+-- ---- texts
+
+-- a statement is read exactly where the text begins with it
+abbrev pub ReadsSource : Type 0
+ReadsSource = (bytes : List ℕ) (b : Body) (s : Separator) (rest : List ℕ) → (source_statement bytes ≡ HasStatement b s rest) ↔ IsSource bytes b s rest
+
+-- and a text is unreadable exactly where no statement goes on
+abbrev pub RefusesSource : Type 0
+RefusesSource = (bytes from : List ℕ) → (source_statement bytes ≡ Unreadable from) ↔ IsUnreadable bytes from

@@ -9,5 +9,7 @@ pub mod Lexer
 pub mod Refusal
 pub mod Nesting
 pub mod Within
+pub mod Bound
 pub mod Source
+pub mod SourceReader
 pub mod Laws

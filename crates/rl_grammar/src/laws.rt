@@ -8,7 +8,9 @@ ghost use Rattle.rl_grammar.specs.Laws.{
   ParsesGrammar,
   ParsesWithin,
   RefusesByte,
+  ReadsSource,
   RefusesFirst,
+  RefusesSource,
   RefusesWithin,
 };
 
@@ -68,6 +70,23 @@ pub fn finds_one_token()
 /// Bytes are bad exactly at the first of them with which no token goes on, or at their end inside a token.
 pub fn refuses_byte()
     ensures { RefusesByte }
+{
+    what_is_found_is_spelled();
+    blank_text_has_none();
+    unreadable_at_first_byte();
+}
+
+/// A statement is read exactly where the text begins with it, and what is left is what follows it.
+pub fn reads_source()
+    ensures { ReadsSource }
+{
+    what_is_found_is_spelled();
+}
+
+/// A text is unreadable exactly where no statement goes on: at the first token with which none does, at a byte that has no
+/// place in a token, at its end, or past the longest statement.
+pub fn refuses_source()
+    ensures { RefusesSource }
 {
     what_is_found_is_spelled();
     blank_text_has_none();
