@@ -1,9 +1,9 @@
 -- What is of the grammar is parsed.
 use Rattle.std.proofs.Common.{◌≡◌, ℕ, suc, ◌≤◌, Bool, true, false, not, nat_le, if◌then◌else◌, List, [], ◌∷◌, refl, ap, ◌∙◌, arith}
 use Rattle.rl_grammar.specs.Token.{Plus, Minus, Separator, Semicolon, Do, Token, Identifier, Integer, String, Quoted, Infix, Word, Power, Dot, Not, Assign, Open, Close, Comma, Colon, If, Then, Else, While, Repeat, Until, For, Each, Foreach, In, Does, OpenBlock, CloseBlock, Separating, Begin, End, Scalar, Return, Go, To, Goto, Lambda}
-use Rattle.rl_grammar.specs.Tree.{Head, Plain, Reserved, head_token, Operation, By, ByWord, operation_token, Positive, Negative, Names, Just, Also, names_spelled, Parameters, NoParameters, OneParameter, NoneListed, Listed, parameters_spelled, Labels, Unlabelled, Label, labels_spelled, Declarations, NoDeclarations, Declared, declarations_spelled, Group, Block, Prog, Two, Single, GoBare, GoTo, Gotos, Tree, Variable, Whole, Text, Quote, Bare, Call, Apply, Paren, Set, Binary, Raise, Pair, Negate, Signed, IfThen, IfElse, WhileDo, RepeatUntil, ForTo, EachIn, LambdaOf, Grouped, ReturnNone, ReturnOf, GoingTo, Callee, Parened, Items, One, More, Pieces, First, Next, Piece, Nothing, Something, spelled, callee_spelled, items_spelled, pieces_spelled, piece_spelled}
+use Rattle.rl_grammar.specs.Tree.{Head, Plain, Reserved, head_token, Operation, By, ByWord, operation_token, Positive, Negative, Names, Just, Also, names_spelled, Parameters, NoParameters, OneParameter, NoneListed, Listed, parameters_spelled, Labels, Unlabelled, Label, labels_spelled, Declarations, NoDeclarations, Declared, declarations_spelled, Group, Block, Prog, Two, Single, GoBare, GoTo, Gotos, Tree, Variable, Whole, Text, Quote, Bare, Call, Apply, Enclosed, Set, Binary, Raise, Pair, Negate, Signed, IfThen, IfElse, WhileDo, RepeatUntil, ForTo, EachIn, LambdaOf, Grouped, ReturnNone, ReturnOf, GoingTo, Callee, EnclosedLambda, Items, One, More, Pieces, First, Next, Piece, Nothing, Something, spelled, callee_spelled, items_spelled, pieces_spelled, piece_spelled}
 use Rattle.rl_grammar.specs.Grammar.{head_level, level, goes, is_else, begins_phrase, begins, ends, is_lambda, LabelsFit, Fits, CalleeFits, ItemsFit, PiecesFit, PieceFits, IsExpr}
-use Rattle.rl_grammar.specs.Parser.{Before, None, After, with_last, Behind, NoPiece, Pieced, with_piece, Frame, InBinary, InPower, InPair, InNot, InSign, InApply, InSet, InParen, InCond, InThen, InElse, InWhile, InDo, InRepeat, InUntil, InFrom, InTo, InFor, InOf, InEach, InLambda, InArgs, InPiece, InReturn, wanted, lowest, Begun, Opening, Naming, State, Want, Named, Has, Opened, Shut, Returned, AtPiece, AtName, AtDeclarations, AtScalar, AtNames, AtParameters, Step, Goes, Refuses, opened, begin, pushed, pieced, ended, after, name_alone, call_empty, at_piece, is_colon, at_declarations, step, Read, after_step, run, parse}
+use Rattle.rl_grammar.specs.Parser.{Before, None, After, with_last, Behind, NoPiece, Pieced, with_piece, Frame, InBinary, InPower, InPair, InNot, InSign, InApply, InSet, InEnclosed, InCond, InThen, InElse, InWhile, InDo, InRepeat, InUntil, InFrom, InTo, InFor, InOf, InEach, InLambda, InArgs, InPiece, InReturn, wanted, lowest, Begun, Opening, Naming, State, Want, Named, Has, Opened, Shut, Returned, AtPiece, AtName, AtDeclarations, AtScalar, AtNames, AtParameters, Step, Goes, Refuses, opened, begin, pushed, pieced, ended, after, name_alone, call_empty, at_piece, is_colon, at_declarations, step, Read, after_step, run, parse}
 use Rattle.rl_grammar.specs.Tree as tree
 use Rattle.rl_tree.specs.Name.{Name}
 use Rattle.std.proofs.lemmas.Bool.{cond_both, cond-true, cond-false, le-leb, and_parts, and_from, not-true, not_from_false}
@@ -141,7 +141,7 @@ name_read fs (Reserved v) (Separating s) rest e = refl
 name_read fs (Reserved v) End rest e = refl
 name_read fs h t rest e = absurd cc
 
-pub shut_read : (fs : List Frame) (a : Tree) (t : Token) (rest : List Token) → follows t ≡ true → run (Shut fs a) (t ∷ rest) ≡ run (Has fs (Paren a)) (t ∷ rest)
+pub shut_read : (fs : List Frame) (a : Tree) (t : Token) (rest : List Token) → follows t ≡ true → run (Shut fs a) (t ∷ rest) ≡ run (Has fs (Enclosed a)) (t ∷ rest)
 shut_read fs a Open rest e = absurd cc
 shut_read fs a t rest e = refl
 
@@ -163,11 +163,11 @@ first (Whole k) = record { token = Integer k; rest = λ ts. ts; is = λ ts. refl
 first (Text k) = record { token = String k; rest = λ ts. ts; is = λ ts. refl; tests = refl }
 first (Quote k) = record { token = Quoted k; rest = λ ts. ts; is = λ ts. refl; tests = refl }
 first (Bare (tree.Named h)) = first_named (Bare (tree.Named h)) h (λ ts. Open ∷ Close ∷ ts) (λ ts. refl)
-first (Bare (Parened a)) = record { token = Open; rest = λ ts. spelled a (Close ∷ Open ∷ Close ∷ ts); is = λ ts. refl; tests = refl }
+first (Bare (EnclosedLambda a)) = record { token = Open; rest = λ ts. spelled a (Close ∷ Open ∷ Close ∷ ts); is = λ ts. refl; tests = refl }
 first (Call (tree.Named h) es) = first_named (Call (tree.Named h) es) h (λ ts. Open ∷ items_spelled es (Close ∷ ts)) (λ ts. refl)
-first (Call (Parened a) es) = record { token = Open; rest = λ ts. spelled a (Close ∷ Open ∷ items_spelled es (Close ∷ ts)); is = λ ts. refl; tests = refl }
+first (Call (EnclosedLambda a) es) = record { token = Open; rest = λ ts. spelled a (Close ∷ Open ∷ items_spelled es (Close ∷ ts)); is = λ ts. refl; tests = refl }
 first (Apply h a) = first_named (Apply h a) h (λ ts. spelled a ts) (λ ts. refl)
-first (Paren a) = record { token = Open; rest = λ ts. spelled a (Close ∷ ts); is = λ ts. refl; tests = refl }
+first (Enclosed a) = record { token = Open; rest = λ ts. spelled a (Close ∷ ts); is = λ ts. refl; tests = refl }
 first (Set h a) = first_named (Set h a) h (λ ts. Assign ∷ spelled a ts) (λ ts. refl)
 first (Binary o a b) = let f = first a in record { token = f.token; rest = λ ts. f.rest (operation_token o ∷ spelled b ts); is = λ ts. f.is _; tests = f.tests }
 first (Raise a b) = let f = first a in record { token = f.token; rest = λ ts. f.rest (Power ∷ spelled b ts); is = λ ts. f.is _; tests = f.tests }
@@ -201,11 +201,11 @@ phrase_first (Whole k) fit = record { token = Integer k; rest = λ ts. ts; is = 
 phrase_first (Text k) fit = record { token = String k; rest = λ ts. ts; is = λ ts. refl; tests = refl }
 phrase_first (Quote k) fit = record { token = Quoted k; rest = λ ts. ts; is = λ ts. refl; tests = refl }
 phrase_first (Bare (tree.Named h)) fit = phrase_named (Bare (tree.Named h)) h (λ ts. Open ∷ Close ∷ ts) fit (λ ts. refl)
-phrase_first (Bare (Parened a)) fit = absurd (let low = fit.0 in omega arith)
+phrase_first (Bare (EnclosedLambda a)) fit = absurd (let low = fit.0 in omega arith)
 phrase_first (Call (tree.Named h) es) fit = phrase_named (Call (tree.Named h) es) h (λ ts. Open ∷ items_spelled es (Close ∷ ts)) fit.0 (λ ts. refl)
-phrase_first (Call (Parened a) es) fit = absurd (let callee = fit.0 in let low = callee.0 in omega arith)
+phrase_first (Call (EnclosedLambda a) es) fit = absurd (let callee = fit.0 in let low = callee.0 in omega arith)
 phrase_first (Apply h a) fit = phrase_named (Apply h a) h (λ ts. spelled a ts) fit.0 (λ ts. refl)
-phrase_first (Paren a) fit = absurd (let low = fit.0 in omega arith)
+phrase_first (Enclosed a) fit = absurd (let low = fit.0 in omega arith)
 phrase_first (Set h a) fit = absurd (let low = fit.0 in omega arith)
 phrase_first (Binary o a b) fit = absurd (let low = fit.0 in let most = level_most o in omega arith)
 phrase_first (Raise a b) fit = absurd (let low = fit.0 in omega arith)
@@ -269,15 +269,15 @@ prog_piece (Text k) fs ds ps ls n t ts fit other = refl
 prog_piece (Quote k) fs ds ps ls n t ts fit other = refl
 prog_piece (Bare (tree.Named (Plain x))) fs ds ps ls n t ts fit other = unlabels fs ds ps ls x Open (Close ∷ t ∷ ts) refl
 prog_piece (Bare (tree.Named (Reserved w))) fs ds ps ls n t ts fit other = refl
-prog_piece (Bare (Parened a)) fs ds ps ls n t ts fit other = refl
+prog_piece (Bare (EnclosedLambda a)) fs ds ps ls n t ts fit other = refl
 prog_piece (Call (tree.Named (Plain x)) es) fs ds ps ls n t ts fit other = unlabels fs ds ps ls x Open (items_spelled es (Close ∷ t ∷ ts)) refl
 prog_piece (Call (tree.Named (Reserved w)) es) fs ds ps ls n t ts fit other = refl
-prog_piece (Call (Parened a) es) fs ds ps ls n t ts fit other = refl
+prog_piece (Call (EnclosedLambda a) es) fs ds ps ls n t ts fit other = refl
 prog_piece (Apply (Plain x) a) fs ds ps ls n t ts fit other =
     let one = phrase_first a fit.1 in
     rw (one.is (t ∷ ts)) (unlabels fs ds ps ls x one.token (one.rest (t ∷ ts)) (phrase_no_colon one.token one.tests))
 prog_piece (Apply (Reserved w) a) fs ds ps ls n t ts fit other = refl
-prog_piece (Paren a) fs ds ps ls n t ts fit other = refl
+prog_piece (Enclosed a) fs ds ps ls n t ts fit other = refl
 prog_piece (Set (Plain x) a) fs ds ps ls n t ts fit other = unlabels fs ds ps ls x Assign (spelled a (t ∷ ts)) refl
 prog_piece (Set (Reserved w) a) fs ds ps ls n t ts fit other = refl
 prog_piece (Binary o a b) fs ds ps ls n t ts fit other = prog_piece a fs ds ps ls (level o) (operation_token o) (spelled b (t ∷ ts)) fit.1 (operation_no_colon o)
@@ -427,10 +427,10 @@ mutual
       ∙ applies a h fs (t ∷ rest) is.1
       ∙ tree_read a (InApply h ∷ fs) 10 t rest is.1 (omega arith) parts.1 next
       ∙ reduced (InApply h) fs a (Apply h a) t rest parts.0 refl
-  tree_read (Paren a) fs n t rest is low e next =
+  tree_read (Enclosed a) fs n t rest is low e next =
       by_step (Want fs) Open (spelled a (Close ∷ t ∷ rest)) _ (allowed 9 fs _ (let most = is.0 in omega arith))
-      ∙ tree_read a (InParen ∷ fs) 0 Close (t ∷ rest) is.1 (omega arith) (closes_ends a Close refl) refl
-      ∙ cond_both (is_lambda a) (Goes (Shut fs a)) (Goes (Has fs (Paren a))) (λ (st : Step). after_step (t ∷ rest) Close st (λ s. run s (t ∷ rest)) ≡ run (Has fs (Paren a)) (t ∷ rest)) (λ lambda. shut_read fs a t rest next) (λ other. refl)
+      ∙ tree_read a (InEnclosed ∷ fs) 0 Close (t ∷ rest) is.1 (omega arith) (closes_ends a Close refl) refl
+      ∙ cond_both (is_lambda a) (Goes (Shut fs a)) (Goes (Has fs (Enclosed a))) (λ (st : Step). after_step (t ∷ rest) Close st (λ s. run s (t ∷ rest)) ≡ run (Has fs (Enclosed a)) (t ∷ rest)) (λ lambda. shut_read fs a t rest next) (λ other. refl)
   tree_read (Set h a) fs n t rest is low e next =
       let parts = and_parts _ _ e in
       head_read h fs n (Assign ∷ spelled a (t ∷ rest)) low (let most = is.0 in omega arith)
@@ -534,10 +534,10 @@ mutual
   callee_read : (c : Callee) (fs : List Frame) (n : ℕ) (ts : List Token) → CalleeFits n c → lowest fs ≤ n → run (Want fs) (callee_spelled c (Open ∷ ts)) ≡ run (Opened fs c) ts
   callee_read (tree.Named (Plain x)) fs n ts is low = refl
   callee_read (tree.Named (Reserved w)) fs n ts is low = head_read (Reserved w) fs n (Open ∷ ts) low is
-  callee_read (Parened a) fs n ts is low =
+  callee_read (EnclosedLambda a) fs n ts is low =
       by_step (Want fs) Open (spelled a (Close ∷ Open ∷ ts)) _ (allowed 9 fs _ (let most = is.0 in omega arith))
-      ∙ tree_read a (InParen ∷ fs) 0 Close (Open ∷ ts) is.2 (omega arith) (closes_ends a Close refl) refl
-      ∙ by_step (Has (InParen ∷ fs) a) Close (Open ∷ ts) _ (cond-true (is_lambda a) _ _ is.1)
+      ∙ tree_read a (InEnclosed ∷ fs) 0 Close (Open ∷ ts) is.2 (omega arith) (closes_ends a Close refl) refl
+      ∙ by_step (Has (InEnclosed ∷ fs) a) Close (Open ∷ ts) _ (cond-true (is_lambda a) _ _ is.1)
 
   args_read : (es : Items) (c : Callee) (fs : List Frame) (t : Token) (rest : List Token) → ItemsFit es → closes t ≡ true → run (Want (InArgs c None ∷ fs)) (items_spelled es (t ∷ rest)) ≡ run (Has (InArgs c (before es) ∷ fs) (last es)) (t ∷ rest)
   args_read (One a) c fs t rest is e = tree_read a (InArgs c None ∷ fs) 0 t rest is (omega arith) (closes_ends a t e) (closes_follows t e)

@@ -3,9 +3,9 @@ use Rattle.std.proofs.Common.{◌≡◌, ℕ, suc, nat_le, if◌then◌else◌, 
 use Rattle.std.proofs.lemmas.Bool.{cond_both}
 use Rattle.rl_tree.specs.Name.{Name}
 use Rattle.rl_grammar.specs.Token.{Plus, Minus, Semicolon, Do, Token, Identifier, Integer, String, Quoted, Infix, Word, Power, Dot, Not, Assign, Open, Close, Comma, Colon, If, Then, While, Repeat, Until, For, Each, Foreach, In, Does, OpenBlock, CloseBlock, Separating, Begin, End, Scalar, Return, Go, To, Goto, Lambda}
-use Rattle.rl_grammar.specs.Tree.{Head, Plain, Reserved, Positive, Negative, Names, Labels, Unlabelled, Declarations, Group, Block, Prog, EachOf, Tree, Variable, Apply, Paren, Set, Binary, Raise, Pair, Negate, Signed, IfThen, IfElse, WhileDo, RepeatUntil, ForTo, EachIn, LambdaOf, ReturnNone, ReturnOf, Callee, Pieces, Piece, Nothing, Something}
+use Rattle.rl_grammar.specs.Tree.{Head, Plain, Reserved, Positive, Negative, Names, Labels, Unlabelled, Declarations, Group, Block, Prog, EachOf, Tree, Variable, Apply, Enclosed, Set, Binary, Raise, Pair, Negate, Signed, IfThen, IfElse, WhileDo, RepeatUntil, ForTo, EachIn, LambdaOf, ReturnNone, ReturnOf, Callee, Pieces, Piece, Nothing, Something}
 use Rattle.rl_grammar.specs.Grammar.{goes, is_else, begins_phrase, begins, is_lambda}
-use Rattle.rl_grammar.specs.Parser.{Before, None, After, with_last, Behind, NoPiece, Pieced, with_piece, Frame, InBinary, InPower, InPair, InNot, InSign, InApply, InSet, InParen, InCond, InThen, InElse, InWhile, InDo, InRepeat, InUntil, InFrom, InTo, InFor, InOf, InEach, InLambda, InArgs, InPiece, InReturn, wanted, lowest, Listing, Begun, Opening, Naming, Parted, Over, State, Want, Has, Opened, Shut, Returned, AtPiece, AtName, AtDeclarations, AtScalar, AtNames, AtMore, AtParameters, AtFor, AtIndex, AtEach, AtIn, AtGo, AtGoal, Step, Goes, Done, Refuses, begin, pushed, pieced, ended, whole, after, name_alone, named, call_empty, shut, piece_begins, at_piece, is_colon, at_name, at_declarations, at_names, at_parameters, at_for, at_go, with_identifier, at_index, at_in, step}
+use Rattle.rl_grammar.specs.Parser.{Before, None, After, with_last, Behind, NoPiece, Pieced, with_piece, Frame, InBinary, InPower, InPair, InNot, InSign, InApply, InSet, InEnclosed, InCond, InThen, InElse, InWhile, InDo, InRepeat, InUntil, InFrom, InTo, InFor, InOf, InEach, InLambda, InArgs, InPiece, InReturn, wanted, lowest, Listing, Begun, Opening, Naming, Parted, Over, State, Want, Has, Opened, Shut, Returned, AtPiece, AtName, AtDeclarations, AtScalar, AtNames, AtMore, AtParameters, AtFor, AtIndex, AtEach, AtIn, AtGo, AtGoal, Step, Goes, Done, Refuses, begin, pushed, pieced, ended, whole, after, name_alone, named, call_empty, shut, piece_begins, at_piece, is_colon, at_name, at_declarations, at_names, at_parameters, at_for, at_go, with_identifier, at_index, at_in, step}
 use Rattle.rl_grammar.specs.Nesting.{names_nests, parameters_nests, labels_nests, declarations_nests, group_nests, each_nests, going_nests, nests, callee_nests, items_nests, pieces_nests, piece_nests}
 use Rattle.rl_grammar.specs.Within.{nesting, depth}
 use Rattle.rl_grammar.specs.Parser as parser
@@ -29,7 +29,7 @@ deep (InNot ∷ fs) ns = deep fs (nesting fs ∷ ns)
 deep (InSign s ∷ fs) ns = deep fs (nesting fs ∷ ns)
 deep (InApply h ∷ fs) ns = deep fs (nesting fs ∷ ns)
 deep (InSet h ∷ fs) ns = deep fs (nesting fs ∷ nesting fs ∷ ns)
-deep (InParen ∷ fs) ns = deep fs (nesting fs ∷ ns)
+deep (InEnclosed ∷ fs) ns = deep fs (nesting fs ∷ ns)
 deep (InCond ∷ fs) ns = deep fs (nesting fs ∷ ns)
 deep (InThen a ∷ fs) ns = deep fs (nesting fs ∷ nests (suc (nesting fs)) a (nesting fs ∷ ns))
 deep (InElse a b ∷ fs) ns = deep fs (nesting fs ∷ nests (suc (nesting fs)) a (nesting fs ∷ nests (suc (nesting fs)) b (nesting fs ∷ ns)))
@@ -100,7 +100,7 @@ begin_tells fs (Word w) = low_tells 9 fs (λ ns. deep fs ns) (Goes (parser.Named
 begin_tells fs (Integer k) = λ ns. refl
 begin_tells fs (String k) = λ ns. refl
 begin_tells fs (Quoted k) = λ ns. refl
-begin_tells fs Open = low_tells 9 fs (λ ns. deep fs ns) (Goes (Want (InParen ∷ fs))) (λ ns. refl)
+begin_tells fs Open = low_tells 9 fs (λ ns. deep fs ns) (Goes (Want (InEnclosed ∷ fs))) (λ ns. refl)
 begin_tells fs (Infix Plus) = low_tells 5 fs (λ ns. deep fs ns) (Goes (Want (InSign Positive ∷ fs))) (λ ns. refl)
 begin_tells fs (Infix Minus) = low_tells 5 fs (λ ns. deep fs ns) (Goes (Want (InSign Negative ∷ fs))) (λ ns. refl)
 begin_tells fs Not = low_tells 3 fs (λ ns. deep fs ns) (Goes (Want (InNot ∷ fs))) (λ ns. refl)
@@ -159,8 +159,8 @@ ended_tells InNot fs a t next = next (Negate a)
 ended_tells (InSign s) fs a t next = next (Signed s a)
 ended_tells (InApply h) fs a t next = next (Apply h a)
 ended_tells (InSet h) fs a t next = next (Set h a)
-ended_tells InParen fs a Close next =
-    cond_both (is_lambda a) (Goes (Shut fs a)) (Goes (Has fs (Paren a))) (Tells (λ ns. inner InParen fs a ns)) (λ lambda. λ ns. refl) (λ other. λ ns. refl)
+ended_tells InEnclosed fs a Close next =
+    cond_both (is_lambda a) (Goes (Shut fs a)) (Goes (Has fs (Enclosed a))) (Tells (λ ns. inner InEnclosed fs a ns)) (λ lambda. λ ns. refl) (λ other. λ ns. refl)
 ended_tells InCond fs a Then next = λ ns. refl
 ended_tells (InThen b) fs a t next =
     cond_both (is_else t) (Goes (Want (InElse b a ∷ fs))) (after fs (IfThen b a) t) (Tells (λ ns. inner (InThen b) fs a ns)) (λ at_else. λ ns. refl) (λ other. next (IfThen b a))
@@ -207,7 +207,7 @@ empty_tells fs c t = tt
 
 shut_tells : (fs : List Frame) (a : Tree) (t : Token) → Tells (λ ns. deep_state (Shut fs a) ns) (shut fs a t)
 shut_tells fs a Open = λ ns. refl
-shut_tells fs a t = after_tells fs (Paren a) t
+shut_tells fs a t = after_tells fs (Enclosed a) t
 
 abbrev piece_front : List Frame → Group → Behind → Labels → Deep
 piece_front fs g ps ls ns = deep fs (group_nests (nesting fs) g (deep_behind (nesting fs) ps (labels_nests (nesting fs) ls ns)))

@@ -1,9 +1,9 @@
 -- Wherever parsing has come, some tokens end the statement well.
 use Rattle.std.proofs.Common.{◌≡◌, true, List, [], ◌∷◌, refl, ◌∙◌}
 use Rattle.rl_grammar.specs.Token.{Semicolon, Do, Token, Identifier, Assign, Close, Colon, Then, Until, In, Does, Separating, End}
-use Rattle.rl_grammar.specs.Tree.{Head, Plain, Just, Also, NoParameters, NoneListed, Listed, Labels, Unlabelled, Label, Declarations, Declared, Group, Block, Prog, group_end, GoBare, Tree, Variable, Bare, Call, Apply, Paren, Set, Binary, Raise, Pair, Negate, Signed, IfThen, IfElse, WhileDo, RepeatUntil, ForTo, EachIn, LambdaOf, Grouped, ReturnNone, ReturnOf, GoingTo, Nothing, Something}
+use Rattle.rl_grammar.specs.Tree.{Head, Plain, Just, Also, NoParameters, NoneListed, Listed, Labels, Unlabelled, Label, Declarations, Declared, Group, Block, Prog, group_end, GoBare, Tree, Variable, Bare, Call, Apply, Enclosed, Set, Binary, Raise, Pair, Negate, Signed, IfThen, IfElse, WhileDo, RepeatUntil, ForTo, EachIn, LambdaOf, Grouped, ReturnNone, ReturnOf, GoingTo, Nothing, Something}
 use Rattle.rl_grammar.specs.Grammar.{is_else, begins, is_lambda}
-use Rattle.rl_grammar.specs.Parser.{with_last, Behind, NoPiece, with_piece, Frame, InBinary, InPower, InPair, InNot, InSign, InApply, InSet, InParen, InCond, InThen, InElse, InWhile, InDo, InRepeat, InUntil, InFrom, InTo, InFor, InOf, InEach, InLambda, InArgs, InPiece, InReturn, wanted, Listing, Begun, Opening, Naming, Parted, Over, State, Want, Named, Has, Opened, Shut, Returned, AtPiece, AtName, AtDeclarations, AtScalar, AtNames, AtMore, AtParameters, AtFor, AtIndex, AtEach, AtIn, AtGo, AtGoal, Step, Goes, ended, after, is_colon, Read, after_step, run}
+use Rattle.rl_grammar.specs.Parser.{with_last, Behind, NoPiece, with_piece, Frame, InBinary, InPower, InPair, InNot, InSign, InApply, InSet, InEnclosed, InCond, InThen, InElse, InWhile, InDo, InRepeat, InUntil, InFrom, InTo, InFor, InOf, InEach, InLambda, InArgs, InPiece, InReturn, wanted, Listing, Begun, Opening, Naming, Parted, Over, State, Want, Named, Has, Opened, Shut, Returned, AtPiece, AtName, AtDeclarations, AtScalar, AtNames, AtMore, AtParameters, AtFor, AtIndex, AtEach, AtIn, AtGo, AtGoal, Step, Goes, ended, after, is_colon, Read, after_step, run}
 use Rattle.rl_tree.specs.Name.{t_name}
 use Rattle.std.proofs.lemmas.Bool.{cond_both, cond-false, not-true}
 use Rattle.rl_grammar.proofs.Complete.{closes, closes_goes, closes_else, closes_follows, closes_begins, name_read, shut_read, reduced, by_step}
@@ -11,7 +11,7 @@ use Rattle.rl_grammar.proofs.Complete.{closes, closes_goes, closes_else, closes_
 -- the token that ends the innermost that only a token can end, and those that end all else
 abbrev closer : List Frame → Token
 closer [] = Separating Semicolon
-closer (InParen ∷ fs) = Close
+closer (InEnclosed ∷ fs) = Close
 closer (InCond ∷ fs) = Then
 closer (InWhile ∷ fs) = Does Do
 closer (InRepeat ∷ fs) = Until
@@ -24,7 +24,7 @@ closer (f ∷ fs) = closer fs
 
 abbrev closers : List Frame → List Token
 closers [] = []
-closers (InParen ∷ fs) = closer fs ∷ closers fs
+closers (InEnclosed ∷ fs) = closer fs ∷ closers fs
 closers (InCond ∷ fs) = Identifier t_name ∷ closer fs ∷ closers fs
 closers (InWhile ∷ fs) = Identifier t_name ∷ closer fs ∷ closers fs
 closers (InRepeat ∷ fs) = Identifier t_name ∷ closer fs ∷ closers fs
@@ -37,7 +37,7 @@ closers (f ∷ fs) = closers fs
 
 closer_closes : (fs : List Frame) → closes (closer fs) ≡ true
 closer_closes [] = refl
-closer_closes (InParen ∷ fs) = refl
+closer_closes (InEnclosed ∷ fs) = refl
 closer_closes (InCond ∷ fs) = refl
 closer_closes (InWhile ∷ fs) = refl
 closer_closes (InRepeat ∷ fs) = refl
@@ -80,10 +80,10 @@ last_operand f fs b e finish =
 abbrev zero_variable : Tree
 zero_variable = Variable (Plain t_name)
 
-paren_ends : (fs : List Frame) (a : Tree) → Finish (Has fs (Paren a)) (ending fs) → Finish (Has (InParen ∷ fs) a) (Close ∷ ending fs)
-paren_ends fs a finish = record {
+enclosed_ends : (fs : List Frame) (a : Tree) → Finish (Has fs (Enclosed a)) (ending fs) → Finish (Has (InEnclosed ∷ fs) a) (Close ∷ ending fs)
+enclosed_ends fs a finish = record {
   tree = finish.tree;
-  read = cond_both (is_lambda a) (Goes (Shut fs a)) (Goes (Has fs (Paren a))) (λ (st : Step). after_step (ending fs) Close st (λ s. run s (ending fs)) ≡ run (Has fs (Paren a)) (ending fs)) (λ lambda. shut_read fs a (closer fs) (closers fs) (closes_follows _ (closer_closes fs))) (λ other. refl) ∙ finish.read;
+  read = cond_both (is_lambda a) (Goes (Shut fs a)) (Goes (Has fs (Enclosed a))) (λ (st : Step). after_step (ending fs) Close st (λ s. run s (ending fs)) ≡ run (Has fs (Enclosed a)) (ending fs)) (λ lambda. shut_read fs a (closer fs) (closers fs) (closes_follows _ (closer_closes fs))) (λ other. refl) ∙ finish.read;
 }
 
 finish : (fs : List Frame) (a : Tree) → Finish (Has fs a) (ending fs)
@@ -95,7 +95,7 @@ finish (InNot ∷ fs) a = reduces InNot fs a (Negate a) refl (finish fs (Negate 
 finish (InSign s ∷ fs) a = reduces (InSign s) fs a (Signed s a) refl (finish fs (Signed s a))
 finish (InApply h ∷ fs) a = reduces (InApply h) fs a (Apply h a) refl (finish fs (Apply h a))
 finish (InSet h ∷ fs) a = reduces (InSet h) fs a (Set h a) refl (finish fs (Set h a))
-finish (InParen ∷ fs) a = paren_ends fs a (finish fs (Paren a))
+finish (InEnclosed ∷ fs) a = enclosed_ends fs a (finish fs (Enclosed a))
 finish (InCond ∷ fs) a =
     let last = name_reads (InThen a ∷ fs) (Plain t_name) (closer fs) (closers fs) (closer_closes fs) (then_reduces fs a zero_variable (finish fs (IfThen a zero_variable))) in
     record { tree = last.tree; read = last.read }
@@ -151,7 +151,7 @@ live (Want fs) = let end = want_live fs in record { tokens = Identifier t_name �
 live (Named fs h) = let end = name_reads fs h (closer fs) (closers fs) (closer_closes fs) (finish fs (Variable h)) in record { tokens = ending fs; tree = end.tree; read = end.read; labels = tt }
 live (Has fs a) = let end = finish fs a in record { tokens = ending fs; tree = end.tree; read = end.read; labels = tt }
 live (Opened fs c) = let end = finish fs (Bare c) in record { tokens = Close ∷ ending fs; tree = end.tree; read = end.read; labels = tt }
-live (Shut fs a) = let end = finish fs (Paren a) in record { tokens = ending fs; tree = end.tree; read = shut_read fs a (closer fs) (closers fs) (closes_follows _ (closer_closes fs)) ∙ end.read; labels = tt }
+live (Shut fs a) = let end = finish fs (Enclosed a) in record { tokens = ending fs; tree = end.tree; read = shut_read fs a (closer fs) (closers fs) (closes_follows _ (closer_closes fs)) ∙ end.read; labels = tt }
 live (Returned fs) = let end = finish fs ReturnNone in record { tokens = ending fs; tree = end.tree; read = by_step (Returned fs) (closer fs) (closers fs) _ (cond-false (begins (closer fs)) _ _ (closes_begins _ (closer_closes fs))) ∙ end.read; labels = tt }
 live (AtPiece fs g ps ls) = let end = pieces_live fs g ps ls in record { tokens = group_end g ∷ ending fs; tree = end.tree; read = end.read; labels = tt }
 live (AtName fs g ps ls x) = let end = pieces_live fs g ps (Label ls x) in record { tokens = Colon ∷ group_end g ∷ ending fs; tree = end.tree; read = end.read; labels = refl }

@@ -1,9 +1,11 @@
 -- Statements and what they mean, or the byte at which they are refused, tried on examples: each side computes to the other.
-use Rattle.std.proofs.Common.{◌≡◌, ℕ, zero, suc, ◌-◌, List, [], ◌∷◌, ◌++◌, length, refl}
+use Rattle.std.proofs.Common.{◌≡◌, ℕ, zero, suc, ◌-◌, List, [], ◌∷◌, ◌++◌, length, drop, false, refl}
 use Rattle.std.specs.Prelude.{codes}
 use Rattle.rl_text.specs.Reading.{Reading, Found, reading}
 use Rattle.rl_grammar.specs.Form.{Meant, IsEmpty, IsEnd, Reads, Evaluates, meant}
-use Rattle.rl_grammar.specs.SourceReader.{SourceResult, HasStatement, Unreadable, source_statement}
+use Rattle.rl_grammar.specs.Lexer.{behind_gap}
+use Rattle.rl_grammar.specs.Statement.{Start}
+use Rattle.rl_grammar.specs.SourceReader.{SourceResult, HasStatement, Unreadable, read_source, source_statement}
 
 -- what a statement means, or the number of bytes before the one that is refused
 pub data Answer : Type 0 where
@@ -538,3 +540,33 @@ name_at_the_bound = refl
 
 pub integer_at_the_bound : answer (times 199 (codes "(") (codes "begin 1;")) ≡ Refused 205
 integer_at_the_bound = refl
+
+-- ---- the longest statement
+
+-- where a statement takes at most so many bytes
+abbrev pub limited : ℕ → List ℕ → Answer
+limited most bytes = answered bytes (read_source (suc (length bytes)) (drop most (behind_gap false bytes)) Start bytes)
+
+pub as_long_as_may_be : limited 5 (codes "a+bc;") ≡ form (codes "(PLUS2 A BC)")
+as_long_as_may_be = refl
+
+pub separator_past_the_end : limited 4 (codes "a+bc;") ≡ Refused 4
+separator_past_the_end = refl
+
+pub name_across_the_end : limited 3 (codes "a+bc;") ≡ Refused 3
+name_across_the_end = refl
+
+pub misplaced_across_the_end : limited 3 (codes "a bc;") ≡ Refused 3
+misplaced_across_the_end = refl
+
+pub misplaced_before_the_end : limited 3 (codes "a)b;") ≡ Refused 1
+misplaced_before_the_end = refl
+
+pub blanks_across_the_end : limited 2 (codes "a   ;") ≡ Refused 2
+blanks_across_the_end = refl
+
+pub blanks_before_all : limited 2 (codes "  %c\n a;") ≡ form (codes "A")
+blanks_before_all = refl
+
+pub text_ends_past_the_end : limited 2 (codes "a  ") ≡ Refused 2
+text_ends_past_the_end = refl

@@ -1,9 +1,9 @@
 -- What is parsed is of the grammar.
 use Rattle.std.proofs.Common.{◌≡◌, ℕ, suc, ◌<◌, ◌≤◌, Bool, true, false, not, ◌&&◌, nat_le, if◌then◌else◌, List, [], ◌∷◌, refl, ap, ◌∙◌, arith}
 use Rattle.rl_grammar.specs.Token.{Or, And, Plus, Minus, Times, Divide, Separator, Semicolon, Do, Token, Identifier, Integer, String, Quoted, Infix, Word, Power, Dot, Not, Assign, Open, Close, Comma, Colon, If, Then, Else, While, Repeat, Until, For, Each, Foreach, In, Does, OpenBlock, CloseBlock, Separating, Begin, End, Scalar, Return, Go, To, Goto, Lambda}
-use Rattle.rl_grammar.specs.Tree.{Head, Plain, Reserved, head_token, Operation, By, ByWord, operation_token, sign_token, Names, names_spelled, parameters_spelled, Labels, Unlabelled, Label, labels_spelled, Declarations, declarations_spelled, Group, Block, Prog, group_spelled, EachOf, each_spelled, going_spelled, Tree, Variable, Whole, Text, Quote, Bare, Call, Apply, Paren, Set, Binary, Raise, Pair, Negate, Signed, IfThen, IfElse, WhileDo, RepeatUntil, ForTo, EachIn, LambdaOf, Grouped, ReturnNone, ReturnOf, GoingTo, Callee, Parened, Pieces, Piece, Nothing, Something, spelled, callee_spelled, items_spelled, pieces_spelled, piece_spelled}
+use Rattle.rl_grammar.specs.Tree.{Head, Plain, Reserved, head_token, Operation, By, ByWord, operation_token, sign_token, Names, names_spelled, parameters_spelled, Labels, Unlabelled, Label, labels_spelled, Declarations, declarations_spelled, Group, Block, Prog, group_spelled, EachOf, each_spelled, going_spelled, Tree, Variable, Whole, Text, Quote, Bare, Call, Apply, Enclosed, Set, Binary, Raise, Pair, Negate, Signed, IfThen, IfElse, WhileDo, RepeatUntil, ForTo, EachIn, LambdaOf, Grouped, ReturnNone, ReturnOf, GoingTo, Callee, EnclosedLambda, Pieces, Piece, Nothing, Something, spelled, callee_spelled, items_spelled, pieces_spelled, piece_spelled}
 use Rattle.rl_grammar.specs.Grammar.{head_level, level, goes, is_else, begins_phrase, begins, ends, is_lambda, LabelsFit, Fits, CalleeFits, ItemsFit, PiecesFit, PieceFits, IsExpr}
-use Rattle.rl_grammar.specs.Parser.{Before, None, After, with_last, Behind, NoPiece, Pieced, with_piece, Frame, InBinary, InPower, InPair, InNot, InSign, InApply, InSet, InParen, InCond, InThen, InElse, InWhile, InDo, InRepeat, InUntil, InFrom, InTo, InFor, InOf, InEach, InLambda, InArgs, InPiece, InReturn, wanted, lowest, Listing, Begun, Opening, Naming, Parted, Over, State, Want, Named, Has, Opened, Shut, Returned, AtPiece, AtName, AtDeclarations, AtScalar, AtNames, AtMore, AtParameters, AtFor, AtIndex, AtEach, AtIn, AtGo, AtGoal, Step, Goes, Done, Refuses, begin, pushed, pieced, ended, whole, after, name_alone, named, call_empty, shut, piece_begins, at_piece, is_colon, at_name, at_declarations, at_names, at_parameters, at_for, at_go, with_identifier, at_index, at_in, step, Read, after_step, run, parse}
+use Rattle.rl_grammar.specs.Parser.{Before, None, After, with_last, Behind, NoPiece, Pieced, with_piece, Frame, InBinary, InPower, InPair, InNot, InSign, InApply, InSet, InEnclosed, InCond, InThen, InElse, InWhile, InDo, InRepeat, InUntil, InFrom, InTo, InFor, InOf, InEach, InLambda, InArgs, InPiece, InReturn, wanted, lowest, Listing, Begun, Opening, Naming, Parted, Over, State, Want, Named, Has, Opened, Shut, Returned, AtPiece, AtName, AtDeclarations, AtScalar, AtNames, AtMore, AtParameters, AtFor, AtIndex, AtEach, AtIn, AtGo, AtGoal, Step, Goes, Done, Refuses, begin, pushed, pieced, ended, whole, after, name_alone, named, call_empty, shut, piece_begins, at_piece, is_colon, at_name, at_declarations, at_names, at_parameters, at_for, at_go, with_identifier, at_index, at_in, step, Read, after_step, run, parse}
 use Rattle.rl_grammar.specs.Tree as tree
 use Rattle.rl_tree.specs.Name.{Name}
 use Rattle.std.proofs.lemmas.Bool.{cond_both, leb-true, leb-false, and_parts, and_from, not-true, not-false, not_from_false}
@@ -27,7 +27,7 @@ shown (InNot ∷ fs) ts = shown fs (Not ∷ ts)
 shown (InSign s ∷ fs) ts = shown fs (sign_token s ∷ ts)
 shown (InApply h ∷ fs) ts = shown fs (head_token h ∷ ts)
 shown (InSet h ∷ fs) ts = shown fs (head_token h ∷ Assign ∷ ts)
-shown (InParen ∷ fs) ts = shown fs (Open ∷ ts)
+shown (InEnclosed ∷ fs) ts = shown fs (Open ∷ ts)
 shown (InCond ∷ fs) ts = shown fs (If ∷ ts)
 shown (InThen a ∷ fs) ts = shown fs (If ∷ spelled a (Then ∷ ts))
 shown (InElse a b ∷ fs) ts = shown fs (If ∷ spelled a (Then ∷ spelled b (Else ∷ ts)))
@@ -91,7 +91,7 @@ FrameFits InNot fs = lowest fs ≤ 3
 FrameFits (InSign s) fs = lowest fs ≤ 5
 FrameFits (InApply h) fs = lowest fs ≤ head_level h
 FrameFits (InSet h) fs = lowest fs ≤ 0
-FrameFits InParen fs = lowest fs ≤ 9
+FrameFits InEnclosed fs = lowest fs ≤ 9
 FrameFits (InThen a) fs = Fits 0 a
 FrameFits (InElse a b) fs = Fits 0 a × Fits 0 b × (ends b Else ≡ true)
 FrameFits (InDo a) fs = Fits 0 a
@@ -160,7 +160,7 @@ below n (ByWord w) x e = leb-false _ _ (not-true _ (and_parts _ _ e).0)
 
 callee_at : (c : Callee) (n m : ℕ) → CalleeFits n c → m ≤ 9 → CalleeFits m c
 callee_at (tree.Named h) n m is low = let least = head_least h in omega arith
-callee_at (Parened a) n m is low = (low, is.1, is.2)
+callee_at (EnclosedLambda a) n m is low = (low, is.1, is.2)
 
 pub at_operation : (a : Tree) (n : ℕ) (o : Operation) → Fits n a → ends a (operation_token o) ≡ true → Fits (level o) a
 at_operation (Variable h) n o is e = let most = level_most o in let least = head_least h in omega arith
@@ -170,7 +170,7 @@ at_operation (Quote k) n o is e = tt
 at_operation (Bare c) n o is e = let most = level_most o in callee_at c n (level o) is (omega arith)
 at_operation (Call c es) n o is e = let most = level_most o in (callee_at c n (level o) is.0 (omega arith), is.1)
 at_operation (Apply h a) n o is e = let most = level_most o in let least = head_least h in (omega arith, is.1)
-at_operation (Paren a) n o is e = let most = level_most o in (omega arith, is.1)
+at_operation (Enclosed a) n o is e = let most = level_most o in (omega arith, is.1)
 at_operation (Set h a) n o is e = absurd (let less = below 0 o _ e in omega arith)
 at_operation (Binary p a b) n o is e = let less = below (suc (level p)) o _ e in (omega arith, is.1, is.2, is.3)
 at_operation (Raise a b) n o is e = let most = level_most o in (omega arith, is.1, is.2, is.3)
@@ -219,7 +219,7 @@ at_power (Quote k) n is e = tt
 at_power (Bare c) n is e = callee_at c n 8 is (omega arith)
 at_power (Call c es) n is e = (callee_at c n 8 is.0 (omega arith), is.1)
 at_power (Apply h a) n is e = let least = head_least h in (omega arith, is.1)
-at_power (Paren a) n is e = (omega arith, is.1)
+at_power (Enclosed a) n is e = (omega arith, is.1)
 at_power (Set h a) n is e = absurd cc
 at_power (Binary o a b) n is e = absurd (binary_takes o Power _ refl e)
 at_power (Raise a b) n is e = absurd cc
@@ -246,7 +246,7 @@ at_dot (Quote k) n is e = tt
 at_dot (Bare c) n is e = callee_at c n 9 is (omega arith)
 at_dot (Call c es) n is e = (callee_at c n 9 is.0 (omega arith), is.1)
 at_dot (Apply h a) n is e = (head_least h, is.1)
-at_dot (Paren a) n is e = (omega arith, is.1)
+at_dot (Enclosed a) n is e = (omega arith, is.1)
 at_dot (Set h a) n is e = absurd cc
 at_dot (Binary o a b) n is e = absurd (binary_takes o Dot _ refl e)
 at_dot (Raise a b) n is e = absurd cc
@@ -359,8 +359,8 @@ ended_holds InNot fs a t g fit outer is e next = next (Negate a) (fit, is) (and_
 ended_holds (InSign s) fs a t g fit outer is e next = next (Signed s a) (fit, is) (and_from _ _ (not_from_false _ g) e)
 ended_holds (InApply h) fs a t g fit outer is e next = next (Apply h a) (fit, is) (and_from _ _ (not_from_false _ g) e)
 ended_holds (InSet h) fs a t g fit outer is e next = next (Set h a) (fit, is) (and_from _ _ (not_from_false _ g) e)
-ended_holds InParen fs a Close g fit outer is e next =
-    cond_both (is_lambda a) (Goes (Shut fs a)) (Goes (Has fs (Paren a))) (Holds (λ ts. shown (InParen ∷ fs) (spelled a ts)) Close)
+ended_holds InEnclosed fs a Close g fit outer is e next =
+    cond_both (is_lambda a) (Goes (Shut fs a)) (Goes (Has fs (Enclosed a))) (Holds (λ ts. shown (InEnclosed ∷ fs) (spelled a ts)) Close)
     (λ lambda. (λ ts. refl, (outer, fit, lambda, is)))
     (λ other. (λ ts. refl, (outer, (fit, is), λ t. refl)))
 ended_holds InCond fs a Then g fit outer is e next = (λ ts. refl, (is, outer))
@@ -425,7 +425,7 @@ empty_holds fs c t fit is = tt
 
 shut_holds : (fs : List Frame) (a : Tree) (t : Token) → StateFits (Shut fs a) → Holds (λ ts. shown fs (Open ∷ spelled a (Close ∷ ts))) t (shut fs a t)
 shut_holds fs a Open fit = (λ ts. refl, (fit.0, (fit.1, fit.2, fit.3)))
-shut_holds fs a t fit = after_holds fs (Paren a) t fit.0 (fit.1, fit.3) refl
+shut_holds fs a t fit = after_holds fs (Enclosed a) t fit.0 (fit.1, fit.3) refl
 
 abbrev piece_front : List Frame → Group → Behind → Labels → Front
 piece_front fs g ps ls ts = shown fs (group_spelled g (shown_behind ps (labels_spelled ls ts)))

@@ -1,5 +1,5 @@
 -- A statement is read exactly where the text begins with it, and a text is unreadable exactly where no statement goes on.
-use Rattle.std.proofs.Common.{◌≡◌, ◌↔◌, ℕ, zero, suc, ◌<◌, ◌≤◌, true, false, List, [], ◌∷◌, ◌++◌, length, refl, ap, sym, ◌∙◌, inl, inr, arith}
+use Rattle.std.proofs.Common.{◌≡◌, ◌↔◌, ℕ, zero, suc, ◌<◌, ◌≤◌, true, false, List, [], ◌∷◌, ◌++◌, length, refl, ap, sym, ◌∙◌, inl, inr, arith, append_assoc}
 use Rattle.std.proofs.lemmas.Bool.{cases_Bool, cond-true, cond-false, le-leb, leb-true}
 use Rattle.std.proofs.lemmas.List.{length-append}
 use Rattle.rl_text.specs.Laws.{FindsSpelled}
@@ -7,7 +7,7 @@ use Rattle.rl_text.specs.Spelling as spelling
 use Rattle.rl_text.specs.Word.{word_text}
 use Rattle.std.specs.Prelude.{Some}
 use Rattle.rl_grammar.specs.Token.{Separator, Token}
-use Rattle.rl_grammar.specs.Written.{Written, Spelled, Quoting, Short, Long, token_of, Stands, IsFirst}
+use Rattle.rl_grammar.specs.Written.{Written, Spelled, Quoting, Short, Long, token_of, Stands, IsTokenAt, IsFirst}
 use Rattle.rl_grammar.specs.Lexer.{Front, Begins, NoneLeft, Stops, first_token}
 use Rattle.rl_grammar.specs.Tree.{Body}
 use Rattle.rl_grammar.specs.Statement.{Place, Start, PlaceStep, GoesTo, Ends, Fails, Parsed}
@@ -21,37 +21,43 @@ use Rattle.rl_grammar.proofs.PrefixWithin.{statement_within, within_statement}
 
 -- ---- each token takes a byte at least
 
-spelled_shorter : (tokens : List spelling.Token) (bytes rest : List ℕ) → spelling.AreTokens tokens bytes rest → length rest ≤ length bytes
-spelled_shorter [] bytes rest are = let same = ap length are in omega arith
-spelled_shorter (token ∷ tokens) bytes rest are =
+spelled_slice : (tokens : List spelling.Token) (bytes rest : List ℕ) → spelling.AreTokens tokens bytes rest → (text : List ℕ) × (bytes ≡ text ++ rest)
+spelled_slice [] bytes rest are = ([], are)
+spelled_slice (token ∷ tokens) bytes rest are =
     let front = are.1 in
-    let less = spelled_shorter tokens are.0 rest are.2 in
-    let whole = ap length front.is in
-    let outer = length-append front.gap (spelling.token_text token ++ are.0) in
-    let inner = length-append (spelling.token_text token) are.0 in
-    omega arith
+    let more = spelled_slice tokens are.0 rest are.2 in
+    let text : List ℕ = spelling.token_text token in (
+      front.gap ++ (text ++ more.0),
+      front.is
+          ∙ ap (λ (after : List ℕ). front.gap ++ (text ++ after)) more.1
+          ∙ ap (λ (xs : List ℕ). front.gap ++ xs) (sym (append_assoc text more.0 rest))
+          ∙ sym (append_assoc front.gap (text ++ more.0) rest),
+    )
 
-token_shorter : (token : Token) (w : Written) (at rest : List ℕ) → Stands w at rest → token_of w ≡ Some token → length rest < length at
-token_shorter token (Spelled w) at rest stands e =
+written_slice : (token : Token) (w : Written) (at rest : List ℕ) → Stands w at rest → token_of w ≡ Some token → (text : List ℕ) × (at ≡ text ++ rest) × (0 < length text)
+written_slice token (Spelled w) at rest stands e =
     let first = word_first w token stands.1 e in
-    let whole = ap length stands.0 in
-    let parts = length-append (word_text w) rest in
     let some = ap length first.is in
-    omega arith
-token_shorter token (Quoting d) at rest stands e =
+    (word_text w, stands.0, omega arith)
+written_slice token (Quoting d) at rest stands e =
     let s = stands.2 in
-    let less = spelled_shorter (spelling.tokens_of s.spelling) stands.0 rest s.spelled in
-    let whole = ap length stands.1 in
-    omega arith
-token_shorter token (Short b) at rest stands e = let whole = ap length stands.0 in omega arith
-token_shorter token (Long b c) at rest stands e = let whole = ap length stands in omega arith
+    let slice = spelled_slice (spelling.tokens_of s.spelling) stands.0 rest s.spelled in
+    (39 ∷ slice.0, stands.1 ∙ ap (λ (xs : List ℕ). 39 ∷ xs) slice.1, omega arith)
+written_slice token (Short b) at rest stands e = (b ∷ [], stands.0, omega arith)
+written_slice token (Long b c) at rest stands e = (b ∷ c ∷ [], stands, omega arith)
+
+-- a token is the bytes up to the rest
+pub token_slice : (token : Token) (at rest : List ℕ) → IsTokenAt token at rest → (text : List ℕ) × (at ≡ text ++ rest) × (0 < length text)
+token_slice token at rest t = written_slice token t.written at rest t.stands t.is
 
 pub first_shorter : (token : Token) (bytes at rest : List ℕ) → IsFirst token bytes at rest → length rest < length bytes
 first_shorter token bytes at rest f =
-    let t = f.token_is in
-    let less = token_shorter token t.written at rest t.stands t.is in
+    let slice = token_slice token at rest f.token_is in
+    let some = slice.2 in
+    let here = ap length slice.1 in
+    let parts = length-append slice.0 rest in
     let whole = ap length f.is in
-    let parts = length-append f.gap at in
+    let outer = length-append f.gap at in
     omega arith
 
 pub tokens_shorter : (ts : List Token) (bytes rest : List ℕ) → AreTokens ts bytes rest → length rest ≤ length bytes

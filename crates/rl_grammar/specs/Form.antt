@@ -5,8 +5,8 @@ use Rattle.rl_tree.specs.Digits.{negated}
 use Rattle.rl_text.specs.Datum.{Datum, Id, Pair, nil, quoted}
 use Rattle.rl_text.specs.Datum as datum
 use Rattle.rl_grammar.specs.Tree as tree
-use Rattle.rl_grammar.specs.Token.{Or, And, Equal, Neq, Geq, Greater, Leq, Less, Plus, Minus, Times, Divide, Worded, Eq, Member, Memq, Separator, Way, Do, Collect, Join, Expr, Fexpr, Macro, Smacro, Token}
-use Rattle.rl_grammar.specs.Tree.{Head, Plain, Reserved, Operation, By, ByWord, Sign, Positive, Negative, Names, Just, Also, Parameters, NoParameters, OneParameter, NoneListed, Listed, Labels, Unlabelled, Label, Declarations, NoDeclarations, Declared, Group, Block, Prog, Tree, Variable, Whole, Text, Quote, Bare, Call, Apply, Paren, Set, Binary, Raise, Negate, Signed, IfThen, IfElse, WhileDo, RepeatUntil, ForTo, EachIn, LambdaOf, Grouped, ReturnNone, ReturnOf, GoingTo, Callee, Named, Parened, Items, One, More, Pieces, First, Next, Piece, Nothing, Something, MaybeKind, NoKind, OfKind, Files, JustFile, AlsoFile, Plainly, Defining, Body, Empty, Ending, InFiles, Only, Based}
+use Rattle.rl_grammar.specs.Token.{Or, And, Equal, Unequal, AtLeast, Greater, AtMost, Less, Plus, Minus, Times, Divide, Worded, Eq, Member, Memq, Separator, Way, Do, Collect, Join, Expr, Fexpr, Macro, Smacro, Token}
+use Rattle.rl_grammar.specs.Tree.{Head, Plain, Reserved, Operation, By, ByWord, Sign, Positive, Negative, Names, Just, Also, Parameters, NoParameters, OneParameter, NoneListed, Listed, Labels, Unlabelled, Label, Declarations, NoDeclarations, Declared, Group, Block, Prog, Tree, Variable, Whole, Text, Quote, Bare, Call, Apply, Enclosed, Set, Binary, Raise, Negate, Signed, IfThen, IfElse, WhileDo, RepeatUntil, ForTo, EachIn, LambdaOf, Grouped, ReturnNone, ReturnOf, GoingTo, Callee, Named, EnclosedLambda, Items, One, More, Pieces, First, Next, Piece, Nothing, Something, MaybeKind, NoKind, OfKind, Files, JustFile, AlsoFile, Plainly, Defining, Body, Empty, Ending, InFiles, Only, Based}
 use Rattle.rl_grammar.specs.Grammar.{IsStatement}
 
 -- ---- lists
@@ -57,20 +57,34 @@ operated (By And) a b = three (Id and_name) a b
 operated (By Equal) a b = three (Id (codes "EQUAL")) a b
 operated (By Greater) a b = three (Id (codes "GREATERP")) a b
 operated (By Less) a b = three (Id (codes "LESSP")) a b
-operated (By Neq) a b = negation (three (Id (codes "EQUAL")) a b)
-operated (By Geq) a b = negation (three (Id (codes "LESSP")) a b)
-operated (By Leq) a b = negation (three (Id (codes "GREATERP")) a b)
+operated (By Unequal) a b = negation (three (Id (codes "EQUAL")) a b)
+operated (By AtLeast) a b = negation (three (Id (codes "LESSP")) a b)
+operated (By AtMost) a b = negation (three (Id (codes "GREATERP")) a b)
 operated (By Plus) a b = three (Id (codes "PLUS2")) a b
 operated (By Minus) a b = three (Id (codes "DIFFERENCE")) a b
 operated (By Times) a b = three (Id (codes "TIMES2")) a b
 operated (By Divide) a b = three (Id (codes "QUOTIENT")) a b
 operated (ByWord w) a b = three (Id (worded_name w)) a b
 
--- `a or b or c` is one list, and so is `a and b and c`; a tree in parentheses is none of the row
-abbrev pub joined : Operation → Tree → Datum → Datum → Datum
-joined (By Or) (Binary (By Or) a b) f g = with_element f g
-joined (By And) (Binary (By And) a b) f g = with_element f g
-joined o a f g = operated o f g
+-- what of an operand its form does not tell: `a or b or c` is one list, and so is `a and b and c`, but not where parentheses stand round a part of it; and a
+-- bare integer has a negative
+pub data Shape : Type 0 where
+  IsOr : Shape
+  IsAnd : Shape
+  IsBare : ℕ → Shape
+  IsOther : Shape
+
+abbrev pub shape_of : Tree → Shape
+shape_of (Binary (By Or) a b) = IsOr
+shape_of (Binary (By And) a b) = IsAnd
+shape_of (Whole k) = IsBare k
+shape_of a = IsOther
+
+-- an operator behind an operand of this shape
+abbrev pub joined : Operation → Shape → Datum → Datum → Datum
+joined (By Or) IsOr a b = with_element a b
+joined (By And) IsAnd a b = with_element a b
+joined o shape a b = operated o a b
 
 -- `a ** b`
 abbrev pub power : Datum → Datum → Datum
@@ -81,10 +95,10 @@ abbrev pub dotted : Datum → Datum → Datum
 dotted a b = three (Id cons_name) a b
 
 -- a leading `-`: before a bare integer the negative integer; a leading `+` changes nothing
-abbrev pub signed : Sign → Tree → Datum → Datum
-signed Positive a f = f
-signed Negative (Whole k) f = datum.Int (negated k)
-signed Negative a f = two (Id (codes "MINUS")) f
+abbrev pub signed : Sign → Shape → Datum → Datum
+signed Positive shape a = a
+signed Negative (IsBare k) a = datum.Int (negated k)
+signed Negative shape a = two (Id (codes "MINUS")) a
 
 -- ---- names
 
@@ -219,13 +233,13 @@ abbrev mutual
   form_of (Bare c) = one (callee_form c)
   form_of (Call c es) = Pair (callee_form c) (items_form es nil)
   form_of (Apply h a) = two (head_form h) (form_of a)
-  form_of (Paren a) = form_of a
+  form_of (Enclosed a) = form_of a
   form_of (Set h a) = assignment (head_form h) (form_of a)
-  form_of (Binary o a b) = joined o a (form_of a) (form_of b)
+  form_of (Binary o a b) = joined o (shape_of a) (form_of a) (form_of b)
   form_of (Raise a b) = power (form_of a) (form_of b)
   form_of (tree.Pair a b) = dotted (form_of a) (form_of b)
   form_of (Negate a) = negation (form_of a)
-  form_of (Signed s a) = signed s a (form_of a)
+  form_of (Signed s a) = signed s (shape_of a) (form_of a)
   form_of (IfThen a b) = if_then (form_of a) (form_of b)
   form_of (IfElse a b c) = if_else (form_of a) (form_of b) (form_of c)
   form_of (WhileDo a s) = while_do (form_of a) (form_of s)
@@ -240,7 +254,7 @@ abbrev mutual
 
   pub callee_form : Callee → Datum
   callee_form (Named h) = head_form h
-  callee_form (Parened a) = form_of a
+  callee_form (EnclosedLambda a) = form_of a
 
   pub items_form : Items → Datum → Datum
   items_form (One a) f = Pair (form_of a) f

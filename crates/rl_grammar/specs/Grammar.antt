@@ -1,7 +1,7 @@
 -- The grammar of statements: which trees are of it, and the statements that tokens begin with.
 use Rattle.std.specs.Prelude.{◌≡◌, ℕ, suc, ◌≤◌, Bool, true, false, not, ◌&&◌, nat_le, List, ◌∷◌}
 use Rattle.rl_grammar.specs.Token.{Operator, Or, And, Plus, Minus, Times, Divide, Separator, Token, Identifier, Integer, String, Quoted, Infix, Word, Power, Dot, Not, Open, If, Else, While, Repeat, For, Foreach, OpenBlock, Separating, Begin, Return, Go, Goto, Lambda}
-use Rattle.rl_grammar.specs.Tree.{Head, Plain, Reserved, Operation, By, ByWord, operation_token, Labels, Label, Group, Block, Tree, Variable, Whole, Text, Quote, Bare, Call, Apply, Paren, Set, Binary, Raise, Pair, Negate, Signed, IfThen, IfElse, WhileDo, RepeatUntil, ForTo, EachIn, LambdaOf, Grouped, ReturnNone, ReturnOf, GoingTo, Callee, Named, Parened, Items, One, More, Pieces, First, Next, Piece, Nothing, Something, spelled, Body, Based, body_spelled}
+use Rattle.rl_grammar.specs.Tree.{Head, Plain, Reserved, Operation, By, ByWord, operation_token, Labels, Label, Group, Block, Tree, Variable, Whole, Text, Quote, Bare, Call, Apply, Enclosed, Set, Binary, Raise, Pair, Negate, Signed, IfThen, IfElse, WhileDo, RepeatUntil, ForTo, EachIn, LambdaOf, Grouped, ReturnNone, ReturnOf, GoingTo, Callee, Named, EnclosedLambda, Items, One, More, Pieces, First, Next, Piece, Nothing, Something, spelled, Body, Based, body_spelled}
 
 -- ---- levels: 0 expr, 1 or, 2 and, 3 neg, 4 rel, 5 sum, 6 prod, 7 pow, 8 dot, 9 prim, 10 a prim that does not begin with `(`
 
@@ -63,7 +63,7 @@ begins (Infix Plus) = true
 begins (Infix Minus) = true
 begins t = begins_phrase t
 
--- no part that stands last in the tree goes on with the token
+-- no part that stands last in the tree goes on with the token: each phrase reaches as far right as it can, and an `else` belongs to the nearest `if` without one
 abbrev pub ends : Tree → Token → Bool
 ends (Apply h a) t = not (goes 10 t) && ends a t
 ends (Set h a) t = not (goes 0 t) && ends a t
@@ -83,6 +83,7 @@ ends ReturnNone t = not (begins t)
 ends (ReturnOf a) t = not (goes 0 t) && ends a t
 ends a t = true
 
+-- a lambda in parentheses may be called
 abbrev pub is_lambda : Tree → Bool
 is_lambda (LambdaOf p a) = true
 is_lambda a = false
@@ -92,7 +93,8 @@ abbrev pub LabelsFit : Group → Labels → Type 0
 LabelsFit Block (Label ls x) = ⊥
 LabelsFit g ls = Unit {0}
 
--- the tree is of the grammar at a level
+-- the tree is of the grammar at a level: it is an expr, an or, .., or what any level above it may be. An operator to the left of which the tree stands
+-- ends its left operand: no part of that goes on with it
 abbrev mutual
   pub Fits : ℕ → Tree → Type 0
   Fits n (Variable h) = n ≤ head_level h
@@ -102,7 +104,7 @@ abbrev mutual
   Fits n (Bare c) = CalleeFits n c
   Fits n (Call c es) = CalleeFits n c × ItemsFit es
   Fits n (Apply h a) = (n ≤ head_level h) × Fits 10 a
-  Fits n (Paren a) = (n ≤ 9) × Fits 0 a
+  Fits n (Enclosed a) = (n ≤ 9) × Fits 0 a
   Fits n (Set h a) = (n ≤ 0) × Fits 0 a
   Fits n (Binary o a b) = (n ≤ level o) × Fits (level o) a × (ends a (operation_token o) ≡ true) × Fits (suc (level o)) b
   Fits n (Raise a b) = (n ≤ 7) × Fits 8 a × (ends a Power ≡ true) × Fits 7 b
@@ -123,7 +125,7 @@ abbrev mutual
 
   pub CalleeFits : ℕ → Callee → Type 0
   CalleeFits n (Named h) = n ≤ head_level h
-  CalleeFits n (Parened a) = (n ≤ 9) × (is_lambda a ≡ true) × Fits 0 a
+  CalleeFits n (EnclosedLambda a) = (n ≤ 9) × (is_lambda a ≡ true) × Fits 0 a
 
   pub ItemsFit : Items → Type 0
   ItemsFit (One a) = Fits 0 a

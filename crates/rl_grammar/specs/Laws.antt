@@ -2,7 +2,7 @@
 use Rattle.std.specs.Prelude.{◌≡◌, ◌↔◌, ℕ, suc, ◌<◌, ◌≤◌, ◌-◌, List, [], ◌++◌, length, take}
 use Rattle.rl_text.specs.Gap.{IsBlankText}
 use Rattle.rl_grammar.specs.Token.{Separator, Token}
-use Rattle.rl_grammar.specs.Written.{IsFirst}
+use Rattle.rl_grammar.specs.Written.{IsTokenAt, IsFirst}
 use Rattle.rl_grammar.specs.Lexer.{Begins, NoneLeft, Stops, first_token}
 use Rattle.rl_grammar.specs.Refusal.{IsBadAt}
 use Rattle.rl_grammar.specs.Tree.{Body}
@@ -65,6 +65,10 @@ FindsNoToken = (bytes : List ℕ) → (first_token bytes ≡ NoneLeft) ↔ IsBla
 abbrev pub FindsOneToken : Type 0
 FindsOneToken = (bytes at rest after more : List ℕ) (token other : Token) → IsFirst token bytes at rest → IsFirst other bytes after more → (token ≡ other) × (at ≡ after) × (rest ≡ more)
 
+-- a token is the bytes from the place where it stands up to the rest, and one at least
+abbrev pub TokensAreSlices : Type 0
+TokensAreSlices = (token : Token) (at rest : List ℕ) → IsTokenAt token at rest → (text : List ℕ) × (at ≡ text ++ rest) × (0 < length text)
+
 -- bytes are bad exactly at the first with which no token goes on, or at their end inside a token
 abbrev pub RefusesByte : Type 0
 RefusesByte = (bytes : List ℕ) (k : ℕ) → ((from : List ℕ) × (first_token bytes ≡ Stops from) × (k ≡ length bytes - length from)) ↔ IsBadAt bytes k
@@ -74,6 +78,10 @@ RefusesByte = (bytes : List ℕ) (k : ℕ) → ((from : List ℕ) × (first_toke
 -- a statement is read exactly where the text begins with it
 abbrev pub ReadsSource : Type 0
 ReadsSource = (bytes : List ℕ) (b : Body) (s : Separator) (rest : List ℕ) → (source_statement bytes ≡ HasStatement b s rest) ↔ IsSource bytes b s rest
+
+-- a text begins with one statement, and it takes so many bytes, or with none
+abbrev pub ReadsOneSource : Type 0
+ReadsOneSource = (bytes : List ℕ) (b c : Body) (s t : Separator) (rest more : List ℕ) → IsSource bytes b s rest → IsSource bytes c t more → (b ≡ c) × (s ≡ t) × (rest ≡ more)
 
 -- and a text is unreadable exactly where no statement goes on
 abbrev pub RefusesSource : Type 0

@@ -1,6 +1,6 @@
 -- How many expressions, and operands of `not`, `**`, `.` and of names, are unfinished at each token of a statement: a list parallel to its tokens. Each is unfinished from its first token to its last.
 use Rattle.std.specs.Prelude.{ℕ, suc, List, [], ◌∷◌}
-use Rattle.rl_grammar.specs.Tree.{Names, Just, Also, Parameters, NoParameters, OneParameter, NoneListed, Listed, Labels, Unlabelled, Label, Declarations, NoDeclarations, Declared, Group, Block, Prog, EachOf, Two, Single, Going, GoBare, GoTo, Gotos, Tree, Variable, Whole, Text, Quote, Bare, Call, Apply, Paren, Set, Binary, Raise, Pair, Negate, Signed, IfThen, IfElse, WhileDo, RepeatUntil, ForTo, EachIn, LambdaOf, Grouped, ReturnNone, ReturnOf, GoingTo, Callee, Named, Parened, Items, One, More, Pieces, First, Next, Piece, Nothing, Something, MaybeMode, NoMode, InMode, MaybeKind, NoKind, OfKind, Files, JustFile, AlsoFile, Base, Plainly, Defining, Body, Empty, Ending, InFiles, Only, Based}
+use Rattle.rl_grammar.specs.Tree.{Names, Just, Also, Parameters, NoParameters, OneParameter, NoneListed, Listed, Labels, Unlabelled, Label, Declarations, NoDeclarations, Declared, Group, Block, Prog, EachOf, Two, Single, Going, GoBare, GoTo, Gotos, Tree, Variable, Whole, Text, Quote, Bare, Call, Apply, Enclosed, Set, Binary, Raise, Pair, Negate, Signed, IfThen, IfElse, WhileDo, RepeatUntil, ForTo, EachIn, LambdaOf, Grouped, ReturnNone, ReturnOf, GoingTo, Callee, Named, EnclosedLambda, Items, One, More, Pieces, First, Next, Piece, Nothing, Something, MaybeMode, NoMode, InMode, MaybeKind, NoKind, OfKind, Files, JustFile, AlsoFile, Base, Plainly, Defining, Body, Empty, Ending, InFiles, Only, Based}
 
 -- at a name, and at each token of more
 abbrev pub names_nests : ℕ → Names → List ℕ → List ℕ
@@ -44,7 +44,7 @@ abbrev mutual
   nests n (Bare c) ns = callee_nests n c (n ∷ n ∷ ns)
   nests n (Call c es) ns = callee_nests n c (n ∷ items_nests n es (n ∷ ns))
   nests n (Apply h a) ns = n ∷ nests (suc n) a ns
-  nests n (Paren a) ns = n ∷ nests (suc n) a (n ∷ ns)
+  nests n (Enclosed a) ns = n ∷ nests (suc n) a (n ∷ ns)
   nests n (Set h a) ns = n ∷ n ∷ nests (suc n) a ns
   nests n (Binary o a b) ns = nests n a (n ∷ nests n b ns)
   nests n (Raise a b) ns = nests n a (n ∷ nests (suc n) b ns)
@@ -65,7 +65,7 @@ abbrev mutual
 
   pub callee_nests : ℕ → Callee → List ℕ → List ℕ
   callee_nests n (Named h) ns = n ∷ ns
-  callee_nests n (Parened a) ns = n ∷ nests (suc n) a (n ∷ ns)
+  callee_nests n (EnclosedLambda a) ns = n ∷ nests (suc n) a (n ∷ ns)
 
   pub items_nests : ℕ → Items → List ℕ → List ℕ
   items_nests n (One a) ns = nests (suc n) a ns

@@ -1,11 +1,12 @@
--- Parsing token by token: what has begun, and where the next token leads.
+-- Parsing an expr token by token: what has begun, and where the next token leads. It knows no bound of nesting.
 use Rattle.std.specs.Prelude.{ℕ, suc, Bool, true, false, nat_le, if◌then◌else◌, List, [], ◌∷◌}
 use Rattle.rl_tree.specs.Name.{Name}
 use Rattle.rl_grammar.specs.Token.{Plus, Minus, Separator, Semicolon, Way, Do, Token, Identifier, Integer, String, Quoted, Infix, Word, Power, Dot, Not, Assign, Open, Close, Comma, Colon, If, Then, While, Repeat, Until, For, Each, Foreach, In, Does, OpenBlock, CloseBlock, Separating, Begin, End, Scalar, Return, Go, To, Goto, Lambda}
-use Rattle.rl_grammar.specs.Tree.{Head, Plain, Reserved, Operation, By, ByWord, Sign, Positive, Negative, Names, Just, Also, Parameters, NoParameters, OneParameter, NoneListed, Listed, Labels, Unlabelled, Label, Declarations, NoDeclarations, Declared, Group, Block, Prog, EachOf, Two, Single, Going, GoBare, GoTo, Gotos, Tree, Variable, Whole, Text, Quote, Bare, Call, Apply, Paren, Set, Binary, Raise, Pair, Negate, Signed, IfThen, IfElse, WhileDo, RepeatUntil, ForTo, EachIn, LambdaOf, Grouped, ReturnNone, ReturnOf, GoingTo, Callee, Parened, Items, One, More, Pieces, First, Next, Piece, Nothing, Something}
+use Rattle.rl_grammar.specs.Tree.{Head, Plain, Reserved, Operation, By, ByWord, Sign, Positive, Negative, Names, Just, Also, Parameters, NoParameters, OneParameter, NoneListed, Listed, Labels, Unlabelled, Label, Declarations, NoDeclarations, Declared, Group, Block, Prog, EachOf, Two, Single, Going, GoBare, GoTo, Gotos, Tree, Variable, Whole, Text, Quote, Bare, Call, Apply, Enclosed, Set, Binary, Raise, Pair, Negate, Signed, IfThen, IfElse, WhileDo, RepeatUntil, ForTo, EachIn, LambdaOf, Grouped, ReturnNone, ReturnOf, GoingTo, Callee, EnclosedLambda, Items, One, More, Pieces, First, Next, Piece, Nothing, Something}
 use Rattle.rl_grammar.specs.Grammar.{level, goes, is_else, begins_phrase, begins, is_lambda}
 use Rattle.rl_grammar.specs.Tree as tree
 
+-- the arguments before the one that comes
 pub data Before : Type 0 where
   None : Before
   After : Items → Before
@@ -14,6 +15,7 @@ abbrev pub with_last : Before → Tree → Items
 with_last None a = One a
 with_last (After es) a = More es a
 
+-- the pieces before the one that comes, and the separator behind them
 pub data Behind : Type 0 where
   NoPiece : Behind
   Pieced : Pieces → Separator → Behind
@@ -31,7 +33,7 @@ pub data Frame : Type 0 where
   InSign : Sign → Frame
   InApply : Head → Frame
   InSet : Head → Frame
-  InParen : Frame
+  InEnclosed : Frame
   InCond : Frame
   InThen : Tree → Frame
   InElse : Tree → Tree → Frame
@@ -96,6 +98,7 @@ pub data State : Type 0 where
   AtGo : List Frame → State
   AtGoal : List Frame → Going → State
 
+-- it goes on; the statement has ended with the separator; or the token has no place
 pub data Step : Type 0 where
   Goes : State → Step
   Done : Tree → Separator → Step
@@ -111,7 +114,7 @@ begin fs (Word w) = if nat_le (lowest fs) 9 then Goes (Named fs (Reserved w)) el
 begin fs (Integer k) = Goes (Has fs (Whole k))
 begin fs (String k) = Goes (Has fs (Text k))
 begin fs (Quoted k) = Goes (Has fs (Quote k))
-begin fs Open = if nat_le (lowest fs) 9 then opened InParen fs else Refuses
+begin fs Open = if nat_le (lowest fs) 9 then opened InEnclosed fs else Refuses
 begin fs (Infix Plus) = if nat_le (lowest fs) 5 then Goes (Want (InSign Positive ∷ fs)) else Refuses
 begin fs (Infix Minus) = if nat_le (lowest fs) 5 then Goes (Want (InSign Negative ∷ fs)) else Refuses
 begin fs Not = if nat_le (lowest fs) 3 then opened InNot fs else Refuses
@@ -152,7 +155,7 @@ ended InNot fs a t further = further (Negate a)
 ended (InSign s) fs a t further = further (Signed s a)
 ended (InApply h) fs a t further = further (Apply h a)
 ended (InSet h) fs a t further = further (Set h a)
-ended InParen fs a Close further = if is_lambda a then Goes (Shut fs a) else Goes (Has fs (Paren a))
+ended InEnclosed fs a Close further = if is_lambda a then Goes (Shut fs a) else Goes (Has fs (Enclosed a))
 ended InCond fs a Then further = Goes (Want (InThen a ∷ fs))
 ended (InThen a) fs b t further = if is_else t then Goes (Want (InElse a b ∷ fs)) else further (IfThen a b)
 ended (InElse a b) fs c t further = further (IfElse a b c)
@@ -196,8 +199,8 @@ call_empty fs c Close = Goes (Has fs (Bare c))
 call_empty fs c t = Refuses
 
 abbrev pub shut : List Frame → Tree → Token → Step
-shut fs a Open = Goes (Opened fs (Parened a))
-shut fs a t = after fs (Paren a) t
+shut fs a Open = Goes (Opened fs (EnclosedLambda a))
+shut fs a t = after fs (Enclosed a) t
 
 abbrev pub piece_begins : List Frame → Group → Behind → Labels → Token → Step
 piece_begins fs (Prog ds) ps ls (Identifier x) = Goes (AtName fs (Prog ds) ps ls x)

@@ -1,10 +1,11 @@
--- Parsing a statement token by token.
+-- Parsing a statement token by token: what an expr ends, and the statements that have none.
 use Rattle.std.specs.Prelude.{ℕ, List, [], ◌∷◌}
 use Rattle.rl_tree.specs.Name.{Name}
 use Rattle.rl_grammar.specs.Token.{Separator, Semicolon, ModeWord, KindWord, Token, Mode, Kind, Procedure, Identifier, String, Open, Close, Comma, In, Separating, End}
 use Rattle.rl_grammar.specs.Tree.{Just, Also, Parameters, NoParameters, OneParameter, NoneListed, Listed, MaybeMode, NoMode, InMode, MaybeKind, NoKind, OfKind, Files, JustFile, AlsoFile, Base, Plainly, Defining, Body, Empty, Ending, InFiles, Only, Based}
 use Rattle.rl_grammar.specs.Parser.{Listing, Begun, Opening, Naming, Parted, Over, State, Want, Step, Goes, Done, Refuses, step}
 
+-- the files before the one that comes
 pub data MaybeFiles : Type 0 where
   NoFiles : MaybeFiles
   SomeFiles : Files → MaybeFiles
@@ -13,6 +14,7 @@ abbrev pub with_file : MaybeFiles → List ℕ → Files
 with_file NoFiles k = JustFile k
 with_file (SomeFiles ks) k = AlsoFile ks k
 
+-- how far a statement is
 pub data Place : Type 0 where
   Start : Place
   AtMode : ModeWord → Place
@@ -97,6 +99,7 @@ place_step (AtFile ks) t = at_file ks t
 place_step (AtFiles ks) t = at_files ks t
 place_step (Inside b s) t = inside b (step s t)
 
+-- a statement, its separator and the tokens behind it; or the tokens from the one on that has no place
 pub data Result : Type 0 where
   Parsed : Body → Separator → List Token → Result
   Syntax : List Token → Result

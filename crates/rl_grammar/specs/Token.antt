@@ -8,10 +8,10 @@ pub data Operator : Type 0 where
   Or : Operator
   And : Operator
   Equal : Operator
-  Neq : Operator
-  Geq : Operator
+  Unequal : Operator
+  AtLeast : Operator
   Greater : Operator
-  Leq : Operator
+  AtMost : Operator
   Less : Operator
   Plus : Operator
   Minus : Operator

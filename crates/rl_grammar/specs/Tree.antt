@@ -1,9 +1,10 @@
--- Statements as trees, parentheses kept, and the tokens that each spells.
+-- Statements as trees, parentheses kept, and the tokens that each spells. Each tree spells its tokens before those that are given.
 use Rattle.std.specs.Prelude.{ℕ, List, ◌∷◌}
 use Rattle.rl_tree.specs.Name.{Name}
 use Rattle.rl_text.specs.Datum.{Datum}
 use Rattle.rl_grammar.specs.Token.{Operator, Plus, Minus, Worded, Separator, Semicolon, Way, Do, ModeWord, KindWord, Token, Mode, Kind, Procedure, Identifier, Integer, String, Quoted, Infix, Word, Power, Dot, Not, Assign, Open, Close, Comma, Colon, If, Then, Else, While, Repeat, Until, For, Each, Foreach, In, Does, OpenBlock, CloseBlock, Separating, Begin, End, Scalar, Return, Go, To, Goto, Lambda}
 
+-- a name that stands as a value or is called
 pub data Head : Type 0 where
   Plain : Name → Head
   Reserved : Worded → Head
@@ -12,6 +13,7 @@ abbrev pub head_token : Head → Token
 head_token (Plain x) = Identifier x
 head_token (Reserved w) = Word w
 
+-- an operator that groups to the left
 pub data Operation : Type 0 where
   By : Operator → Operation
   ByWord : Worded → Operation
@@ -20,6 +22,7 @@ abbrev pub operation_token : Operation → Token
 operation_token (By o) = Infix o
 operation_token (ByWord w) = Word w
 
+-- a leading `+` or `-`
 pub data Sign : Type 0 where
   Positive : Sign
   Negative : Sign
@@ -28,6 +31,7 @@ abbrev pub sign_token : Sign → Token
 sign_token Positive = Infix Plus
 sign_token Negative = Infix Minus
 
+-- names with `,` between them
 pub data Names : Type 0 where
   Just : Name → Names
   Also : Names → Name → Names
@@ -36,6 +40,7 @@ abbrev pub names_spelled : Names → List Token → List Token
 names_spelled (Just x) ts = Identifier x ∷ ts
 names_spelled (Also xs x) ts = names_spelled xs (Comma ∷ Identifier x ∷ ts)
 
+-- none, a name, `()`, or names in parentheses
 pub data Parameters : Type 0 where
   NoParameters : Parameters
   OneParameter : Name → Parameters
@@ -48,6 +53,7 @@ parameters_spelled (OneParameter x) ts = Identifier x ∷ ts
 parameters_spelled NoneListed ts = Open ∷ Close ∷ ts
 parameters_spelled (Listed xs) ts = Open ∷ names_spelled xs (Close ∷ ts)
 
+-- `l: m:`
 pub data Labels : Type 0 where
   Unlabelled : Labels
   Label : Labels → Name → Labels
@@ -56,6 +62,7 @@ abbrev pub labels_spelled : Labels → List Token → List Token
 labels_spelled Unlabelled ts = ts
 labels_spelled (Label ls x) ts = labels_spelled ls (Identifier x ∷ Colon ∷ ts)
 
+-- `scalar x, y;`, maybe some of them
 pub data Declarations : Type 0 where
   NoDeclarations : Declarations
   Declared : Declarations → Names → Declarations
@@ -86,6 +93,7 @@ abbrev pub each_spelled : EachOf → List Token → List Token
 each_spelled Two ts = For ∷ Each ∷ ts
 each_spelled Single ts = Foreach ∷ ts
 
+-- `go l`, `go to l`, and `goto l`
 pub data Going : Type 0 where
   GoBare : Going
   GoTo : Going
@@ -99,17 +107,23 @@ going_spelled Gotos ts = Goto ∷ ts
 mutual
   pub data Tree : Type 0 where
     Variable : Head → Tree
+    -- an integer, a string, and `'` e
     Whole : ℕ → Tree
     Text : List ℕ → Tree
     Quote : Datum → Tree
+    -- `f()`, `f(a, b)`, and `f a`
     Bare : Callee → Tree
     Call : Callee → Items → Tree
     Apply : Head → Tree → Tree
-    Paren : Tree → Tree
+    -- `(a)`
+    Enclosed : Tree → Tree
+    -- `x := a`
     Set : Head → Tree → Tree
     Binary : Operation → Tree → Tree → Tree
+    -- `a ** b`, and `a . b`
     Raise : Tree → Tree → Tree
     Pair : Tree → Tree → Tree
+    -- `not a`
     Negate : Tree → Tree
     Signed : Sign → Tree → Tree
     IfThen : Tree → Tree → Tree
@@ -124,18 +138,22 @@ mutual
     ReturnOf : Tree → Tree
     GoingTo : Going → Name → Tree
 
+  -- what is called: a name, or `(lambda ..)`
   pub data Callee : Type 0 where
     Named : Head → Callee
-    Parened : Tree → Callee
+    EnclosedLambda : Tree → Callee
 
+  -- arguments with `,` between them
   pub data Items : Type 0 where
     One : Tree → Items
     More : Items → Tree → Items
 
+  -- pieces with `;` or `$` between them
   pub data Pieces : Type 0 where
     First : Piece → Pieces
     Next : Pieces → Separator → Piece → Pieces
 
+  -- labels, and maybe what they stand before
   pub data Piece : Type 0 where
     Nothing : Labels → Piece
     Something : Labels → Tree → Piece
@@ -151,7 +169,7 @@ abbrev mutual
   spelled (Bare c) ts = callee_spelled c (Open ∷ Close ∷ ts)
   spelled (Call c es) ts = callee_spelled c (Open ∷ items_spelled es (Close ∷ ts))
   spelled (Apply h a) ts = head_token h ∷ spelled a ts
-  spelled (Paren a) ts = Open ∷ spelled a (Close ∷ ts)
+  spelled (Enclosed a) ts = Open ∷ spelled a (Close ∷ ts)
   spelled (Set h a) ts = head_token h ∷ Assign ∷ spelled a ts
   spelled (Binary o a b) ts = spelled a (operation_token o ∷ spelled b ts)
   spelled (Raise a b) ts = spelled a (Power ∷ spelled b ts)
@@ -172,7 +190,7 @@ abbrev mutual
 
   pub callee_spelled : Callee → List Token → List Token
   callee_spelled (Named h) ts = head_token h ∷ ts
-  callee_spelled (Parened a) ts = Open ∷ spelled a (Close ∷ ts)
+  callee_spelled (EnclosedLambda a) ts = Open ∷ spelled a (Close ∷ ts)
 
   pub items_spelled : Items → List Token → List Token
   items_spelled (One a) ts = spelled a ts
@@ -188,6 +206,7 @@ abbrev mutual
 
 -- ---- statements
 
+-- `symbolic` or `lisp`, or neither
 pub data MaybeMode : Type 0 where
   NoMode : MaybeMode
   InMode : ModeWord → MaybeMode
@@ -196,6 +215,7 @@ abbrev pub mode_spelled : MaybeMode → List Token → List Token
 mode_spelled NoMode ts = ts
 mode_spelled (InMode m) ts = Mode m ∷ ts
 
+-- the kind of a procedure, or none
 pub data MaybeKind : Type 0 where
   NoKind : MaybeKind
   OfKind : KindWord → MaybeKind
@@ -204,6 +224,7 @@ abbrev pub kind_spelled : MaybeKind → List Token → List Token
 kind_spelled NoKind ts = ts
 kind_spelled (OfKind k) ts = Kind k ∷ ts
 
+-- the names of files with `,` between them
 pub data Files : Type 0 where
   JustFile : List ℕ → Files
   AlsoFile : Files → List ℕ → Files
@@ -212,7 +233,7 @@ abbrev pub files_spelled : Files → List Token → List Token
 files_spelled (JustFile k) ts = String k ∷ ts
 files_spelled (AlsoFile ks k) ts = files_spelled ks (Comma ∷ String k ∷ ts)
 
--- what an expr is the last of
+-- what an expr ends: a statement that it is, or a procedure whose body it is
 pub data Base : Type 0 where
   Plainly : MaybeMode → Base
   Defining : MaybeMode → MaybeKind → Name → Parameters → Base
@@ -221,6 +242,7 @@ abbrev pub base_spelled : Base → List Token → List Token
 base_spelled (Plainly m) ts = mode_spelled m ts
 base_spelled (Defining m k x p) ts = mode_spelled m (kind_spelled k (Procedure ∷ Identifier x ∷ parameters_spelled p (Separating Semicolon ∷ ts)))
 
+-- nothing, `end`, `in` with files, a mode alone, or what ends with an expr
 pub data Body : Type 0 where
   Empty : Body
   Ending : Body

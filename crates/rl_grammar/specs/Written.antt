@@ -9,7 +9,7 @@ use Rattle.rl_text.specs.Spelling.{EndsBefore, IsSpelled}
 use Rattle.rl_text.specs.Spelling as spelling
 use Rattle.rl_text.specs.Word.{Character, Escaped, Unsigned, Number, Named, Text, character_of, word_text, IsWord}
 use Rattle.rl_text.specs.Word as word
-use Rattle.rl_grammar.specs.Token.{Or, And, Equal, Neq, Geq, Greater, Leq, Less, Plus, Minus, Times, Divide, Eq, Member, Memq, Semicolon, Dollar, Do, Collect, Join, Symbolic, Lisp, Expr, Fexpr, Macro, Smacro, Token, Mode, Kind, Procedure, Identifier, Integer, String, Quoted, Infix, Word, Power, Dot, Not, Assign, Open, Close, Comma, Colon, If, Then, Else, While, Repeat, Until, For, Each, Foreach, In, Does, OpenBlock, CloseBlock, Separating, Begin, End, Scalar, Return, Go, To, Goto, Lambda}
+use Rattle.rl_grammar.specs.Token.{Or, And, Equal, Unequal, AtLeast, Greater, AtMost, Less, Plus, Minus, Times, Divide, Eq, Member, Memq, Semicolon, Dollar, Do, Collect, Join, Symbolic, Lisp, Expr, Fexpr, Macro, Smacro, Token, Mode, Kind, Procedure, Identifier, Integer, String, Quoted, Infix, Word, Power, Dot, Not, Assign, Open, Close, Comma, Colon, If, Then, Else, While, Repeat, Until, For, Each, Foreach, In, Does, OpenBlock, CloseBlock, Separating, Begin, End, Scalar, Return, Go, To, Goto, Lambda}
 
 -- ---- words and marks that mean a token of their own
 
@@ -38,7 +38,7 @@ reserved_words =
     ∷ (codes "MACRO", Kind Macro)
     ∷ (codes "MEMBER", Word Member)
     ∷ (codes "MEMQ", Word Memq)
-    ∷ (codes "NEQ", Infix Neq)
+    ∷ (codes "NEQ", Infix Unequal)
     ∷ (codes "NOT", Not)
     ∷ (codes "OR", Infix Or)
     ∷ (codes "PROCEDURE", Procedure)
@@ -76,8 +76,8 @@ short_marks =
 abbrev pub long_marks : List (ℕ × List (ℕ × Token))
 long_marks =
     (58, (61, Assign) ∷ [])
-    ∷ (62, (61, Infix Geq) ∷ (62, CloseBlock) ∷ [])
-    ∷ (60, (61, Infix Leq) ∷ (60, OpenBlock) ∷ [])
+    ∷ (62, (61, Infix AtLeast) ∷ (62, CloseBlock) ∷ [])
+    ∷ (60, (61, Infix AtMost) ∷ (60, OpenBlock) ∷ [])
     ∷ (42, (42, Power) ∷ [])
     ∷ []
 

@@ -8,10 +8,12 @@ ghost use Rattle.rl_grammar.specs.Laws.{
   ParsesGrammar,
   ParsesWithin,
   RefusesByte,
+  ReadsOneSource,
   ReadsSource,
   RefusesFirst,
   RefusesSource,
   RefusesWithin,
+  TokensAreSlices,
 };
 
 use rl_text::laws::{blank_text_has_none, unreadable_at_first_byte, what_is_found_is_spelled};
@@ -67,6 +69,11 @@ pub fn finds_one_token()
     what_is_found_is_spelled();
 }
 
+/// A token is the bytes from the place where it stands up to what follows it.
+pub fn tokens_are_slices()
+    ensures { TokensAreSlices }
+{}
+
 /// Bytes are bad exactly at the first of them with which no token goes on, or at their end inside a token.
 pub fn refuses_byte()
     ensures { RefusesByte }
@@ -79,6 +86,13 @@ pub fn refuses_byte()
 /// A statement is read exactly where the text begins with it, and what is left is what follows it.
 pub fn reads_source()
     ensures { ReadsSource }
+{
+    what_is_found_is_spelled();
+}
+
+/// A text begins with one statement, and it takes so many bytes; or with none.
+pub fn reads_one_source()
+    ensures { ReadsOneSource }
 {
     what_is_found_is_spelled();
 }
