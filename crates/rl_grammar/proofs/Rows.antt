@@ -1,5 +1,5 @@
 -- Statements and what they mean, or the byte at which they are refused, tried on examples: each side computes to the other.
-use Rattle.std.proofs.Common.{◌≡◌, ℕ, zero, suc, ◌-◌, List, [], ◌∷◌, ◌++◌, length, drop, false, refl}
+use Rattle.std.proofs.Common.{◌≡◌, ℕ, zero, suc, ◌-◌, Bool, true, false, ◌&&◌, ◌==◌, List, [], ◌∷◌, ◌++◌, length, take, drop, refl}
 use Rattle.std.specs.Prelude.{codes}
 use Rattle.rl_text.specs.Reading.{Reading, Found, reading}
 use Rattle.rl_grammar.specs.Form.{Meant, IsEmpty, IsEnd, Reads, Evaluates, meant}
@@ -570,3 +570,77 @@ blanks_before_all = refl
 
 pub text_ends_past_the_end : limited 2 (codes "a  ") ≡ Refused 2
 text_ends_past_the_end = refl
+
+-- ---- a text that ends early
+
+abbrev pub ends_there : ℕ → Answer → Bool
+ends_there k (Refused j) = k == j
+ends_there k (Says m) = false
+
+-- each shorter front of the statement is refused where it ends
+abbrev pub cut : ℕ → List ℕ → Bool
+cut zero bytes = true
+cut (suc k) bytes = ends_there k (answer (take k bytes)) && cut k bytes
+
+abbrev pub cut_anywhere : List ℕ → Bool
+cut_anywhere bytes = cut (length bytes) bytes
+
+pub cut_sum : cut_anywhere (codes "a-b*(c+d);") ≡ true
+cut_sum = refl
+
+pub cut_call : cut_anywhere (codes "f(a,'(b . c));") ≡ true
+cut_call = refl
+
+pub cut_pieces : cut_anywhere (codes "begin a; b end;") ≡ true
+cut_pieces = refl
+
+pub cut_prog : cut_anywhere (codes "begin l: a end;") ≡ true
+cut_prog = refl
+
+pub cut_if : cut_anywhere (codes "if a then b else c;") ≡ true
+cut_if = refl
+
+pub cut_repeat : cut_anywhere (codes "repeat f until a;") ≡ true
+cut_repeat = refl
+
+pub cut_while : cut_anywhere (codes "while a do b;") ≡ true
+cut_while = refl
+
+pub cut_lambda : cut_anywhere (codes "lambda x; x;") ≡ true
+cut_lambda = refl
+
+pub cut_return : cut_anywhere (codes "return \"a;b\";") ≡ true
+cut_return = refl
+
+pub cut_comment : cut_anywhere (codes "%c\n a;") ≡ true
+cut_comment = refl
+
+pub cut_escapes : cut_anywhere (codes "!if + i!f;") ≡ true
+cut_escapes = refl
+
+pub cut_procedure : cut_anywhere (codes "symbolic procedure f(x,y); x.y;") ≡ true
+cut_procedure = refl
+
+pub cut_not : cut_anywhere (codes "not a and b;") ≡ true
+cut_not = refl
+
+pub cut_go : cut_anywhere (codes "go to l;") ≡ true
+cut_go = refl
+
+pub cut_integers : cut_anywhere (codes "1+23*456;") ≡ true
+cut_integers = refl
+
+pub cut_eq : cut_anywhere (codes "a eq b;") ≡ true
+cut_eq = refl
+
+pub cut_files : cut_anywhere (codes "in \"a\", \"b\";") ≡ true
+cut_files = refl
+
+pub cut_quotes : cut_anywhere (codes "''a.'[b (c)];") ≡ true
+cut_quotes = refl
+
+pub cut_block_in_call : cut_anywhere (codes "f <<a>b>>;") ≡ true
+cut_block_in_call = refl
+
+pub cut_power : cut_anywhere (codes "a**b;") ≡ true
+cut_power = refl
