@@ -266,10 +266,10 @@ stops_with finds blank refuses n end at after here k bad is =
     let place : stop.0 ≡ here = stops_dropped finds blank refuses after stop.0 stop.1 ∙ ap (λ (n : ℕ). drop n after) (sym stop.2) ∙ sym is in
     by_first n end at after (Stops stop.0) stop.1 ∙ ap (λ (xs : List ℕ). Unreadable (not_past end xs)) place
 
-not_past_before : (end here : List ℕ) → length end ≤ length here → not_past end here ≡ here
+pub not_past_before : (end here : List ℕ) → length end ≤ length here → not_past end here ≡ here
 not_past_before end here fit = cond-true (nat_le (length end) (length here)) _ _ (fits_from end here fit)
 
-not_past_behind : (end here : List ℕ) → length here < length end → not_past end here ≡ end
+pub not_past_behind : (end here : List ℕ) → length here < length end → not_past end here ≡ end
 not_past_behind end here long = cond-false (nat_le (length end) (length here)) _ _ (fits_not end here long)
 
 past_refused : FindsSpelled → FindsNone → text.RefusesFirst → (n : ℕ) (end : List ℕ) (at : Place) (after : List ℕ) → IsPast end after → read_source (suc n) end at after ≡ Unreadable end

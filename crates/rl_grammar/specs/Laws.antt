@@ -12,8 +12,8 @@ use Rattle.rl_grammar.specs.Statement.{Parsed, Syntax, parse_statement}
 use Rattle.rl_grammar.specs.Nesting.{statement_nests}
 use Rattle.rl_grammar.specs.Within.{parse_within}
 use Rattle.rl_grammar.specs.Bound.{AllWithin, IsRefusedWithin}
-use Rattle.rl_grammar.specs.Source.{IsSource, IsUnreadable}
-use Rattle.rl_grammar.specs.SourceReader.{HasStatement, Unreadable, source_statement}
+use Rattle.rl_grammar.specs.Source.{past_longest, IsSource, IsUnreadable}
+use Rattle.rl_grammar.specs.SourceReader.{HasStatement, Unreadable, source_statement, extended}
 
 abbrev pub ParsesGrammar : Type 0
 ParsesGrammar = (ts : List Token) (a : Body) (s : Separator) (rest : List Token) → (parse_statement ts ≡ Parsed a s rest) ↔ IsStatement ts a s rest
@@ -86,3 +86,7 @@ ReadsOneSource = (bytes : List ℕ) (b c : Body) (s t : Separator) (rest more : 
 -- and a text is unreadable exactly where no statement goes on
 abbrev pub RefusesSource : Type 0
 RefusesSource = (bytes from : List ℕ) → (source_statement bytes ≡ Unreadable from) ↔ IsUnreadable bytes from
+
+-- what stands behind the byte behind the longest statement does not matter
+abbrev pub LooksNoFurther : Type 0
+LooksNoFurther = (bytes more : List ℕ) → 0 < length (past_longest bytes) → source_statement (bytes ++ more) ≡ extended more (source_statement bytes)

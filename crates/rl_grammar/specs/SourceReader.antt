@@ -1,5 +1,5 @@
 -- The first statement of a text, computed: token after token, up to the end of the longest statement.
-use Rattle.std.specs.Prelude.{ℕ, zero, suc, Bool, nat_le, if◌then◌else◌, List, [], length}
+use Rattle.std.specs.Prelude.{ℕ, zero, suc, Bool, nat_le, if◌then◌else◌, List, [], ◌++◌, length}
 use Rattle.rl_grammar.specs.Token.{Separator}
 use Rattle.rl_grammar.specs.Lexer.{Front, Begins, NoneLeft, Stops, first_token}
 use Rattle.rl_grammar.specs.Tree.{Body}
@@ -38,3 +38,8 @@ read_source (suc n) end s bytes = with_first end s (first_token bytes) (λ s res
 -- each token takes a byte at least
 abbrev pub source_statement : List ℕ → SourceResult
 source_statement bytes = read_source (suc (length bytes)) (past_longest bytes) Start bytes
+
+-- with more bytes behind the text
+abbrev pub extended : List ℕ → SourceResult → SourceResult
+extended more (HasStatement b s rest) = HasStatement b s (rest ++ more)
+extended more (Unreadable from) = Unreadable (from ++ more)

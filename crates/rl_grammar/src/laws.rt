@@ -4,6 +4,7 @@ ghost use Rattle.rl_grammar.specs.Laws.{
   FindsNoToken,
   FindsOneToken,
   FindsToken,
+  LooksNoFurther,
   MeansOne,
   ParsesGrammar,
   ParsesWithin,
@@ -105,4 +106,11 @@ pub fn refuses_source()
     what_is_found_is_spelled();
     blank_text_has_none();
     unreadable_at_first_byte();
+}
+
+/// What stands behind the byte that follows the longest statement does not matter.
+pub fn looks_no_further()
+    ensures { LooksNoFurther }
+{
+    what_is_found_is_spelled();
 }
