@@ -14,7 +14,7 @@ use Rattle.rl_grammar.specs.Lexer.{behind_gap, Lexed, Lexes, Bad, begins_spellin
 use Rattle.rl_grammar.specs.Statement.{Place, Start, PlaceStep, GoesTo, Ends, Fails}
 use Rattle.rl_grammar.specs.Within.{place_within}
 use Rattle.rl_grammar.specs.Source.{longest, past_longest}
-use Rattle.rl_grammar.specs.SourceReader.{Unreadable, fits, read_source, source_statement, extended}
+use Rattle.rl_grammar.specs.SourceReader.{Unreadable, fits, read_source, source_behind, source_statement, extended}
 use Rattle.rl_grammar.proofs.Spelled.{spelled_here}
 use Rattle.rl_grammar.proofs.Lexed.{long_has_short, found_is_first}
 use Rattle.rl_grammar.proofs.Sources.{first_shorter, by_first, by_token, by_long, fits_from, fits_not}
@@ -371,7 +371,13 @@ past_on bytes more some (SameGap b bs e f) =
     ap (drop longest) f ∙ drop-append-le longest (b ∷ bs) more (omega arith) ∙ ap (λ (xs : List ℕ). drop longest xs ++ more) (sym e)
 past_on bytes more some (GapBeyond e f) = absurd (let none : length (past_longest bytes) ≡ 0 = ap (λ (xs : List ℕ). length (drop longest xs)) e ∙ nothing_past in omega arith)
 
-pub looks_no_further : FindsSpelled → (bytes more : List ℕ) → 0 < length (past_longest bytes) → source_statement (bytes ++ more) ≡ extended more (source_statement bytes)
-looks_no_further finds bytes more some =
-    ap (λ (end : List ℕ). read_source (suc (length (bytes ++ more))) end Start (bytes ++ more)) (past_on bytes more some (gap_on bytes more false))
+behind_on : FindsSpelled → (bytes more : List ℕ) → 0 < length (past_longest bytes) → GapOn false bytes more → source_statement (bytes ++ more) ≡ extended more (source_statement bytes)
+behind_on finds bytes more some (SameGap b bs e f) =
+    ap (λ (here : List ℕ). source_behind here (bytes ++ more)) f
+    ∙ ap (λ (end : List ℕ). read_source (suc (length (bytes ++ more))) end Start (bytes ++ more)) (past_on bytes more some (SameGap b bs e f))
     ∙ source_on finds (suc (length bytes)) (suc (length (bytes ++ more))) (past_longest bytes) more Start bytes some (omega arith) (omega arith)
+    ∙ ap (λ (here : List ℕ). extended more (source_behind here bytes)) (sym e)
+behind_on finds bytes more some (GapBeyond e f) = absurd (let none : length (past_longest bytes) ≡ 0 = ap (λ (xs : List ℕ). length (drop longest xs)) e ∙ nothing_past in omega arith)
+
+pub looks_no_further : FindsSpelled → (bytes more : List ℕ) → 0 < length (past_longest bytes) → source_statement (bytes ++ more) ≡ extended more (source_statement bytes)
+looks_no_further finds bytes more some = behind_on finds bytes more some (gap_on bytes more false)

@@ -5,15 +5,17 @@ use Rattle.rl_text.specs.Reading.{Reading, Found, reading}
 use Rattle.rl_grammar.specs.Form.{Meant, IsEmpty, IsEnd, Reads, Evaluates, meant}
 use Rattle.rl_grammar.specs.Lexer.{behind_gap}
 use Rattle.rl_grammar.specs.Statement.{Start}
-use Rattle.rl_grammar.specs.SourceReader.{SourceResult, HasStatement, Unreadable, read_source, source_statement}
+use Rattle.rl_grammar.specs.SourceReader.{SourceResult, HasStatement, NothingLeft, Unreadable, read_source, source_statement}
 
 -- what a statement means, or the number of bytes before the one that is refused
 pub data Answer : Type 0 where
   Says : Meant → Answer
+  Nothing : Answer
   Refused : ℕ → Answer
 
 abbrev pub answered : List ℕ → SourceResult → Answer
 answered bytes (HasStatement b s rest) = Says (meant b)
+answered bytes NothingLeft = Nothing
 answered bytes (Unreadable from) = Refused (length bytes - length from)
 
 abbrev pub answer : List ℕ → Answer
@@ -444,10 +446,10 @@ escape_at_the_end = refl
 
 -- ---- where a text ends or is refused
 
-pub empty_text : answer (codes "") ≡ Refused 0
+pub empty_text : answer (codes "") ≡ Nothing
 empty_text = refl
 
-pub blanks_alone : answer (codes " %;\n ") ≡ Refused 5
+pub blanks_alone : answer (codes " %;\n ") ≡ Nothing
 blanks_alone = refl
 
 pub unfinished_block : answer (codes "<< 1; 2") ≡ Refused 7
@@ -576,8 +578,9 @@ text_ends_past_the_end = refl
 abbrev pub ends_there : ℕ → Answer → Bool
 ends_there k (Refused j) = k == j
 ends_there k (Says m) = false
+ends_there k Nothing = true
 
--- each shorter front of the statement is refused where it ends
+-- each shorter front of the statement is refused where it ends, or nothing has begun in it
 abbrev pub cut : ℕ → List ℕ → Bool
 cut zero bytes = true
 cut (suc k) bytes = ends_there k (answer (take k bytes)) && cut k bytes

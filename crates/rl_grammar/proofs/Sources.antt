@@ -2,20 +2,22 @@
 use Rattle.std.proofs.Common.{◌≡◌, ◌↔◌, ℕ, zero, suc, ◌<◌, ◌≤◌, true, false, List, [], ◌∷◌, ◌++◌, length, refl, ap, sym, ◌∙◌, inl, inr, arith, append_assoc}
 use Rattle.std.proofs.lemmas.Bool.{cases_Bool, cond-true, cond-false, le-leb, leb-true}
 use Rattle.std.proofs.lemmas.List.{length-append}
+use Rattle.rl_text.specs.Gap.{IsBlankText}
 use Rattle.rl_text.specs.Laws.{FindsSpelled}
 use Rattle.rl_text.specs.Spelling as spelling
 use Rattle.rl_text.specs.Word.{word_text}
 use Rattle.std.specs.Prelude.{Some}
 use Rattle.rl_grammar.specs.Token.{Separator, Token}
 use Rattle.rl_grammar.specs.Written.{Written, Spelled, Quoting, Short, Long, token_of, Stands, IsTokenAt, IsFirst}
-use Rattle.rl_grammar.specs.Lexer.{Front, Begins, NoneLeft, Stops, first_token}
+use Rattle.rl_grammar.specs.Lexer.{behind_gap, Front, Begins, NoneLeft, Stops, first_token}
 use Rattle.rl_grammar.specs.Tree.{Body}
 use Rattle.rl_grammar.specs.Statement.{Place, Start, PlaceStep, GoesTo, Ends, Fails, Parsed}
 use Rattle.rl_grammar.specs.Within.{place_within, run_within}
 use Rattle.rl_grammar.specs.Source.{past_longest, AreTokens, IsSource}
-use Rattle.rl_grammar.specs.SourceReader.{HasStatement, Unreadable, after_token, fits, with_first, read_source, source_statement}
+use Rattle.rl_grammar.specs.SourceReader.{HasStatement, NothingLeft, Unreadable, after_token, fits, with_first, read_source, started, source_behind, source_statement}
+use Rattle.rl_grammar.proofs.Gaps.{none_is_blank, blank_is_none}
 use Rattle.rl_grammar.proofs.Spelled.{word_first}
-use Rattle.rl_grammar.proofs.Lexed.{first_is_found, found_is_first}
+use Rattle.rl_grammar.proofs.Lexed.{first_is_found, found_is_first, blank_found}
 use Rattle.rl_grammar.proofs.Bounded.{by_within}
 use Rattle.rl_grammar.proofs.PrefixWithin.{statement_within, within_statement}
 
@@ -136,11 +138,15 @@ source_stands : FindsSpelled → (n : ℕ) (end : List ℕ) (s : Place) (bytes :
 source_stands finds zero end s bytes b p rest e = absurd cc
 source_stands finds (suc n) end s bytes b p rest e = first_reads finds n end s bytes b p rest (first_token bytes) refl e (λ s bytes e. source_stands finds n end s bytes b p rest e)
 
-read_is_source : FindsSpelled → (bytes : List ℕ) (b : Body) (p : Separator) (rest : List ℕ) → source_statement bytes ≡ HasStatement b p rest → IsSource bytes b p rest
-read_is_source finds bytes b p rest e =
+started_is_source : FindsSpelled → (bytes : List ℕ) (b : Body) (p : Separator) (rest : List ℕ) → started bytes ≡ HasStatement b p rest → IsSource bytes b p rest
+started_is_source finds bytes b p rest e =
     let stand = source_stands finds (suc (length bytes)) (past_longest bytes) Start bytes b p rest e in
     let both = within_statement stand.tokens b p [] stand.parsed in
     record { tokens = stand.tokens; stand = stand.stand; is = both.0; within = both.1; short = stand.short }
+
+read_is_source : FindsSpelled → (bytes : List ℕ) (b : Body) (p : Separator) (rest here : List ℕ) → source_behind here bytes ≡ HasStatement b p rest → IsSource bytes b p rest
+read_is_source finds bytes b p rest [] e = absurd cc
+read_is_source finds bytes b p rest (c ∷ cs) e = started_is_source finds bytes b p rest e
 
 -- ---- a statement is read
 
@@ -166,8 +172,44 @@ stands_read finds (t ∷ ts) (suc n) end s bytes b p rest are parsed short enoug
     token_read (place_within s t) ts n end s bytes b p rest t are.0 are.1 refl (first_is_found finds bytes are.0 are.1 t are.2) fit are.3 parsed
     (λ next parsed. stands_read finds ts n end next are.1 b p rest are.3 parsed short small)
 
-source_is_read : FindsSpelled → (bytes : List ℕ) (b : Body) (p : Separator) (rest : List ℕ) → IsSource bytes b p rest → source_statement bytes ≡ HasStatement b p rest
-source_is_read finds bytes b p rest is = stands_read finds is.tokens (suc (length bytes)) (past_longest bytes) Start bytes b p rest is.stand (statement_within is.tokens b p [] is.is is.within) is.short (omega arith)
+source_is_started : FindsSpelled → (bytes : List ℕ) (b : Body) (p : Separator) (rest : List ℕ) → IsSource bytes b p rest → started bytes ≡ HasStatement b p rest
+source_is_started finds bytes b p rest is = stands_read finds is.tokens (suc (length bytes)) (past_longest bytes) Start bytes b p rest is.stand (statement_within is.tokens b p [] is.is is.within) is.short (omega arith)
+
+-- a blank text has no tokens
+blank_stands : FindsSpelled → (ts : List Token) (bytes : List ℕ) (b : Body) (p : Separator) (rest : List ℕ) → IsBlankText bytes → AreTokens ts bytes rest → run_within Start ts ≡ Parsed b p [] → ⊥
+blank_stands finds [] bytes b p rest blank are parsed = absurd cc
+blank_stands finds (t ∷ ts) bytes b p rest blank are parsed = let found = sym (first_is_found finds bytes are.0 are.1 t are.2) ∙ blank_found bytes blank in absurd cc
+
+source_is_read : FindsSpelled → (bytes : List ℕ) (b : Body) (p : Separator) (rest here : List ℕ) → behind_gap false bytes ≡ here → IsSource bytes b p rest → source_behind here bytes ≡ HasStatement b p rest
+source_is_read finds bytes b p rest [] e is = absurd (blank_stands finds is.tokens bytes b p rest (none_is_blank bytes e) is.stand (statement_within is.tokens b p [] is.is is.within))
+source_is_read finds bytes b p rest (c ∷ cs) e is = source_is_started finds bytes b p rest is
 
 pub reads_source : FindsSpelled → (bytes : List ℕ) (b : Body) (p : Separator) (rest : List ℕ) → (source_statement bytes ≡ HasStatement b p rest) ↔ IsSource bytes b p rest
-reads_source finds bytes b p rest = (read_is_source finds bytes b p rest, source_is_read finds bytes b p rest)
+reads_source finds bytes b p rest = (read_is_source finds bytes b p rest (behind_gap false bytes), source_is_read finds bytes b p rest (behind_gap false bytes) refl)
+
+-- ---- nothing is left
+
+token_some : (n : ℕ) (end : List ℕ) (at rest : List ℕ) (st : PlaceStep) → ((s : Place) → read_source n end s rest ≡ NothingLeft → ⊥) → after_token end at rest st (λ s. read_source n end s rest) ≡ NothingLeft → ⊥
+token_some n end at rest (GoesTo next) each e = each next e
+token_some n end at rest (Ends b p) each e = absurd cc
+token_some n end at rest Fails each e = absurd cc
+
+first_some : (n : ℕ) (end : List ℕ) (s : Place) (f : Front) → ((s : Place) (rest : List ℕ) → read_source n end s rest ≡ NothingLeft → ⊥) → with_first end s f (λ s rest. read_source n end s rest) ≡ NothingLeft → ⊥
+first_some n end s (Begins t at rest) each e = elim (cases_Bool (fits end rest)) [
+  | inl fit ↦ token_some n end at rest (place_within s t) (λ s. each s rest) (sym (cond-true (fits end rest) _ _ fit) ∙ e)
+  | inr long ↦ let stop : Unreadable end ≡ NothingLeft = sym (cond-false (fits end rest) _ _ long) ∙ e in absurd cc
+]
+first_some n end s NoneLeft each e = absurd cc
+first_some n end s (Stops from) each e = absurd cc
+
+-- a statement that has begun is something
+source_some : (n : ℕ) (end : List ℕ) (s : Place) (bytes : List ℕ) → read_source n end s bytes ≡ NothingLeft → ⊥
+source_some zero end s bytes e = absurd cc
+source_some (suc n) end s bytes e = first_some n end s (first_token bytes) (λ s rest. source_some n end s rest) e
+
+nothing_is_blank : (bytes here : List ℕ) → behind_gap false bytes ≡ here → source_behind here bytes ≡ NothingLeft → IsBlankText bytes
+nothing_is_blank bytes [] e nothing = none_is_blank bytes e
+nothing_is_blank bytes (c ∷ cs) e nothing = absurd (source_some (suc (length bytes)) (past_longest bytes) Start bytes nothing)
+
+pub finds_no_source : (bytes : List ℕ) → (source_statement bytes ≡ NothingLeft) ↔ IsBlankText bytes
+finds_no_source bytes = (nothing_is_blank bytes (behind_gap false bytes) refl, λ blank. ap (λ (here : List ℕ). source_behind here bytes) (blank_is_none bytes blank))

@@ -12,12 +12,13 @@ use Rattle.rl_grammar.specs.Lexer.{behind_gap, Front, Begins, NoneLeft, Stops, f
 use Rattle.rl_grammar.specs.Refusal.{IsBadAt}
 use Rattle.rl_grammar.specs.Tree.{Body}
 use Rattle.rl_grammar.specs.Grammar.{IsStatement}
-use Rattle.rl_grammar.specs.Statement.{Place, Start, PlaceStep, GoesTo, Ends, Fails, inside, place_step, Result, Parsed, Syntax, after_place, run_place}
+use Rattle.rl_grammar.specs.Statement.{Place, Start, PlaceStep, GoesTo, Ends, Fails, place_step, Result, Parsed, Syntax, after_place, run_place}
 use Rattle.rl_grammar.specs.Nesting.{statement_nests}
 use Rattle.rl_grammar.specs.Within.{place_within, run_within, parse_within}
 use Rattle.rl_grammar.specs.Bound.{AllWithin, BeginsWithin}
 use Rattle.rl_grammar.specs.Source.{longest, past_longest, AreTokens, IsPast, PastToken, PastByte, PastText, Ceases, NoPlace, NoToken, NoMore, TooLong, IsUnreadable}
-use Rattle.rl_grammar.specs.SourceReader.{Unreadable, not_past, after_token, fits, with_first, read_source, source_statement}
+use Rattle.rl_grammar.specs.SourceReader.{Unreadable, not_past, after_token, fits, with_first, read_source, started, source_behind, source_statement}
+use Rattle.rl_grammar.proofs.Gaps.{none_is_blank, blank_is_none}
 use Rattle.rl_grammar.proofs.Lexed.{first_is_found, found_is_first, none_found, blank_found}
 use Rattle.rl_grammar.proofs.BadBytes.{stops_are_bad, stops_dropped}
 use Rattle.rl_grammar.proofs.Bounded.{by_within}
@@ -193,11 +194,13 @@ past_shorter bytes =
     let less = behind_shorter false bytes in
     omega arith
 
-refused_is_unreadable : FindsSpelled → FindsNone → text.RefusesFirst → (bytes from : List ℕ) → source_statement bytes ≡ Unreadable from → IsUnreadable bytes from
-refused_is_unreadable finds blank refuses bytes from e =
+refused_is_unreadable : FindsSpelled → FindsNone → text.RefusesFirst → (bytes from here : List ℕ) → behind_gap false bytes ≡ here → source_behind here bytes ≡ Unreadable from → IsUnreadable bytes from
+refused_is_unreadable finds blank refuses bytes from [] is e = absurd cc
+refused_is_unreadable finds blank refuses bytes from (b ∷ bs) is e =
     let c = source_ceases finds blank refuses (suc (length bytes)) (past_longest bytes) Start bytes from (past_shorter bytes) (omega arith) e in
     record {
-      none = λ b p rest is. let read = (reads_source finds bytes b p rest).1 is in absurd cc;
+      none = λ d p rest source. let read = (reads_source finds bytes d p rest).1 source in let same = ap (λ (here : List ℕ). source_behind here bytes) is in absurd cc;
+      some = λ is_blank. let none = blank_is_none bytes is_blank in absurd cc;
       tokens = c.tokens;
       after = c.after;
       stand = c.stand;
@@ -289,11 +292,16 @@ counted_refused : FindsSpelled → FindsNone → text.RefusesFirst → (n : ℕ)
 counted_refused finds blank refuses zero end ts at after from enough goes ceases = absurd (omega arith)
 counted_refused finds blank refuses (suc n) end ts at after from enough goes ceases = ceases_refused finds blank refuses n end ts at after from goes ceases
 
-unreadable_is_refused : FindsSpelled → FindsNone → text.RefusesFirst → (bytes from : List ℕ) → IsUnreadable bytes from → source_statement bytes ≡ Unreadable from
-unreadable_is_refused finds blank refuses bytes from u =
+unreadable_is_started : FindsSpelled → FindsNone → text.RefusesFirst → (bytes from : List ℕ) → IsUnreadable bytes from → started bytes ≡ Unreadable from
+unreadable_is_started finds blank refuses bytes from u =
     let goes = all_go u.tokens u.begins (λ b p is within. u.none b p u.after (record { tokens = u.tokens; stand = u.stand; is = is; within = within; short = u.short })) in
     let r = tokens_reach finds u.tokens (suc (length bytes)) (past_longest bytes) Start bytes u.after u.stand goes u.short (omega arith) in
     r.read ∙ counted_refused finds blank refuses r.count (past_longest bytes) u.tokens r.at u.after from r.enough r.goes u.ceases
 
+unreadable_is_refused : FindsSpelled → FindsNone → text.RefusesFirst → (bytes from here : List ℕ) → behind_gap false bytes ≡ here → IsUnreadable bytes from → source_behind here bytes ≡ Unreadable from
+unreadable_is_refused finds blank refuses bytes from [] is u = absurd (u.some (none_is_blank bytes is))
+unreadable_is_refused finds blank refuses bytes from (b ∷ bs) is u = unreadable_is_started finds blank refuses bytes from u
+
 pub refuses_source : FindsSpelled → FindsNone → text.RefusesFirst → (bytes from : List ℕ) → (source_statement bytes ≡ Unreadable from) ↔ IsUnreadable bytes from
-refuses_source finds blank refuses bytes from = (refused_is_unreadable finds blank refuses bytes from, unreadable_is_refused finds blank refuses bytes from)
+refuses_source finds blank refuses bytes from =
+    (refused_is_unreadable finds blank refuses bytes from (behind_gap false bytes) refl, unreadable_is_refused finds blank refuses bytes from (behind_gap false bytes) refl)

@@ -13,7 +13,7 @@ use Rattle.rl_grammar.specs.Nesting.{statement_nests}
 use Rattle.rl_grammar.specs.Within.{parse_within}
 use Rattle.rl_grammar.specs.Bound.{AllWithin, IsRefusedWithin}
 use Rattle.rl_grammar.specs.Source.{past_longest, IsSource, IsUnreadable}
-use Rattle.rl_grammar.specs.SourceReader.{HasStatement, Unreadable, source_statement, extended}
+use Rattle.rl_grammar.specs.SourceReader.{HasStatement, NothingLeft, Unreadable, source_statement, extended}
 
 abbrev pub ParsesGrammar : Type 0
 ParsesGrammar = (ts : List Token) (a : Body) (s : Separator) (rest : List Token) → (parse_statement ts ≡ Parsed a s rest) ↔ IsStatement ts a s rest
@@ -78,6 +78,10 @@ RefusesByte = (bytes : List ℕ) (k : ℕ) → ((from : List ℕ) × (first_toke
 -- a statement is read exactly where the text begins with it
 abbrev pub ReadsSource : Type 0
 ReadsSource = (bytes : List ℕ) (b : Body) (s : Separator) (rest : List ℕ) → (source_statement bytes ≡ HasStatement b s rest) ↔ IsSource bytes b s rest
+
+-- nothing is left exactly where nothing but blanks and comments is there
+abbrev pub FindsNoSource : Type 0
+FindsNoSource = (bytes : List ℕ) → (source_statement bytes ≡ NothingLeft) ↔ IsBlankText bytes
 
 -- a text begins with one statement, and it takes so many bytes, or with none
 abbrev pub ReadsOneSource : Type 0

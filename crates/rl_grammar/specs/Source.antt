@@ -48,9 +48,10 @@ pub data Ceases (end : List ℕ) (ts : List Token) (after from : List ℕ) : Typ
   -- the statement would be too long
   TooLong : IsPast end after → from ≡ end → Ceases end ts after from
 
--- the text begins with no statement: with tokens of which some statement goes on, and then none does
+-- the text begins with no statement, and is not blank: it begins with tokens with which some statement goes on, and then none does
 pub record IsUnreadable (bytes from : List ℕ) : Type 0 where
   pub none : (b : Body) (s : Separator) (rest : List ℕ) → IsSource bytes b s rest → ⊥
+  pub some : IsBlankText bytes → ⊥
   pub tokens : List Token
   pub after : List ℕ
   pub stand : AreTokens tokens bytes after

@@ -1,15 +1,16 @@
 -- The first statement of a text, computed: token after token, up to the end of the longest statement.
-use Rattle.std.specs.Prelude.{ℕ, zero, suc, Bool, nat_le, if◌then◌else◌, List, [], ◌++◌, length}
+use Rattle.std.specs.Prelude.{ℕ, zero, suc, Bool, false, nat_le, if◌then◌else◌, List, [], ◌∷◌, ◌++◌, length}
 use Rattle.rl_grammar.specs.Token.{Separator}
-use Rattle.rl_grammar.specs.Lexer.{Front, Begins, NoneLeft, Stops, first_token}
+use Rattle.rl_grammar.specs.Lexer.{behind_gap, Front, Begins, NoneLeft, Stops, first_token}
 use Rattle.rl_grammar.specs.Tree.{Body}
 use Rattle.rl_grammar.specs.Statement.{Place, Start, PlaceStep, GoesTo, Ends, Fails}
 use Rattle.rl_grammar.specs.Within.{place_within}
 use Rattle.rl_grammar.specs.Source.{past_longest}
 
--- the statement and the bytes behind it; or the bytes from the one on at which the text is unreadable
+-- the statement and the bytes behind it; that nothing but blanks and comments is left; or the bytes from the one on at which the text is unreadable
 pub data SourceResult : Type 0 where
   HasStatement : Body → Separator → List ℕ → SourceResult
+  NothingLeft : SourceResult
   Unreadable : List ℕ → SourceResult
 
 -- the bytes that are left where these begin: not before the end of the longest statement
@@ -35,11 +36,19 @@ abbrev pub read_source : ℕ → List ℕ → Place → List ℕ → SourceResul
 read_source zero end s bytes = Unreadable bytes
 read_source (suc n) end s bytes = with_first end s (first_token bytes) (λ s rest. read_source n end s rest)
 
--- each token takes a byte at least
+-- a statement has begun; each token takes a byte at least
+abbrev pub started : List ℕ → SourceResult
+started bytes = read_source (suc (length bytes)) (past_longest bytes) Start bytes
+
+abbrev pub source_behind : List ℕ → List ℕ → SourceResult
+source_behind [] bytes = NothingLeft
+source_behind (b ∷ bs) bytes = started bytes
+
 abbrev pub source_statement : List ℕ → SourceResult
-source_statement bytes = read_source (suc (length bytes)) (past_longest bytes) Start bytes
+source_statement bytes = source_behind (behind_gap false bytes) bytes
 
 -- with more bytes behind the text
 abbrev pub extended : List ℕ → SourceResult → SourceResult
 extended more (HasStatement b s rest) = HasStatement b s (rest ++ more)
+extended more NothingLeft = NothingLeft
 extended more (Unreadable from) = Unreadable (from ++ more)

@@ -1,6 +1,7 @@
 //! Laws of the grammar. A law is the contract of a function that does nothing.
 ghost use Rattle.rl_grammar.specs.Laws.{
   CountsTokens,
+  FindsNoSource,
   FindsNoToken,
   FindsOneToken,
   FindsToken,
@@ -90,6 +91,11 @@ pub fn reads_source()
 {
     what_is_found_is_spelled();
 }
+
+/// Nothing is left of a text exactly where nothing but blanks and comments is there.
+pub fn finds_no_source()
+    ensures { FindsNoSource }
+{}
 
 /// A text begins with one statement, and it takes so many bytes; or with none.
 pub fn reads_one_source()
