@@ -1,0 +1,15 @@
+pub mod Token
+pub mod Tree
+pub mod Grammar
+pub mod Form
+pub mod Parser
+pub mod Statement
+pub mod Written
+pub mod Lexer
+pub mod Refusal
+pub mod Nesting
+pub mod Within
+pub mod Bound
+pub mod Source
+pub mod SourceReader
+pub mod Laws
