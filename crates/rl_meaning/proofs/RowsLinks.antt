@@ -136,6 +136,19 @@ a_system_name_in_a_list : by_list (codes "(CAR (X X) X)") (codes "(F)") ≡ twic
 unfolding bare_state opening_rows byte_names special_rows native_rows digits error_texts job
 a_system_name_in_a_list = refl
 
+a_dotted_list : by_list (codes "(CAR (X) . 5)") (codes "(F)") ≡ twice (finished (codes "***** DE is badly formed" ∷ []) 996)
+unfolding bare_state opening_rows byte_names special_rows native_rows digits error_texts job
+a_dotted_list = refl
+
+-- a FUNCTION form in the place of the arguments is the list that it is
+a_function_form_as_arguments : both_ways (codes "(DE F NIL (DE FUNCTION (LAMBDA NIL 1)))") (codes "F") (definition_code (codes "DE")) (codes "(F)") ≡ twice (finished (codes "***** FUNCTION is a system name" ∷ []) 996)
+unfolding bare_state opening_rows byte_names special_rows native_rows digits error_texts job
+a_function_form_as_arguments = refl
+
+a_longer_function_form_as_arguments : both_ways (codes "(DE F NIL (DE FUNCTION NIL 1))") (codes "F") (definition_code (codes "DE")) (codes "(F)") ≡ twice (finished (codes "***** FUNCTION is a system name" ∷ []) 996)
+unfolding bare_state opening_rows byte_names special_rows native_rows digits error_texts job
+a_longer_function_form_as_arguments = refl
+
 no_parameters_in_a_list : by_list (codes "(CAR)") (codes "(F)") ≡ twice (finished (codes "***** DE is badly formed" ∷ []) 996)
 unfolding bare_state opening_rows byte_names special_rows native_rows digits error_texts job
 no_parameters_in_a_list = refl
