@@ -1,5 +1,5 @@
 -- The forms of two runs side by side: trees that were the same stay so while names grow; and the walk of a held function.
-use Rattle.std.proofs.Common.{◌≡◌, ℕ, suc, Bool, true, false, List, [], ◌∷◌, ◌++◌, length, Option, Some, None, ap, subst, arith}
+use Rattle.std.proofs.Common.{◌≡◌, ℕ, suc, Bool, true, false, List, [], ◌∷◌, ◌++◌, length, Option, Some, None, ap, subst}
 use Rattle.rl_tree.specs.Value.{Value, Id, Fun}
 use Rattle.rl_tree.specs.declared.held.Kind.{Kind}
 use Rattle.rl_tree.specs.declared.held.Kind.TheVariants.{Expr, Fexpr, Macro}
@@ -17,12 +17,13 @@ use Rattle.rl_meaning.specs.Compiling.{Compiler}
 use Rattle.rl_meaning.specs.Evaluation.{Position, Statement, Inside, Here, longest_chain, Rec, bad_form, deeper_here, operation_of, of_none, called, going, quoted, function_named, atom_in, identifiers_in, eval, arguments, applied_lambda, progn, clauses, clause, conjunction, disjunction, setq, returning, prog, statements, listed, combined, combined_rest, walked}
 use Rattle.rl_meaning.specs.TwoRunsLinks.{Linked}
 use Rattle.rl_meaning.specs.TwoRunsValues.{Names, Grows, Maybe, end, more, SameValue, same_int, same_id, same_fun, SameTree, same_atom, same_quoted, same_node, same_literal, SameHeld, same_held, SamePointer}
-use Rattle.rl_meaning.specs.TwoRunsStates.{Place, Both, Roomier}
+use Rattle.rl_meaning.specs.TwoRunsStates.{Place, BothMark, Roomier}
 use Rattle.rl_meaning.specs.TwoRunsEnds.{went, returned}
 use Rattle.rl_agrees.proofs.TwoRunsGrowth.{grows_refl, grows_trans, value_grows, values_grow, tree_grows}
 use Rattle.rl_agrees.proofs.TwoRunsWays.{Is, is}
 use Rattle.rl_agrees.proofs.TwoRunsObjects.{nil_same, each_append}
 use Rattle.rl_agrees.proofs.Heads.{lambda_form, call_form, special_form, list_form}
+use Rattle.rl_agrees.proofs.TwoRunsBinding.{level, over}
 use Rattle.rl_agrees.proofs.TwoRunsForms.{list_same, count_same, identifiers_same, fits_same, parameters_same, SameHead, same_form, same_call, same_applied, same_bad, head_same}
 use Rattle.rl_agrees.proofs.TwoRunsAssumed.{Ask, AskGoes, GoesOn, RecGoes, OneRunFacts, TwoRunsFacts}
 use Rattle.rl_agrees.proofs.TwoRunsGoes.{goes_refl, then_goes, choose_goes, deeper_goes, goes_to, restored_context}
@@ -94,7 +95,7 @@ module _ (c : Compiler) (cr : CompilerRespects c) (one : OneRunFacts) (two : Two
   named_ends n _ _ h qs s t e = done_here c n qs nil nil s t (same_id 0) e
 
   variable_ends : (n : Names) (ps : List Place) (x : ℕ) (s t : State) → Sides c n ps s t → Alike SameValue n ps (variable x s) (variable x t)
-  variable_ends n ps x s t e = two.variable_ n ps x s t (shown_whole ps t.bindings e.whole) e.like
+  variable_ends n ps x s t e = two.variable_ n ps x s t (shown_whole ps e.whole) e.like
 
   -- how functions go on, where a level is taken
   call_goes : (rec : Rec) → RecGoes rec → (here : Here) (i : ℕ) (args : Tree) (s : State) (l : Levels) → GoesOn s (arguments rec (record here { levels = l }) [] (λ vs s. called rec i l vs s) args s)
@@ -277,7 +278,7 @@ module _ (c : Compiler) (cr : CompilerRespects c) (one : OneRunFacts) (two : Two
   setq_node : (n : Names) (a d b e : Tree) → SameTree n a b → SameTree n d e → First n d e → SetqGood n (Pair a d) (Pair b e)
   setq_node n _ _ _ _ (same_atom _ _ (same_id x)) (same_node a d b p i j) eval_ k qs here m o s t u g r e =
       then_ends c k qs s t _ _ _ _ e (one.eval_goes rec' gr (record here { levels = m; holder = o }) Inside b t) (λ v s. one.assigned_goes x v s) (λ v s. one.assigned_goes x v s) (eval_ k qs here m o Inside s t u g r e)
-      (λ k' v w s t q z e. two.assigned_ k' qs x v w s t z (shown_whole qs t.bindings e.whole) e.like)
+      (λ k' v w s t q z e. two.assigned_ k' qs x v w s t z (shown_whole qs e.whole) e.like)
   setq_node n _ _ _ _ (same_atom _ _ (same_id x)) i first k qs here m o s t u g r e = done_here c k qs nil nil s t (same_id 0) e
   setq_node n _ _ _ _ (same_atom _ _ h) i first k qs here m o s t u g r e = done_here c k qs nil nil s t (same_id 0) e
   setq_node n _ _ _ _ h i first k qs here m o s t u g r e = done_here c k qs nil nil s t (same_id 0) e
@@ -496,14 +497,12 @@ module _ (c : Compiler) (cr : CompilerRespects c) (one : OneRunFacts) (two : Two
   -- a held function is walked
   pub walked_ends : (n : Names) (ps : List Place) (l m : Levels) (h o : ℕ) (p q : Option Pointer) (a b : Held) (vs ws : List Value) (s t : State) → Roomier l m → Linked n.functions h o → Maybe (SamePointer n) p q → SameHeld n a b → Values n vs ws → Sides c n ps s t → Alike SameValue n ps (walked rec l h p a vs s) (walked rec' m o q b ws t)
   walked_ends n ps l m h o p q _ _ vs ws s t r x pq (same_held kind parameters kept a b y) vv i =
-      let j : Sides c n (Both ∷ ps) (with_mark p s) (with_mark q t) = mark_sides c n ps p q s t pq i in
-      restored_ends n ps s t (binding l kept parameters vs (with_mark p s) (λ levels s. eval rec (at_here kept h levels) Inside a s)) (binding m kept parameters ws (with_mark q t) (λ levels t. eval rec' (at_here kept o levels) Inside b t)) i.whole i.like
-      ((bound_goes m kept parameters ws (with_mark q t) (λ levels t. eval rec' (at_here kept o levels) Inside b t) (λ l s. one.eval_goes rec' gr (at_here kept o l) Inside b s)).goes.within j.ready.event)
+      let j : Sides c n (BothMark ∷ ps) (with_mark p s) (with_mark q t) = mark_sides c n ps p q s t pq i in
+      restored_ends n ps s t (binding l kept parameters vs (with_mark p s) (λ levels s. eval rec (at_here kept h levels) Inside a s)) (binding m kept parameters ws (with_mark q t) (λ levels t. eval rec' (at_here kept o levels) Inside b t)) i.like
       (record {
-        places = Both ∷ ps;
-        whole = j.whole;
-        deep = omega arith;
-        ends = binding_ends c one n (Both ∷ ps) l m kept parameters vs ws (with_mark p s) (with_mark q t) (λ levels s. eval rec (at_here kept h levels) Inside a s) (λ levels t. eval rec' (at_here kept o levels) Inside b t) r vv j
+        places = BothMark ∷ ps;
+        above = over BothMark ps level;
+        ends = binding_ends c one n (BothMark ∷ ps) l m kept parameters vs ws (with_mark p s) (with_mark q t) (λ levels s. eval rec (at_here kept h levels) Inside a s) (λ levels t. eval rec' (at_here kept o levels) Inside b t) r vv j
             (λ l s. one.eval_goes rec gl (at_here kept h l) Inside a s) (λ l s. one.eval_goes rec' gr (at_here kept o l) Inside b s)
             (λ k qs l m s t w r e. eval_ends n a b y k qs (at_here kept h l) m o Inside s t x w r e);
       })

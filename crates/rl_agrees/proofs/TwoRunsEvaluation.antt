@@ -26,13 +26,14 @@ use Rattle.rl_meaning.specs.Compiling.{Compiler}
 use Rattle.rl_meaning.specs.Evaluation.{Position, Statement, Inside, Here, longest_chain, Run, Call_, From, In, Rec, misplaced_at, opened_expansion, with_expansion, closed_expansion, without_expansion, print_unless_nil, caught, Target, Function_, Lambda, Undefined, WrongType, target_function, target_definition, target_pair, target_of, with_arguments, kind_of_definition, held_applied, form_evaluated, evaluated, errorset, list_applied, applied_to, apply_target, apply, native_applied, counted, called_as, function_applied, applied, name_applied, called, fexpr_called, expansion_of, expanded_body, macro_called, in_chain, jumped, in_prog, function_defined, define_function}
 use Rattle.rl_meaning.specs.TwoRunsLinks.{Linked}
 use Rattle.rl_meaning.specs.TwoRunsValues.{Names, Grows, Maybe, nothing, just, Each, end, more, SameValue, same_int, same_id, same_str, same_ref, same_fun, SameParts, same_parts, SameTree, same_atom, same_node, SameHeld, same_held, SameFunction, same_special, same_native, same_held_function, SamePointer, same_pointer, SameNumber, SameDefinition, same_definition, SameSymbol, same_symbol}
-use Rattle.rl_meaning.specs.TwoRunsStates.{Place, Both, SameExpansion, same_none, same_open, Like, Roomier}
+use Rattle.rl_meaning.specs.TwoRunsStates.{Place, BothMark, SameExpansion, same_none, same_open, Like, Roomier}
 use Rattle.rl_meaning.specs.TwoRunsEnds.{done, failed, went, returned, stopped, parted}
 use Rattle.rl_agrees.specs.TwoRunsJobs.{Goes, same_here, same_run, same_call, same_from, same_in, IsOfState}
 use Rattle.rl_agrees.proofs.TwoRunsGrowth.{grows_refl, value_grows, values_grow, tree_grows, pointer_grows}
 use Rattle.rl_agrees.proofs.TwoRunsWays.{Is, is, reading_like, pair_read_like, with_counts_like}
 use Rattle.rl_agrees.proofs.TwoRunsObjects.{pair_same, nil_same, symbol_same, each_length, each_at, made_pair_related}
 use Rattle.rl_agrees.proofs.TwoRunsForms.{label_same, function_same, definition_same}
+use Rattle.rl_agrees.proofs.TwoRunsBinding.{level, over}
 use Rattle.rl_agrees.proofs.TwoRunsReady.{ready_stays}
 use Rattle.rl_agrees.proofs.TwoRunsAssumed.{Ask, AskGoes, GoesOn, RecGoes, OneRunFacts, TwoRunsFacts, may_part, SameList}
 use Rattle.rl_agrees.proofs.TwoRunsWalks.{same_walked}
@@ -181,11 +182,11 @@ module _ (c : Compiler) (cr : CompilerRespects c) (one : OneRunFacts) (two : Two
 
   pub form_ends : (n : Names) (ps : List Place) (l m : Levels) (f g : ℕ) (x y : Function) (s t : State) → Roomier l m → Linked n.functions f g → SameFunction n x y → Sides c n ps s t → Alike SameValue n ps (form_evaluated rec l f x s) (form_evaluated rec' m g y t)
   form_ends n ps l m f g _ _ s t r x (same_held_function _ _ (same_held kind parameters kept a b h)) i =
-      let j : Sides c n (Both ∷ ps) (with_mark None s) (with_mark None t) = mark_sides c n ps None None s t nothing i in
+      let j : Sides c n (BothMark ∷ ps) (with_mark None s) (with_mark None t) = mark_sides c n ps None None s t nothing i in
       let h' : Here = record { levels = l; chain = longest_chain; kept = kept; holder = f } in
       let g' : Here = record { levels = m; chain = longest_chain; kept = kept; holder = g } in
-      restored_ends n ps s t _ _ i.whole i.like ((gb.goes (In g' Inside b) (with_mark None t)).goes.within j.ready.event)
-      (record { places = Both ∷ ps; whole = j.whole; deep = omega arith; ends = respects n (Both ∷ ps) (In h' Inside a) (with_mark None s) (In g' Inside b) (with_mark None t) (starts c n (Both ∷ ps) _ _ _ _ (same_in h' g' Inside a b (same_here longest_chain kept l m f g r x) h) j tt) })
+      restored_ends n ps s t _ _ i.like
+      (record { places = BothMark ∷ ps; above = over BothMark ps level; ends = respects n (BothMark ∷ ps) (In h' Inside a) (with_mark None s) (In g' Inside b) (with_mark None t) (starts c n (BothMark ∷ ps) _ _ _ _ (same_in h' g' Inside a b (same_here longest_chain kept l m f g r x) h) j tt) })
   form_ends n ps l m f g _ _ s t r x (same_special form) i = done_here c n ps nil nil s t (same_id 0) i
   form_ends n ps l m f g _ _ s t r x (same_native native) i = done_here c n ps nil nil s t (same_id 0) i
 

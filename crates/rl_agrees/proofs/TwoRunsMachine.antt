@@ -22,7 +22,7 @@ use Rattle.rl_meaning.specs.Machine.{as_list, unless, proper_elements, all_regis
 use Rattle.rl_meaning.specs.Jobs.{the_compiler}
 use Rattle.rl_meaning.specs.TwoRunsLinks.{OneToOne}
 use Rattle.rl_meaning.specs.TwoRunsValues.{Names, Grows, Maybe, nothing, just, Each, end, more, SameValue, same_int, same_id, same_str, same_ref, same_fun, SameTree, SameHeld, same_held, SameFunction, same_special, same_native, same_held_function, SamePointer, same_pointer, SameNumber, SameDefinition, same_definition, SameOperand, same_slot, same_constant, same_variable, same_register, SameMacro, same_load, same_copy, same_jump_eq, same_jump_ne, same_macro, SameCode, same_atom, same_quoted, same_node, same_literal}
-use Rattle.rl_meaning.specs.TwoRunsStates.{Place, Both, Hidden, HiddenMark, same_binding, Aligned, bottom, both, hidden, hidden_mark, SameExpansion, same_none, same_open, SameCounts, Like, Roomier}
+use Rattle.rl_meaning.specs.TwoRunsStates.{Place, Both, BothMark, Hidden, HiddenMark, Aligned, bottom, both, both_mark, hidden, hidden_mark, SameExpansion, same_none, same_open, SameCounts, Like, Roomier}
 use Rattle.rl_meaning.specs.TwoRunsEnds.{HasShown, short_of_levels, Parted, Related, done, failed, went, returned, stopped, parted, Ends}
 use Rattle.rl_meaning.specs.TwoRunsEnds as ends
 use Rattle.rl_agrees.specs.TwoRunsJobs.{Goes, SameBound, same_bound, SameMachine, same_machine, SameFrame, same_frame, same_onward, Ready, IsWhole, EndsSomewhere}
@@ -191,7 +191,8 @@ quietly n s t o p h k x r = record { places = x.places; whole = x.whole; ends = 
 
 whole_length : (n : Names) (ps : List Place) (xs ys : List Entry) → IsWhole ps → Aligned n ps xs ys → length xs ≡ length ys
 whole_length n _ _ _ w bottom = refl
-whole_length n _ _ _ w (both e d ps xs ys h k) = ap suc (whole_length n ps xs ys w k)
+whole_length n _ _ _ w (both x scope v u ps xs ys h k) = ap suc (whole_length n ps xs ys w k)
+whole_length n _ _ _ w (both_mark f g ps xs ys h k) = ap suc (whole_length n ps xs ys w k)
 whole_length n _ _ _ w (hidden x v ps xs ys k) = absurd w
 whole_length n _ _ _ w (hidden_mark g ps xs ys k) = absurd w
 
@@ -199,13 +200,15 @@ whole_dropped : (i : ℕ) (ps : List Place) → IsWhole ps → IsWhole (drop i p
 whole_dropped zero ps w = w
 whole_dropped (suc i) [] w = tt
 whole_dropped (suc i) (Both ∷ ps) w = whole_dropped i ps w
+whole_dropped (suc i) (BothMark ∷ ps) w = whole_dropped i ps w
 whole_dropped (suc i) (Hidden x v ∷ ps) w = absurd w
 whole_dropped (suc i) (HiddenMark g ∷ ps) w = absurd w
 
 aligned_dropped : (n : Names) (i : ℕ) (ps : List Place) (xs ys : List Entry) → IsWhole ps → Aligned n ps xs ys → Aligned n (drop i ps) (drop i xs) (drop i ys)
 aligned_dropped n zero ps xs ys w k = k
 aligned_dropped n (suc i) _ _ _ w bottom = bottom
-aligned_dropped n (suc i) _ _ _ w (both e d ps xs ys h k) = aligned_dropped n i ps xs ys w k
+aligned_dropped n (suc i) _ _ _ w (both x scope v u ps xs ys h k) = aligned_dropped n i ps xs ys w k
+aligned_dropped n (suc i) _ _ _ w (both_mark f g ps xs ys h k) = aligned_dropped n i ps xs ys w k
 aligned_dropped n (suc i) _ _ _ w (hidden x v ps xs ys k) = absurd w
 aligned_dropped n (suc i) _ _ _ w (hidden_mark g ps xs ys k) = absurd w
 
@@ -234,13 +237,13 @@ restored_somewhere {A = A} {R = R} n i o p h = at o p h.ends
 
 -- a mark, and a binding, of both
 mark_abreast : (n : Names) (f g : Option Pointer) (s t : State) → Maybe (SamePointer n) f g → Abreast n s t → Abreast n (with_mark f s) (with_mark g t)
-mark_abreast n f g s t h x = record { places = Both ∷ x.places; whole = x.whole; like = mark_like n x.places f g s t h x.like; ready = ready_stays the_compiler t _ (goes_with t t.counts _ refl) x.ready }
+mark_abreast n f g s t h x = record { places = BothMark ∷ x.places; whole = x.whole; like = mark_like n x.places f g s t h x.like; ready = ready_stays the_compiler t _ (goes_with t t.counts _ refl) x.ready }
 
 binding_abreast : (n : Names) (i : ℕ) (scope : Scope) (v w : Value) (s t : State) → SameValue n v w → Abreast n s t → Abreast n (with_binding i scope v s) (with_binding i scope w t)
 binding_abreast n i scope v w s t r x = record {
   places = Both ∷ x.places;
   whole = x.whole;
-  like = bindings_like n x.places (Both ∷ x.places) s t _ _ x.like (both _ _ x.places _ _ (same_binding i scope v w r) x.like.bindings);
+  like = bindings_like n x.places (Both ∷ x.places) s t _ _ x.like (both i scope v w x.places _ _ r x.like.bindings);
   ready = ready_stays the_compiler t _ (goes_with t t.counts _ refl) x.ready;
 }
 
@@ -398,7 +401,7 @@ module _ (one : OneRunFacts) (two : TwoRunsFacts) (ask ask' : Ask) (left : AskGo
   content_somewhere : (n : Names) (m k : Machine) (o p : Operand) (s t : State) → SameMachine n m k → SameOperand n o p → Abreast n s t → Somewhere SameValue n (content m o s) (content k p t)
   content_somewhere n m k _ _ s t h (same_slot i) x = done_somewhere n _ _ s t (slot_same n m k h i) x
   content_somewhere n m k _ _ s t h (same_constant v w r) x = done_somewhere n v w s t r x
-  content_somewhere n m k _ _ s t h (same_variable i) x = record { places = x.places; whole = x.whole; ends = variable_related n x.places i s t (shown_whole x.places t.bindings x.whole) x.like }
+  content_somewhere n m k _ _ s t h (same_variable i) x = record { places = x.places; whole = x.whole; ends = variable_related n x.places i s t (shown_whole x.places x.whole) x.like }
   content_somewhere n m k _ _ s t h (same_register r) x = done_somewhere n _ _ s t (register_same n m k h r) x
 
   content_goes : (m : Machine) (o : Operand) (s : State) → GoesOn s (content m o s)
@@ -408,7 +411,7 @@ module _ (one : OneRunFacts) (two : TwoRunsFacts) (ask ask' : Ask) (left : AskGo
   content_goes m (macros.Register r) s = done_goes _ s
 
   assigned_somewhere : (n : Names) (i : ℕ) (v w : Value) (s t : State) → SameValue n v w → Abreast n s t → Somewhere SameValue n (assigned i v s) (assigned i w t)
-  assigned_somewhere n i v w s t r x = record { places = x.places; whole = x.whole; ends = assigned_related n x.places i v w s t r (shown_whole x.places t.bindings x.whole) x.like }
+  assigned_somewhere n i v w s t r x = record { places = x.places; whole = x.whole; ends = assigned_related n x.places i v w s t r (shown_whole x.places x.whole) x.like }
 
   copied_somewhere : (n : Names) (l j : Levels) (a b : Tree) (s t : State) → Roomier l j → SameTree n a b → Abreast n s t → Somewhere SameValue n (copied l a s) (copied j b t)
   copied_somewhere n l j a b s t r h x = quietly n s t _ _ (two.copied_quiet l a s) (two.copied_quiet j b t) x (copied_related n x.places l j a b s t r h x.like)

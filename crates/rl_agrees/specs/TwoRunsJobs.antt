@@ -9,7 +9,7 @@ use Rattle.rl_meaning.specs.Evaluation.{Position, Here, Bound, Machine, Frame, J
 use Rattle.rl_meaning.specs.Compiling.{Compiler}
 use Rattle.rl_meaning.specs.TwoRunsLinks.{Linked}
 use Rattle.rl_meaning.specs.TwoRunsValues.{Names, Maybe, Each, SameValue, SameTree, SameHeld, SamePointer, SameCode}
-use Rattle.rl_meaning.specs.TwoRunsStates.{Place, Both, Like, Roomier}
+use Rattle.rl_meaning.specs.TwoRunsStates.{Place, Both, BothMark, Like, Roomier}
 use Rattle.rl_meaning.specs.TwoRunsEnds.{Ends}
 use Rattle.rl_meaning.specs.Right.{Stood, AllAsTheyStood, Right}
 use Rattle.rl_agrees.specs.Later.{Later, IsIn}
@@ -80,6 +80,7 @@ IsOfState j t = Unit {0}
 abbrev pub IsWhole : List Place → Type 0
 IsWhole [] = Unit {0}
 IsWhole (Both ∷ ps) = IsWhole ps
+IsWhole (BothMark ∷ ps) = IsWhole ps
 IsWhole (p ∷ ps) = ⊥
 
 pub record Starts (compiler : Compiler) (n : Names) (ps : List Place) (j : Job) (s : State) (k : Job) (t : State) : Type 0 where
