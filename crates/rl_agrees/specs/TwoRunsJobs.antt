@@ -26,6 +26,7 @@ pub record Goes (s t : State) : Type 0 where
   pub later : Later s t
   pub within : EventWithin s → EventWithin t
   pub bounded : is_some s.counts.cells ≡ is_some t.counts.cells
+  pub runs_code : s.compilation.runs_code ≡ t.compilation.runs_code
 
 -- ---- jobs
 
