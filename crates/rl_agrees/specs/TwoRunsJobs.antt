@@ -1,4 +1,4 @@
--- When two jobs of two runs side by side are the same, when they may start, and how they end: the left run may run code, the right one walks all functions (this project's).
+-- When two jobs of two runs side by side are the same, and how they end: the left run may run code, the right one walks all functions (this project's).
 use Rattle.std.specs.Prelude.{◌≡◌, ◌≤◌, ◌<◌, ℕ, true, is_some, List, [], ◌∷◌, length, Option, Some}
 use Rattle.rl_tree.specs.Value.{Value}
 use Rattle.rl_meaning.specs.State.{State, Code, Coded, Kept, Held, Pointer, Tree, HeldFunction, Recorded}
@@ -9,7 +9,7 @@ use Rattle.rl_meaning.specs.Evaluation.{Position, Here, Bound, Machine, Frame, J
 use Rattle.rl_meaning.specs.Compiling.{Compiler}
 use Rattle.rl_meaning.specs.TwoRunsLinks.{Linked}
 use Rattle.rl_meaning.specs.TwoRunsValues.{Names, Maybe, Each, SameValue, SameTree, SameHeld, SamePointer, SameCode}
-use Rattle.rl_meaning.specs.TwoRunsStates.{Place, Both, BothMark, Like, Roomier}
+use Rattle.rl_meaning.specs.TwoRunsStates.{Place, Both, BothMark, Roomier}
 use Rattle.rl_meaning.specs.TwoRunsEnds.{Ends}
 use Rattle.rl_meaning.specs.Right.{Stood, AllAsTheyStood, Right}
 use Rattle.rl_agrees.specs.Later.{Later, IsIn}
@@ -83,13 +83,6 @@ IsWhole [] = Unit {0}
 IsWhole (Both ∷ ps) = IsWhole ps
 IsWhole (BothMark ∷ ps) = IsWhole ps
 IsWhole (p ∷ ps) = ⊥
-
-pub record Starts (compiler : Compiler) (n : Names) (ps : List Place) (j : Job) (s : State) (k : Job) (t : State) : Type 0 where
-  pub same : SameJob n j k
-  pub like : Like n ps s t
-  pub whole : IsWhole ps
-  pub of_state : IsOfState k t
-  pub ready : Ready compiler t
 
 -- code that goes on may leave other bindings, of which all are there on both sides
 pub record EndsSomewhere (n : Names) (o p : Outcome Value) : Type 0 where
