@@ -63,7 +63,7 @@ of_state_stays (In here position body) s t g h = tt
 
 module _ (c : Comparison) where
   pub starts : {P : List Place → Type 0} (n : Names) (ps : List Place) (j k : Job) (s t : State) → SameJob n j k → Sides c P n ps s t → PlacesOf c j ps → IsOfState k t → Starts c n ps j s k t
-  starts n ps j k s t r i w h = record { same = r; like = i.like; places = w; of_state = h; ready = i.ready }
+  starts n ps j k s t r i w h = record { same = r; like = i.like; places = w; asked = c.asks k t h; ready = i.ready }
 
   pub taken_sides : {P : List Place → Type 0} {compiler : Compiler} → CompilerRespects compiler c → (n : Names) (ps : List Place) (name : Option ℕ) (s t : State) → Sides c P n ps s t → Sides c P n ps (compiler.requests_taken name s) (compiler.requests_taken name t)
   taken_sides cr n ps name s t i = record { like = cr.taken n ps name s t i.like; places = i.places; ready = c.stay s t _ _ (cr.taken_goes name s) (cr.taken_goes name t) i.ready }

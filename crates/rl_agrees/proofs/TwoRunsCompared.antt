@@ -15,6 +15,8 @@ pub record Comparison : Type 1 where
   pub coded : List Place → Type 0
   -- of the states on the left and on the right
   pub states : State → State → Type 0
+  -- of a job on the right
+  pub asked : Job → State → Type 0
   pub bound : (ps : List Place) → clean ps → clean (Both ∷ ps)
   pub marked : (ps : List Place) → below ps → clean (BothMark ∷ ps)
   pub begun : (ps : List Place) → clean ps → below ps
@@ -22,6 +24,7 @@ pub record Comparison : Type 1 where
   pub whole : (ps : List Place) → coded ps → IsWhole ps
   pub stay : (s t u v : State) → Goes s u → Goes t v → states s t → states u v
   pub event : (s t : State) → states s t → EventWithin t
+  pub asks : (k : Job) (t : State) → IsOfState k t → asked k t
 
 -- ---- two states beside each other, and two jobs
 
@@ -55,7 +58,7 @@ pub record Starts (c : Comparison) (n : Names) (ps : List Place) (j : Job) (s : 
   pub same : SameJob n j k
   pub like : Like n ps s t
   pub places : PlacesOf c j ps
-  pub of_state : IsOfState k t
+  pub asked : c.asked k t
   pub ready : c.states s t
 
 -- ---- a run in which code runs, and the walk: no binding is lacking, and each code is right
@@ -73,6 +76,7 @@ code_and_walk = record {
   clean = λ ps. IsWhole ps;
   coded = λ ps. IsWhole ps;
   states = λ s t. Ready the_compiler t;
+  asked = λ k t. IsOfState k t;
   bound = λ ps w. w;
   marked = λ ps w. w;
   begun = λ ps w. w;
@@ -80,6 +84,7 @@ code_and_walk = record {
   whole = λ ps w. w;
   stay = λ s t u v g h ready. ready_stays the_compiler t v h ready;
   event = λ s t ready. ready.event;
+  asks = λ k t h. h;
 }
 
 -- ---- two walks: bindings may be lacking below the newest mark, and no code goes on
@@ -90,6 +95,7 @@ two_walks = record {
   clean = λ ps. Shown ps;
   coded = λ ps. ⊥;
   states = λ s t. (s.compilation.runs_code ≡ false) × EventWithin t;
+  asked = λ k t. Unit {0};
   bound = λ ps w. w;
   marked = λ ps w. tt;
   begun = λ ps w. tt;
@@ -97,4 +103,5 @@ two_walks = record {
   whole = λ ps w. absurd w;
   stay = λ s t u v g h w. (sym g.runs_code ∙ w.0, h.within w.1);
   event = λ s t w. w.1;
+  asks = λ k t h. tt;
 }

@@ -231,7 +231,7 @@ module _
         let f : Pointer = entry.function in
         let k : Job = Run name m g (Some f) b ws in
         let own : ReadyCode the_compiler t entry = st.ready.codes entry is_in in
-        let of_ : (function_at t f ≡ HeldFunction b) × (g ≡ f.function) × (length ws ≡ length b.parameters) = st.of_state in
+        let of_ : (function_at t f ≡ HeldFunction b) × (g ≡ f.function) × (length ws ≡ length b.parameters) = st.asked in
         let right : Right the_compiler own.lowered entry b own.stood = subst (λ h. Right the_compiler own.lowered entry h own.stood) (held_is (function_at t f) own.held b own.is of_.0) own.right in
         let P : Outcome Value = run_code (jobs the_compiler) m (Some f) b entry.code ws t in
         let agrees : AgreesWith (names_on_right n) t.bindings P (walked (jobs the_compiler) m f.function (Some f) b ws t) =

@@ -132,7 +132,7 @@ module _ (facts : LoopFacts) where
   evaluate_ends : (n : Names) (ps : List Place) (h g : Here) (a b : Tree) (s t : State) → SameHere n h g → SameTree n a b → CleanSides code_and_walk n ps s t → Ends n ps (evaluate h a s) (evaluate g b t)
   evaluate_ends n ps h g a b s t x y i =
       subst (λ o. Ends n ps o (evaluate g b t)) (evaluate_is h a s) (subst (λ o. Ends n ps (job the_compiler (In h Inside a) s) o) (evaluate_is g b t)
-      (facts.composed n ps (In h Inside a) s (In g Inside b) t (record { same = same_in h g Inside a b x y; like = i.like; places = i.places; of_state = tt; ready = i.ready })))
+      (facts.composed n ps (In h Inside a) s (In g Inside b) t (record { same = same_in h g Inside a b x y; like = i.like; places = i.places; asked = tt; ready = i.ready })))
 
   held_goes : (l : Levels) (f : ℕ) (function : Function) (s : State) → GoesOn s (held_evaluated l f function s)
   held_goes l f (HeldFunction held) s = subst (λ o. GoesOn s o) (evaluate_is _ held.body s) (facts.job_goes.goes _ s)

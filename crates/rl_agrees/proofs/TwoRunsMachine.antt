@@ -524,7 +524,7 @@ module _ (one : OneRunFacts) (two : TwoRunsFacts) (ask ask' : Ask) (left : AskGo
 
   onward_somewhere : (n : Names) (f g : Frame) (m k : Machine) (c d : Code) (s t : State) → SameFrame n f g → SameMachine n m k → SameCode n c d → Abreast n s t → Somewhere SameValue n (ask (Onward f m c) s) (ask' (Onward g k d) t)
   onward_somewhere n f g m k c d s t h e i x =
-      let r : EndsSomewhere n (ask (Onward f m c) s) (ask' (Onward g k d) t) = respects n x.places (Onward f m c) s (Onward g k d) t (record { same = same_onward f g m k c d h e i; like = x.like; places = x.whole; of_state = tt; ready = x.ready }) in
+      let r : EndsSomewhere n (ask (Onward f m c) s) (ask' (Onward g k d) t) = respects n x.places (Onward f m c) s (Onward g k d) t (record { same = same_onward f g m k c d h e i; like = x.like; places = x.whole; asked = tt; ready = x.ready }) in
       record { places = r.places; whole = r.whole; ends = r.ends }
 
   marked_goes : (ask : Ask) → AskGoes ask → (f : Frame) (m : Machine) (c : Code) (p : Option Pointer) (s : State) → GoesOn s (ask (Onward f m c) (with_mark p s))

@@ -1,24 +1,25 @@
 -- Jobs of the run in which code runs agree with those of the walk: evaluation and c-macros respect that, so the whole composes. And so do those of two walks.
-use Rattle.rl_meaning.specs.TwoRunsEnds.{Ends}
-use Rattle.rl_meaning.specs.Machine.{run}
 use Rattle.std.proofs.Common.{◌≡◌, ℕ, Bool, true, false, nat_lt, List}
 use Rattle.rl_meaning.specs.State.{State, Tree, Code}
-use Rattle.rl_meaning.specs.Evaluation.{Job, From, In, Here, Position, Frame, Machine}
+use Rattle.rl_meaning.specs.Evaluation.{Job, From, In, Here, Position, Frame, Machine, Run, Onward, Call_}
+use Rattle.rl_meaning.specs.Machine.{run}
 use Rattle.rl_meaning.specs.Jobs.{rank, job, jobs, the_compiler}
 use Rattle.rl_meaning.specs.Laws.{below_by, below, IsFuelEnough}
 use Rattle.rl_meaning.specs.TwoRunsValues.{Names, SameTree, SameCode}
-use Rattle.rl_meaning.specs.TwoRunsStates.{Place}
+use Rattle.rl_meaning.specs.TwoRunsStates.{Place, Like}
+use Rattle.rl_meaning.specs.TwoRunsEnds.{Ends}
+use Rattle.rl_agrees.specs.Laws.{WalksAgree}
 use Rattle.rl_agrees.specs.Leaving.{IsPlain, is_statement}
-use Rattle.rl_agrees.specs.TwoRunsJobs.{SameHere, same_here, SameJob, same_run, same_onward, same_call, same_from, same_in, EndsOf, SameMachine, SameFrame, EndsSomewhere}
+use Rattle.rl_agrees.specs.TwoRunsJobs.{SameHere, same_here, SameJob, same_run, same_onward, same_call, same_from, same_in, EndsOf, SameMachine, SameFrame, EndsSomewhere, EventWithin, MayLack}
 use Rattle.rl_agrees.proofs.TwoRunsGrowth.{grows_refl}
 use Rattle.rl_agrees.proofs.TwoRunsAssumed.{Ask, AskGoes, GoesOn, OneRunFacts, TwoRunsFacts}
 use Rattle.rl_agrees.proofs.TwoRunsGoes.{goes_refl}
+use Rattle.rl_agrees.proofs.TwoRunsCompared.{Comparison, Sides, Starts, code_and_walk, CleanSides, PlacesOf, two_walks}
 use Rattle.rl_agrees.proofs.TwoRunsAsked.{by, Respects, CompilerRespects, no_compiler_respects, rec_goes}
 use Rattle.rl_agrees.proofs.TwoRunsEvaluation.{applied_ends}
 use Rattle.rl_agrees.proofs.TwoRunsBlock.{eval_ends, statements_ends, walked_ends}
 use Rattle.rl_agrees.proofs.TwoRunsMachine.{run_respects, code_respects}
 use Rattle.rl_agrees.proofs.TwoRunsComposed.{walk_done, composed, walks_all, walks_composed}
-use Rattle.rl_agrees.proofs.TwoRunsCompared.{Comparison, Sides, Starts, code_and_walk, CleanSides, PlacesOf, two_walks}
 
 module _ (one : OneRunFacts) (two : TwoRunsFacts) where
   -- what walks respects the relation, if code that goes on does
@@ -69,5 +70,18 @@ module _ (one : OneRunFacts) (two : TwoRunsFacts) where
     jobs_agree fuel = composed fuel jobs_go (λ l f held code vs s. one.code_goes (jobs the_compiler) (rec_goes the_compiler code_and_walk (no_compiler_respects code_and_walk) (job the_compiler) jobs_go) l f held code vs s) below_goes code_and_walk_respect (code_respects one two)
 
     -- two walks agree, of which the left one may lack bindings
-    pub two_walks_agree : IsFuelEnough → Respects two_walks (job the_compiler) (job the_compiler)
+    two_walks_agree : IsFuelEnough → Respects two_walks (job the_compiler) (job the_compiler)
     two_walks_agree fuel = walks_composed two_walks fuel below_goes two_walks_respect (λ j s t w. walks_all j s w.0)
+
+    pub walks_agree : IsFuelEnough → WalksAgree
+    walks_agree fuel = record { jobs = agree }
+      where
+        start : (n : Names) (ps : List Place) (j : Job) (s : State) (k : Job) (t : State) → SameJob n j k → Like n ps s t → PlacesOf two_walks j ps → s.compilation.runs_code ≡ false → EventWithin t → Starts two_walks n ps j s k t
+        start n ps j s k t same like w code event = record { same = same; like = like; places = w; asked = tt; ready = (code, event) }
+
+        agree : (n : Names) (ps : List Place) (j : Job) (s : State) (k : Job) (t : State) → SameJob n j k → Like n ps s t → MayLack j ps → s.compilation.runs_code ≡ false → EventWithin t → Ends n ps (job the_compiler j s) (job the_compiler k t)
+        agree n ps (Run name l holder f held vs) s k t same like w code event = two_walks_agree fuel n ps _ s k t (start n ps _ s k t same like tt code event)
+        agree n ps (Onward f m c) s k t same like w code event = absurd w
+        agree n ps (Call_ name l f vs) s k t same like w code event = two_walks_agree fuel n ps _ s k t (start n ps _ s k t same like tt code event)
+        agree n ps (From here whole rest) s k t same like w code event = two_walks_agree fuel n ps _ s k t (start n ps _ s k t same like w code event)
+        agree n ps (In here position body) s k t same like w code event = two_walks_agree fuel n ps _ s k t (start n ps _ s k t same like w code event)

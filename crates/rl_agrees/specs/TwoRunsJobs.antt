@@ -9,7 +9,7 @@ use Rattle.rl_meaning.specs.Evaluation.{Position, Here, Bound, Machine, Frame, J
 use Rattle.rl_meaning.specs.Compiling.{Compiler}
 use Rattle.rl_meaning.specs.TwoRunsLinks.{Linked}
 use Rattle.rl_meaning.specs.TwoRunsValues.{Names, Maybe, Each, SameValue, SameTree, SameHeld, SamePointer, SameCode}
-use Rattle.rl_meaning.specs.TwoRunsStates.{Place, Both, BothMark, Roomier}
+use Rattle.rl_meaning.specs.TwoRunsStates.{Place, Both, BothMark, Shown, Roomier}
 use Rattle.rl_meaning.specs.TwoRunsEnds.{Ends}
 use Rattle.rl_meaning.specs.Right.{Stood, AllAsTheyStood, Right}
 use Rattle.rl_agrees.specs.Later.{Later, IsIn}
@@ -83,6 +83,14 @@ IsWhole [] = Unit {0}
 IsWhole (Both ∷ ps) = IsWhole ps
 IsWhole (BothMark ∷ ps) = IsWhole ps
 IsWhole (p ∷ ps) = ⊥
+
+-- what two walks ask of the places: where a function begins, nothing, as it pushes a mark over them; where a form is walked, that no binding is lacking above the newest mark. No code goes on
+abbrev pub MayLack : Job → List Place → Type 0
+MayLack (Run name l holder f held vs) ps = Unit {0}
+MayLack (Onward f m code) ps = ⊥
+MayLack (Call_ name l f vs) ps = Unit {0}
+MayLack (From here whole rest) ps = Shown ps
+MayLack (In here position body) ps = Shown ps
 
 -- code that goes on may leave other bindings, of which all are there on both sides
 pub record EndsSomewhere (n : Names) (o p : Outcome Value) : Type 0 where
