@@ -17,13 +17,18 @@ pub record Comparison : Type 1 where
   pub states : State → State → Type 0
   -- of a job on the right
   pub asked : Job → State → Type 0
+  -- a binding of both leaves places clean, and so does the mark of a function that begins
   pub bound : (ps : List Place) → clean ps → clean (Both ∷ ps)
   pub marked : (ps : List Place) → below ps → clean (BothMark ∷ ps)
+  -- where a form is walked a function may begin, and variables are the same ones
   pub begun : (ps : List Place) → clean ps → below ps
   pub shown : (ps : List Place) → clean ps → Shown ps
+  -- code goes on where no binding is lacking
   pub whole : (ps : List Place) → coded ps → IsWhole ps
+  -- both go on, and what is asked of them stays
   pub stay : (s t u v : State) → Goes s u → Goes t v → states s t → states u v
   pub event : (s t : State) → states s t → EventWithin t
+  -- jobs that evaluation does are those of functions of the state
   pub asks : (k : Job) (t : State) → IsOfState k t → asked k t
 
 -- ---- two states beside each other, and two jobs

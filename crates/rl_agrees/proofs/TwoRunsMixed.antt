@@ -1,12 +1,14 @@
 -- Jobs of the run in which code runs agree with those of the walk: evaluation and c-macros respect that, so the whole composes. And so do those of two walks.
 use Rattle.std.proofs.Common.{◌≡◌, ℕ, Bool, true, false, nat_lt, List}
+use Rattle.rl_tree.specs.Value.{Value}
 use Rattle.rl_meaning.specs.State.{State, Tree, Code}
-use Rattle.rl_meaning.specs.Evaluation.{Job, From, In, Here, Position, Frame, Machine, Run, Onward, Call_}
+use Rattle.rl_meaning.specs.Outcome.{Levels}
+use Rattle.rl_meaning.specs.Evaluation.{Job, From, In, Here, Position, Frame, Machine, Run, Onward, Call_, called}
 use Rattle.rl_meaning.specs.Machine.{run}
 use Rattle.rl_meaning.specs.Jobs.{rank, job, jobs, the_compiler}
 use Rattle.rl_meaning.specs.Laws.{below_by, below, IsFuelEnough}
-use Rattle.rl_meaning.specs.TwoRunsValues.{Names, SameTree, SameCode}
-use Rattle.rl_meaning.specs.TwoRunsStates.{Place, Like}
+use Rattle.rl_meaning.specs.TwoRunsValues.{Names, SameTree, SameCode, Each, SameValue}
+use Rattle.rl_meaning.specs.TwoRunsStates.{Place, Like, Roomier}
 use Rattle.rl_meaning.specs.TwoRunsEnds.{Ends}
 use Rattle.rl_agrees.specs.Laws.{WalksAgree}
 use Rattle.rl_agrees.specs.Leaving.{IsPlain, is_statement}
@@ -16,7 +18,7 @@ use Rattle.rl_agrees.proofs.TwoRunsAssumed.{Ask, AskGoes, GoesOn, OneRunFacts, T
 use Rattle.rl_agrees.proofs.TwoRunsGoes.{goes_refl}
 use Rattle.rl_agrees.proofs.TwoRunsCompared.{Comparison, Sides, Starts, code_and_walk, CleanSides, PlacesOf, two_walks}
 use Rattle.rl_agrees.proofs.TwoRunsAsked.{by, Respects, CompilerRespects, no_compiler_respects, rec_goes}
-use Rattle.rl_agrees.proofs.TwoRunsEvaluation.{applied_ends}
+use Rattle.rl_agrees.proofs.TwoRunsEvaluation.{applied_ends, called_ends}
 use Rattle.rl_agrees.proofs.TwoRunsBlock.{eval_ends, statements_ends, walked_ends}
 use Rattle.rl_agrees.proofs.TwoRunsMachine.{run_respects, code_respects}
 use Rattle.rl_agrees.proofs.TwoRunsComposed.{walk_done, composed, walks_all, walks_composed}
@@ -74,7 +76,7 @@ module _ (one : OneRunFacts) (two : TwoRunsFacts) where
     two_walks_agree fuel = walks_composed two_walks fuel below_goes two_walks_respect (λ j s t w. walks_all j s w.0)
 
     pub walks_agree : IsFuelEnough → WalksAgree
-    walks_agree fuel = record { jobs = agree }
+    walks_agree fuel = record { job_ = agree; called_ = calls_agree }
       where
         start : (n : Names) (ps : List Place) (j : Job) (s : State) (k : Job) (t : State) → SameJob n j k → Like n ps s t → PlacesOf two_walks j ps → s.compilation.runs_code ≡ false → EventWithin t → Starts two_walks n ps j s k t
         start n ps j s k t same like w code event = record { same = same; like = like; places = w; asked = tt; ready = (code, event) }
@@ -85,3 +87,7 @@ module _ (one : OneRunFacts) (two : TwoRunsFacts) where
         agree n ps (Call_ name l f vs) s k t same like w code event = two_walks_agree fuel n ps _ s k t (start n ps _ s k t same like tt code event)
         agree n ps (From here whole rest) s k t same like w code event = two_walks_agree fuel n ps _ s k t (start n ps _ s k t same like w code event)
         agree n ps (In here position body) s k t same like w code event = two_walks_agree fuel n ps _ s k t (start n ps _ s k t same like w code event)
+
+        calls_agree : (n : Names) (ps : List Place) (i : ℕ) (l m : Levels) (vs ws : List Value) (s t : State) → Roomier l m → Each (SameValue n) vs ws → Like n ps s t → s.compilation.runs_code ≡ false → EventWithin t → Ends n ps (called (jobs the_compiler) i l vs s) (called (jobs the_compiler) i m ws t)
+        calls_agree n ps i l m vs ws s t r e like code event =
+            called_ends two_walks (no_compiler_respects two_walks) one two (job the_compiler) (job the_compiler) jobs_go jobs_go (two_walks_agree fuel) n ps i l m vs ws s t r e (record { like = like; places = tt; ready = (code, event) })
