@@ -51,6 +51,7 @@ mod PlainAlone
 mod PlainRows
 mod TwoRunsReady
 mod TwoRunsAssumed
+mod TwoRunsCompared
 mod TwoRunsComposed
 mod TwoRunsGoes
 mod TwoRunsEnding

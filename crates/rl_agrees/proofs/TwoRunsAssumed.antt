@@ -153,8 +153,8 @@ pub record TwoRunsFacts : Type 0 where
   pub native_quiet : (o : Native) (l : Levels) (vs : List Value) (s : State) → may_part o ≡ false → Quiet s (native o l vs s)
   -- what may part
   pub native_parts : (n : Names) (ps : List Place) (o : Native) (l m : Levels) (xs ys : List Value) (s t : State) → may_part o ≡ true → Each (SameValue n) xs ys → Like n ps s t → Ends n ps (native o l xs s) (native o m ys t)
-  pub variable_ : (n : Names) (ps : List Place) (x : ℕ) (s t : State) → Shown ps t.bindings → Like n ps s t → Ends n ps (variable x s) (variable x t)
-  pub assigned_ : (n : Names) (ps : List Place) (x : ℕ) (v w : Value) (s t : State) → SameValue n v w → Shown ps t.bindings → Like n ps s t → Ends n ps (assigned x v s) (assigned x w t)
+  pub variable_ : (n : Names) (ps : List Place) (x : ℕ) (s t : State) → Shown ps → Like n ps s t → Ends n ps (variable x s) (variable x t)
+  pub assigned_ : (n : Names) (ps : List Place) (x : ℕ) (v w : Value) (s t : State) → SameValue n v w → Shown ps → Like n ps s t → Ends n ps (assigned x v s) (assigned x w t)
   pub print_error_ : (n : Names) (ps : List Place) (l m : Levels) (v w : Value) (s t : State) → SameValue n v w → Like n ps s t → Related {A = Unit {0}} Parted Is n ps (print_error l v s) (print_error m w t)
   pub define_ : (n : Names) (ps : List Place) (i : ℕ) (kind : Kind) (p q : Pointer) (s t : State) → SamePointer n p q → Like n ps s t → Like n ps (define i kind p s) (define i kind q t)
   pub list_elements_ : (n : Names) (ps : List Place) (s t : State) (v w : Value) → Like n ps s t → SameValue n v w → Maybe (Each (SameValue n)) (list_elements s v) (list_elements t w)

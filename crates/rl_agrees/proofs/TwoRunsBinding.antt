@@ -11,7 +11,7 @@ use Rattle.rl_meaning.specs.Holding.{kept_kind}
 use Rattle.rl_meaning.specs.Opening.{state_of}
 use Rattle.rl_meaning.specs.Variables.{with_binding, with_mark, bound_as, bind_all, binding_levels, with_oldest, restored, binding}
 use Rattle.rl_meaning.specs.TwoRunsValues.{Names, Grows, Maybe, Each, end, more, SameValue, same_id, SamePointer}
-use Rattle.rl_meaning.specs.TwoRunsStates.{Place, Both, Hidden, HiddenMark, same_binding, same_mark, Aligned, bottom, both, hidden, hidden_mark, Shown, Like, Roomier}
+use Rattle.rl_meaning.specs.TwoRunsStates.{Place, Both, BothMark, Hidden, HiddenMark, Aligned, bottom, both, both_mark, hidden, hidden_mark, Shown, Like, Roomier}
 use Rattle.rl_meaning.specs.TwoRunsEnds.{HasShown, OneBegins, Parted, by_event, right_short, left_short, short_by_event, both_short, Related, done, failed, went, returned, stopped, parted}
 use Rattle.rl_agrees.proofs.TwoRunsGrowth.{grows_refl}
 use Rattle.rl_agrees.proofs.TwoRunsWays.{then_related}
@@ -29,19 +29,22 @@ pub data Above (ps : List Place) : List Place → Type 0 where
 lefts_in : List Place → ℕ
 lefts_in [] = 0
 lefts_in (Both ∷ ps) = suc (lefts_in ps)
+lefts_in (BothMark ∷ ps) = suc (lefts_in ps)
 lefts_in (Hidden x v ∷ ps) = lefts_in ps
 lefts_in (HiddenMark g ∷ ps) = lefts_in ps
 
 lefts : (n : Names) (ps : List Place) (xs ys : List Entry) → Aligned n ps xs ys → length xs ≡ lefts_in ps
 unfolding lefts_in
 lefts n _ _ _ bottom = refl
-lefts n _ _ _ (both e d ps xs ys h k) = ap suc (lefts n ps xs ys k)
+lefts n _ _ _ (both x scope v w ps xs ys h k) = ap suc (lefts n ps xs ys k)
+lefts n _ _ _ (both_mark f g ps xs ys h k) = ap suc (lefts n ps xs ys k)
 lefts n _ _ _ (hidden x v ps xs ys k) = lefts n ps xs ys k
 lefts n _ _ _ (hidden_mark g ps xs ys k) = lefts n ps xs ys k
 
 rights : (n : Names) (ps : List Place) (xs ys : List Entry) → Aligned n ps xs ys → length ys ≡ length ps
 rights n _ _ _ bottom = refl
-rights n _ _ _ (both e d ps xs ys h k) = ap suc (rights n ps xs ys k)
+rights n _ _ _ (both x scope v w ps xs ys h k) = ap suc (rights n ps xs ys k)
+rights n _ _ _ (both_mark f g ps xs ys h k) = ap suc (rights n ps xs ys k)
 rights n _ _ _ (hidden x v ps xs ys k) = ap suc (rights n ps xs ys k)
 rights n _ _ _ (hidden_mark g ps xs ys k) = ap suc (rights n ps xs ys k)
 
@@ -49,6 +52,7 @@ above_left : (ps qs : List Place) → Above ps qs → lefts_in ps ≤ lefts_in q
 unfolding lefts_in
 above_left ps _ level = omega arith
 above_left ps _ (over Both qs o) = let e = above_left ps qs o in omega (arith, e)
+above_left ps _ (over BothMark qs o) = let e = above_left ps qs o in omega (arith, e)
 above_left ps _ (over (Hidden x v) qs o) = above_left ps qs o
 above_left ps _ (over (HiddenMark g) qs o) = above_left ps qs o
 
@@ -60,9 +64,12 @@ above_right ps _ (over p qs o) = let e = above_right ps qs o in omega (arith, e)
 oldest : (n : Names) (ps qs : List Place) (xs ys : List Entry) → Above ps qs → Aligned n qs xs ys → (i j : ℕ) → i + lefts_in ps ≡ lefts_in qs → j + length ps ≡ length qs → Aligned n ps (drop i xs) (drop j ys)
 unfolding lefts_in
 oldest n ps _ xs ys level k i j a b = let e : i ≡ 0 = omega (arith, a) in let f : j ≡ 0 = omega (arith, b) in rw (e, f) k
-oldest n ps _ _ _ (over Both qs o) (both e d _ xs ys h k) zero j a b = absurd (omega (arith, a, above_left ps qs o))
-oldest n ps _ _ _ (over Both qs o) (both e d _ xs ys h k) (suc i) zero a b = absurd (omega (arith, b, above_right ps qs o))
-oldest n ps _ _ _ (over Both qs o) (both e d _ xs ys h k) (suc i) (suc j) a b = oldest n ps qs xs ys o k i j (omega (arith, a)) (omega (arith, b))
+oldest n ps _ _ _ (over Both qs o) (both x scope v w _ xs ys h k) zero j a b = absurd (omega (arith, a, above_left ps qs o))
+oldest n ps _ _ _ (over Both qs o) (both x scope v w _ xs ys h k) (suc i) zero a b = absurd (omega (arith, b, above_right ps qs o))
+oldest n ps _ _ _ (over Both qs o) (both x scope v w _ xs ys h k) (suc i) (suc j) a b = oldest n ps qs xs ys o k i j (omega (arith, a)) (omega (arith, b))
+oldest n ps _ _ _ (over BothMark qs o) (both_mark f g _ xs ys h k) zero j a b = absurd (omega (arith, a, above_left ps qs o))
+oldest n ps _ _ _ (over BothMark qs o) (both_mark f g _ xs ys h k) (suc i) zero a b = absurd (omega (arith, b, above_right ps qs o))
+oldest n ps _ _ _ (over BothMark qs o) (both_mark f g _ xs ys h k) (suc i) (suc j) a b = oldest n ps qs xs ys o k i j (omega (arith, a)) (omega (arith, b))
 oldest n ps _ _ _ (over (Hidden x v) qs o) (hidden _ _ _ xs ys k) i zero a b = absurd (omega (arith, b, above_right ps qs o))
 oldest n ps _ _ _ (over (Hidden x v) qs o) (hidden _ _ _ xs ys k) i (suc j) a b = oldest n ps qs xs ys o k i j a (omega (arith, b))
 oldest n ps _ _ _ (over (HiddenMark g) qs o) (hidden_mark _ _ xs ys k) i zero a b = absurd (omega (arith, b, above_right ps qs o))
@@ -117,11 +124,8 @@ module _ (n : Names) (ps : List Place) (s t : State) (l : Like n ps s t) where
 
 -- ---- marks
 
-pub mark_like : (n : Names) (ps : List Place) (f g : Option Pointer) (s t : State) → Maybe (SamePointer n) f g → Like n ps s t → Like n (Both ∷ ps) (with_mark f s) (with_mark g t)
-mark_like n ps f g s t h l = bindings_like n ps (Both ∷ ps) s t _ _ l (both _ _ ps _ _ (same_mark f g h) l.bindings)
-
-pub mark_shown : (ps : List Place) (g : Option Pointer) (t : State) → Shown (Both ∷ ps) (with_mark g t).bindings
-mark_shown ps g t = tt
+pub mark_like : (n : Names) (ps : List Place) (f g : Option Pointer) (s t : State) → Maybe (SamePointer n) f g → Like n ps s t → Like n (BothMark ∷ ps) (with_mark f s) (with_mark g t)
+mark_like n ps f g s t h l = bindings_like n ps (BothMark ∷ ps) s t _ _ l (both_mark f g ps _ _ h l.bindings)
 
 -- ---- binding
 
@@ -134,8 +138,8 @@ bound_places (x ∷ xs) ps = bound_places xs (Both ∷ ps)
 pub record Rebound (s a : State) : Type 0 where
   pub is : a ≡ record s { bindings = a.bindings }
 
-bound_like : (n : Names) (ps : List Place) (x : ℕ) (scope : Scope) (v w : Value) (s t : State) → SameValue n v w → Like n ps s t → Like n (Both ∷ ps) (with_binding x scope v s) (with_binding x scope w t)
-bound_like n ps x scope v w s t r l = bindings_like n ps (Both ∷ ps) s t _ _ l (both _ _ ps _ _ (same_binding x scope v w r) l.bindings)
+pub bound_like : (n : Names) (ps : List Place) (x : ℕ) (scope : Scope) (v w : Value) (s t : State) → SameValue n v w → Like n ps s t → Like n (Both ∷ ps) (with_binding x scope v s) (with_binding x scope w t)
+bound_like n ps x scope v w s t r l = bindings_like n ps (Both ∷ ps) s t _ _ l (both x scope v w ps _ _ r l.bindings)
 
 -- ---- what a binding prints: nothing
 
@@ -188,7 +192,7 @@ module _ {A : Type 0} {R : Names → A → A → Type 0} (n : Names) (ps : List 
   bound_step m qs x a b u v f g f' g' o r k h kind.Global false = refused m qs x u v (λ done s. f s) (λ done s. g s) (λ done s. f' s) (λ done s. g' s) o k
 
   bound_all : (kept : List Kept) (xs : List ℕ) (vs ws : List Value) (m : Names) (qs : List Place) (u v : State) (f g : State → Outcome A) → Above ps qs → Each (SameValue m) vs ws → Like m qs u v
-      → ((k : Names) (a b : State) → Grows m k → Like k (bound_places xs qs) a b → Rebound u a → Rebound v b → (Shown qs v.bindings → Shown (bound_places xs qs) b.bindings) → Related Parted R k (bound_places xs qs) (f a) (g b))
+      → ((k : Names) (a b : State) → Grows m k → Like k (bound_places xs qs) a b → Rebound u a → Rebound v b → (Shown qs → Shown (bound_places xs qs)) → Related Parted R k (bound_places xs qs) (f a) (g b))
       → Related Parted R m ps (restored (length s.bindings) (then_do (bind_all kept xs vs u) (λ done s. f s))) (restored (length t.bindings) (then_do (bind_all kept xs ws v) (λ done s. g s)))
   bound_all kept [] vs ws m qs u v f g o e k h = restored_related n ps s t l m qs _ _ o (h m u v (grows_refl m) k (record { is = refl }) (record { is = refl }) (λ w. w))
   bound_all kept (x ∷ xs) _ _ m qs u v f g o (more a b vs ws r e) k h =
@@ -199,7 +203,7 @@ module _ {A : Type 0} {R : Names → A → A → Type 0} (n : Names) (ps : List 
 -- what goes on behind the bindings has them in both runs, at their places, and leaves what was printed before, on either side: of a stop for lack of levels no more is known
 pub binding_related : {A : Type 0} {R : Names → A → A → Type 0} (n : Names) (ps : List Place) (l m : Levels) (kept : List Kept) (xs : List ℕ) (vs ws : List Value) (s t : State) (f g : Levels → State → Outcome A) → Roomier l m → Each (SameValue n) vs ws → Like n ps s t
     → ((l : Levels) → Prints (λ s. f l s)) → ((m : Levels) → Prints (λ t. g m t))
-    → ((k : Names) (l m : Levels) (a b : State) → Grows n k → Roomier l m → Like k (bound_places xs ps) a b → Rebound s a → Rebound t b → (Shown ps t.bindings → Shown (bound_places xs ps) b.bindings) → Related Parted R k (bound_places xs ps) (f l a) (g m b))
+    → ((k : Names) (l m : Levels) (a b : State) → Grows n k → Roomier l m → Like k (bound_places xs ps) a b → Rebound s a → Rebound t b → (Shown ps → Shown (bound_places xs ps)) → Related Parted R k (bound_places xs ps) (f l a) (g m b))
     → Related Parted R n ps (binding l kept xs vs s f) (binding m kept xs ws t g)
 binding_related n ps l m kept xs vs ws s t f g r e k left right h =
     deeper_ends n ps s t _ _ k.outside (λ l. all_show kept xs vs s (λ s. f l s) (left l)) (λ m. all_show kept xs ws t (λ s. g m s) (right m)) (binding_levels (length xs)) l m r (λ l m r.

@@ -1,5 +1,5 @@
 -- The forms of two runs side by side: trees that were the same stay so while names grow; and the walk of a held function.
-use Rattle.std.proofs.Common.{◌≡◌, ℕ, suc, Bool, true, false, List, [], ◌∷◌, ◌++◌, length, Option, Some, None, ap, subst, arith}
+use Rattle.std.proofs.Common.{◌≡◌, ℕ, suc, Bool, true, false, List, [], ◌∷◌, ◌++◌, length, Option, Some, None, ap, subst}
 use Rattle.rl_tree.specs.Value.{Value, Id, Fun}
 use Rattle.rl_tree.specs.declared.held.Kind.{Kind}
 use Rattle.rl_tree.specs.declared.held.Kind.TheVariants.{Expr, Fexpr, Macro}
@@ -17,18 +17,20 @@ use Rattle.rl_meaning.specs.Compiling.{Compiler}
 use Rattle.rl_meaning.specs.Evaluation.{Position, Statement, Inside, Here, longest_chain, Rec, bad_form, deeper_here, operation_of, of_none, called, going, quoted, function_named, atom_in, identifiers_in, eval, arguments, applied_lambda, progn, clauses, clause, conjunction, disjunction, setq, returning, prog, statements, listed, combined, combined_rest, walked}
 use Rattle.rl_meaning.specs.TwoRunsLinks.{Linked}
 use Rattle.rl_meaning.specs.TwoRunsValues.{Names, Grows, Maybe, end, more, SameValue, same_int, same_id, same_fun, SameTree, same_atom, same_quoted, same_node, same_literal, SameHeld, same_held, SamePointer}
-use Rattle.rl_meaning.specs.TwoRunsStates.{Place, Both, Roomier}
+use Rattle.rl_meaning.specs.TwoRunsStates.{Place, BothMark, Roomier}
 use Rattle.rl_meaning.specs.TwoRunsEnds.{went, returned}
 use Rattle.rl_agrees.proofs.TwoRunsGrowth.{grows_refl, grows_trans, value_grows, values_grow, tree_grows}
 use Rattle.rl_agrees.proofs.TwoRunsWays.{Is, is}
 use Rattle.rl_agrees.proofs.TwoRunsObjects.{nil_same, each_append}
 use Rattle.rl_agrees.proofs.Heads.{lambda_form, call_form, special_form, list_form}
+use Rattle.rl_agrees.proofs.TwoRunsBinding.{level, over}
 use Rattle.rl_agrees.proofs.TwoRunsForms.{list_same, count_same, identifiers_same, fits_same, parameters_same, SameHead, same_form, same_call, same_applied, same_bad, head_same}
 use Rattle.rl_agrees.proofs.TwoRunsAssumed.{Ask, AskGoes, GoesOn, RecGoes, OneRunFacts, TwoRunsFacts}
 use Rattle.rl_agrees.proofs.TwoRunsGoes.{goes_refl, then_goes, choose_goes, deeper_goes, goes_to, restored_context}
-use Rattle.rl_agrees.proofs.TwoRunsEnding.{Alike, Sides, done_here, then_ends, choose_ends, deeper_ends, quiet_ends, shown_whole, fail_ends, fail_goes, restored_ends, mark_sides, binding_ends}
+use Rattle.rl_agrees.proofs.TwoRunsEnding.{Alike, done_here, then_ends, choose_ends, deeper_ends, quiet_ends, fail_ends, fail_goes, restored_ends, mark_sides, binding_ends}
 use Rattle.rl_agrees.proofs.TwoRunsAsked.{by, Respects, CompilerRespects, rec_goes}
 use Rattle.rl_agrees.proofs.TwoRunsEvaluation.{Values, misplaced_ends, pair_ends, called_ends, fexpr_ends, macro_ends, chain_ends, in_prog_ends, define_ends}
+use Rattle.rl_agrees.proofs.TwoRunsCompared.{Comparison, BelowSides, CleanSides, begun_sides}
 
 one_of : {A : Type 0} (n : Names) (a b : A) → a ≡ b → Is n a b
 one_of n a b e = subst (λ x. Is n a x) e (is a)
@@ -44,32 +46,32 @@ none_same n form = same_int _
 abbrev at_here : List Kept → ℕ → Levels → Here
 at_here kept holder levels = record { levels = levels; chain = longest_chain; kept = kept; holder = holder }
 
-module _ (c : Compiler) (cr : CompilerRespects c) (one : OneRunFacts) (two : TwoRunsFacts) (ask ask' : Ask) (ga : AskGoes ask) (gb : AskGoes ask') (respects : Respects c ask ask') where
+module _ {compiler : Compiler} (c : Comparison) (cr : CompilerRespects compiler c) (one : OneRunFacts) (two : TwoRunsFacts) (ask ask' : Ask) (ga : AskGoes ask) (gb : AskGoes ask') (respects : Respects c ask ask') where
   abbrev rec : Rec
-  rec = by c ask
+  rec = by compiler ask
 
   abbrev rec' : Rec
-  rec' = by c ask'
+  rec' = by compiler ask'
 
-  gl : RecGoes (by c ask)
-  gl = rec_goes c cr ask ga
+  gl : RecGoes (by compiler ask)
+  gl = rec_goes compiler c cr ask ga
 
-  gr : RecGoes (by c ask')
-  gr = rec_goes c cr ask' gb
+  gr : RecGoes (by compiler ask')
+  gr = rec_goes compiler c cr ask' gb
 
   -- as many levels on both sides
-  deeper_same : {A : Type 0} {R : Names → A → A → Type 0} (n : Names) (ps : List Place) (i j : ℕ) (l m : Levels) (s t : State) (f g : Levels → Outcome A) → i ≡ j → Roomier l m → Sides c n ps s t → ((l : Levels) → GoesOn s (f l)) → ((l : Levels) → GoesOn t (g l)) → ((l m : Levels) → Roomier l m → Alike R n ps (f l) (g m)) → Alike R n ps (deeper i l s f) (deeper j m t g)
+  deeper_same : {A : Type 0} {R : Names → A → A → Type 0} (n : Names) (ps : List Place) (i j : ℕ) (l m : Levels) (s t : State) (f g : Levels → Outcome A) → i ≡ j → Roomier l m → CleanSides c n ps s t → ((l : Levels) → GoesOn s (f l)) → ((l : Levels) → GoesOn t (g l)) → ((l m : Levels) → Roomier l m → Alike R n ps (f l) (g m)) → Alike R n ps (deeper i l s f) (deeper j m t g)
   deeper_same {R = R} n ps i j l m s t f g e r side x y h = subst (λ z. Alike R n ps (deeper i l s f) (deeper z m t g)) e (deeper_ends c n ps s t f g side x y h i l m r)
 
   bad_goes : (v : Value) (s : State) → GoesOn {A = Value} s (bad_form v s)
   bad_goes v s = fail_goes one Value badly_formed v s
 
-  bad_ends : (n : Names) (ps : List Place) (v w : Value) (l m : Levels) (s t : State) → SameValue n v w → Roomier l m → Sides c n ps s t → Alike {A = Value} SameValue n ps (deeper 1 l s (λ levels. bad_form v s)) (deeper 1 m t (λ levels. bad_form w t))
+  bad_ends : (n : Names) (ps : List Place) (v w : Value) (l m : Levels) (s t : State) → SameValue n v w → Roomier l m → CleanSides c n ps s t → Alike {A = Value} SameValue n ps (deeper 1 l s (λ levels. bad_form v s)) (deeper 1 m t (λ levels. bad_form w t))
   bad_ends n ps v w l m s t h r e = deeper_ends c n ps s t (λ levels. bad_form v s) (λ levels. bad_form w t) e (λ l. bad_goes v s) (λ l. bad_goes w t) (λ l m r. fail_ends c n ps badly_formed v w s t e h) 1 l m r
 
   -- what goes on with values
   record Nexts (k : Names) (ps : List Place) (f g : List Value → State → Outcome Value) : Type 0 where
-    ends : (k' : Names) (vs ws : List Value) (s t : State) → Grows k k' → Values k' vs ws → Sides c k' ps s t → Alike SameValue k' ps (f vs s) (g ws t)
+    ends : (k' : Names) (vs ws : List Value) (s t : State) → Grows k k' → Values k' vs ws → CleanSides c k' ps s t → Alike SameValue k' ps (f vs s) (g ws t)
     left : (vs : List Value) (s : State) → GoesOn s (f vs s)
     right : (vs : List Value) (s : State) → GoesOn s (g vs s)
 
@@ -80,21 +82,21 @@ module _ (c : Compiler) (cr : CompilerRespects c) (one : OneRunFacts) (two : Two
   atom_same n _ _ (same_atom v w r) = r
   atom_same n _ _ h = same_id 0
 
-  going_ends : (n : Names) (x y : Tree) → SameTree n x y → (qs : List Place) (position : Position) (s t : State) → Sides c n qs s t → Alike SameValue n qs (going rec position x s) (going rec' position y t)
+  going_ends : (n : Names) (x y : Tree) → SameTree n x y → (qs : List Place) (position : Position) (s t : State) → CleanSides c n qs s t → Alike SameValue n qs (going rec position x s) (going rec' position y t)
   going_ends n _ _ (same_node _ _ _ _ (same_atom _ _ (same_id l)) h) qs position s t e = misplaced_ends c one n qs position (Id l) (Id l) s t _ _ (same_id l) e (went n l s t (grows_refl n) e.like)
   going_ends n _ _ (same_node _ _ _ _ (same_atom _ _ r) h) qs position s t e = done_here c n qs nil nil s t (same_id 0) e
   going_ends n _ _ h qs position s t e = done_here c n qs nil nil s t (same_id 0) e
 
-  quoted_ends : (n : Names) (x y : Tree) → SameTree n x y → (qs : List Place) (s t : State) → Sides c n qs s t → Alike SameValue n qs (quoted rec x s) (quoted rec' y t)
+  quoted_ends : (n : Names) (x y : Tree) → SameTree n x y → (qs : List Place) (s t : State) → CleanSides c n qs s t → Alike SameValue n qs (quoted rec x s) (quoted rec' y t)
   quoted_ends n _ _ (same_node _ _ _ _ (same_quoted v w r) h) qs s t e = done_here c n qs v w s t r e
   quoted_ends n _ _ h qs s t e = done_here c n qs nil nil s t (same_id 0) e
 
-  named_ends : (n : Names) (x y : Tree) → SameTree n x y → (qs : List Place) (s t : State) → Sides c n qs s t → Alike SameValue n qs (function_named rec x s) (function_named rec' y t)
+  named_ends : (n : Names) (x y : Tree) → SameTree n x y → (qs : List Place) (s t : State) → CleanSides c n qs s t → Alike SameValue n qs (function_named rec x s) (function_named rec' y t)
   named_ends n _ _ (same_node _ _ _ _ (same_atom v w r) h) qs s t e = done_here c n qs v w s t r e
   named_ends n _ _ h qs s t e = done_here c n qs nil nil s t (same_id 0) e
 
-  variable_ends : (n : Names) (ps : List Place) (x : ℕ) (s t : State) → Sides c n ps s t → Alike SameValue n ps (variable x s) (variable x t)
-  variable_ends n ps x s t e = two.variable_ n ps x s t (shown_whole ps t.bindings e.whole) e.like
+  variable_ends : (n : Names) (ps : List Place) (x : ℕ) (s t : State) → CleanSides c n ps s t → Alike SameValue n ps (variable x s) (variable x t)
+  variable_ends n ps x s t e = two.variable_ n ps x s t (c.shown ps e.places) e.like
 
   -- how functions go on, where a level is taken
   call_goes : (rec : Rec) → RecGoes rec → (here : Here) (i : ℕ) (args : Tree) (s : State) (l : Levels) → GoesOn s (arguments rec (record here { levels = l }) [] (λ vs s. called rec i l vs s) args s)
@@ -129,64 +131,64 @@ module _ (c : Compiler) (cr : CompilerRespects c) (one : OneRunFacts) (two : Two
   -- ---- what is to be shown of two trees that were the same when names were n, where they are k
 
   abbrev EvalGood : Names → Tree → Tree → Type 0
-  EvalGood n x y = (k : Names) (qs : List Place) (here : Here) (m : Levels) (o : ℕ) (position : Position) (s t : State) → Linked n.functions here.holder o → Grows n k → Roomier here.levels m → Sides c k qs s t
+  EvalGood n x y = (k : Names) (qs : List Place) (here : Here) (m : Levels) (o : ℕ) (position : Position) (s t : State) → Linked n.functions here.holder o → Grows n k → Roomier here.levels m → CleanSides c k qs s t
       → Alike SameValue k qs (eval rec here position x s) (eval rec' (record here { levels = m; holder = o }) position y t)
 
   abbrev ArgumentsGood : Names → Tree → Tree → Type 0
-  ArgumentsGood n x y = (k : Names) (qs : List Place) (here : Here) (m : Levels) (o : ℕ) (vs ws : List Value) (f h : List Value → State → Outcome Value) (s t : State) → Linked n.functions here.holder o → Grows n k → Roomier here.levels m → Values k vs ws → Nexts k qs f h → Sides c k qs s t
+  ArgumentsGood n x y = (k : Names) (qs : List Place) (here : Here) (m : Levels) (o : ℕ) (vs ws : List Value) (f h : List Value → State → Outcome Value) (s t : State) → Linked n.functions here.holder o → Grows n k → Roomier here.levels m → Values k vs ws → Nexts k qs f h → CleanSides c k qs s t
       → Alike SameValue k qs (arguments rec here vs f x s) (arguments rec' (record here { levels = m; holder = o }) ws h y t)
 
   abbrev PrognGood : Names → Tree → Tree → Type 0
-  PrognGood n x y = (k : Names) (qs : List Place) (here : Here) (m : Levels) (o : ℕ) (position : Position) (v w : Value) (s t : State) → Linked n.functions here.holder o → Grows n k → Roomier here.levels m → SameValue k v w → Sides c k qs s t
+  PrognGood n x y = (k : Names) (qs : List Place) (here : Here) (m : Levels) (o : ℕ) (position : Position) (v w : Value) (s t : State) → Linked n.functions here.holder o → Grows n k → Roomier here.levels m → SameValue k v w → CleanSides c k qs s t
       → Alike SameValue k qs (progn rec here position v x s) (progn rec' (record here { levels = m; holder = o }) position w y t)
 
   abbrev ClausesGood : Names → Tree → Tree → Type 0
-  ClausesGood n x y = (k : Names) (qs : List Place) (here : Here) (m : Levels) (o : ℕ) (position : Position) (s t : State) → Linked n.functions here.holder o → Grows n k → Roomier here.levels m → Sides c k qs s t
+  ClausesGood n x y = (k : Names) (qs : List Place) (here : Here) (m : Levels) (o : ℕ) (position : Position) (s t : State) → Linked n.functions here.holder o → Grows n k → Roomier here.levels m → CleanSides c k qs s t
       → Alike SameValue k qs (clauses rec here position x s) (clauses rec' (record here { levels = m; holder = o }) position y t)
 
   abbrev ClauseGood : Names → Tree → Tree → Type 0
   ClauseGood n x y = (k : Names) (qs : List Place) (here : Here) (m : Levels) (o : ℕ) (position : Position) (f h : State → Outcome Value) (s t : State) → Linked n.functions here.holder o → Grows n k → Roomier here.levels m
-      → ((s : State) → GoesOn s (f s)) → ((s : State) → GoesOn s (h s)) → ((k' : Names) (s t : State) → Grows k k' → Sides c k' qs s t → Alike SameValue k' qs (f s) (h t)) → Sides c k qs s t
+      → ((s : State) → GoesOn s (f s)) → ((s : State) → GoesOn s (h s)) → ((k' : Names) (s t : State) → Grows k k' → CleanSides c k' qs s t → Alike SameValue k' qs (f s) (h t)) → CleanSides c k qs s t
       → Alike SameValue k qs (clause rec here position x f s) (clause rec' (record here { levels = m; holder = o }) position y h t)
 
   abbrev ConjunctionGood : Names → Tree → Tree → Type 0
-  ConjunctionGood n x y = (k : Names) (qs : List Place) (here : Here) (m : Levels) (o : ℕ) (v w : Value) (s t : State) → Linked n.functions here.holder o → Grows n k → Roomier here.levels m → SameValue k v w → Sides c k qs s t
+  ConjunctionGood n x y = (k : Names) (qs : List Place) (here : Here) (m : Levels) (o : ℕ) (v w : Value) (s t : State) → Linked n.functions here.holder o → Grows n k → Roomier here.levels m → SameValue k v w → CleanSides c k qs s t
       → Alike SameValue k qs (conjunction rec here v x s) (conjunction rec' (record here { levels = m; holder = o }) w y t)
 
   abbrev DisjunctionGood : Names → Tree → Tree → Type 0
-  DisjunctionGood n x y = (k : Names) (qs : List Place) (here : Here) (m : Levels) (o : ℕ) (s t : State) → Linked n.functions here.holder o → Grows n k → Roomier here.levels m → Sides c k qs s t
+  DisjunctionGood n x y = (k : Names) (qs : List Place) (here : Here) (m : Levels) (o : ℕ) (s t : State) → Linked n.functions here.holder o → Grows n k → Roomier here.levels m → CleanSides c k qs s t
       → Alike SameValue k qs (disjunction rec here x s) (disjunction rec' (record here { levels = m; holder = o }) y t)
 
   abbrev SetqGood : Names → Tree → Tree → Type 0
-  SetqGood n x y = (k : Names) (qs : List Place) (here : Here) (m : Levels) (o : ℕ) (s t : State) → Linked n.functions here.holder o → Grows n k → Roomier here.levels m → Sides c k qs s t
+  SetqGood n x y = (k : Names) (qs : List Place) (here : Here) (m : Levels) (o : ℕ) (s t : State) → Linked n.functions here.holder o → Grows n k → Roomier here.levels m → CleanSides c k qs s t
       → Alike SameValue k qs (setq rec here x s) (setq rec' (record here { levels = m; holder = o }) y t)
 
   abbrev ReturningGood : Names → Tree → Tree → Type 0
-  ReturningGood n x y = (k : Names) (qs : List Place) (here : Here) (m : Levels) (o : ℕ) (position : Position) (s t : State) → Linked n.functions here.holder o → Grows n k → Roomier here.levels m → Sides c k qs s t
+  ReturningGood n x y = (k : Names) (qs : List Place) (here : Here) (m : Levels) (o : ℕ) (position : Position) (s t : State) → Linked n.functions here.holder o → Grows n k → Roomier here.levels m → CleanSides c k qs s t
       → Alike SameValue k qs (returning rec here position x s) (returning rec' (record here { levels = m; holder = o }) position y t)
 
   abbrev ProgGood : Names → Tree → Tree → Type 0
-  ProgGood n x y = (k : Names) (qs : List Place) (here : Here) (m : Levels) (o : ℕ) (s t : State) → Linked n.functions here.holder o → Grows n k → Roomier here.levels m → Sides c k qs s t
+  ProgGood n x y = (k : Names) (qs : List Place) (here : Here) (m : Levels) (o : ℕ) (s t : State) → Linked n.functions here.holder o → Grows n k → Roomier here.levels m → CleanSides c k qs s t
       → Alike SameValue k qs (prog rec here x s) (prog rec' (record here { levels = m; holder = o }) y t)
 
   abbrev StatementsGood : Names → Tree → Tree → Type 0
-  StatementsGood n x y = (k : Names) (qs : List Place) (here : Here) (m : Levels) (o : ℕ) (whole whole' : Tree) → SameTree n whole whole' → (s t : State) → Linked n.functions here.holder o → Grows n k → Roomier here.levels m → Sides c k qs s t
+  StatementsGood n x y = (k : Names) (qs : List Place) (here : Here) (m : Levels) (o : ℕ) (whole whole' : Tree) → SameTree n whole whole' → (s t : State) → Linked n.functions here.holder o → Grows n k → Roomier here.levels m → CleanSides c k qs s t
       → Alike SameValue k qs (statements rec here whole x s) (statements rec' (record here { levels = m; holder = o }) whole' y t)
 
   abbrev ListedGood : Names → Tree → Tree → Type 0
-  ListedGood n x y = (k : Names) (qs : List Place) (here : Here) (m : Levels) (o : ℕ) (s t : State) → Linked n.functions here.holder o → Grows n k → Roomier here.levels m → Sides c k qs s t
+  ListedGood n x y = (k : Names) (qs : List Place) (here : Here) (m : Levels) (o : ℕ) (s t : State) → Linked n.functions here.holder o → Grows n k → Roomier here.levels m → CleanSides c k qs s t
       → Alike SameValue k qs (listed rec here x s) (listed rec' (record here { levels = m; holder = o }) y t)
 
   abbrev CombinedGood : Names → Tree → Tree → Type 0
-  CombinedGood n x y = (form : Special) (k : Names) (qs : List Place) (here : Here) (m : Levels) (o : ℕ) (s t : State) → Linked n.functions here.holder o → Grows n k → Roomier here.levels m → Sides c k qs s t
+  CombinedGood n x y = (form : Special) (k : Names) (qs : List Place) (here : Here) (m : Levels) (o : ℕ) (s t : State) → Linked n.functions here.holder o → Grows n k → Roomier here.levels m → CleanSides c k qs s t
       → Alike SameValue k qs (combined rec form here x s) (combined rec' form (record here { levels = m; holder = o }) y t)
 
   abbrev CombinedRestGood : Names → Tree → Tree → Type 0
-  CombinedRestGood n x y = (form : Special) (k : Names) (qs : List Place) (here : Here) (m : Levels) (o : ℕ) (v w : Value) (s t : State) → Linked n.functions here.holder o → Grows n k → Roomier here.levels m → SameValue k v w → Sides c k qs s t
+  CombinedRestGood n x y = (form : Special) (k : Names) (qs : List Place) (here : Here) (m : Levels) (o : ℕ) (v w : Value) (s t : State) → Linked n.functions here.holder o → Grows n k → Roomier here.levels m → SameValue k v w → CleanSides c k qs s t
       → Alike SameValue k qs (combined_rest rec form here v x s) (combined_rest rec' form (record here { levels = m; holder = o }) w y t)
 
   abbrev AppliedGood : Names → Tree → Tree → Type 0
-  AppliedGood n x y = (k : Names) (qs : List Place) (here : Here) (m : Levels) (o : ℕ) (xs ys : Option (List ℕ)) (i j : ℕ) (args args' : Tree) (s t : State) → Linked n.functions here.holder o → Grows n k → Roomier here.levels m → Is k xs ys → Is k i j → ArgumentsGood n args args' → Sides c k qs s t
+  AppliedGood n x y = (k : Names) (qs : List Place) (here : Here) (m : Levels) (o : ℕ) (xs ys : Option (List ℕ)) (i j : ℕ) (args args' : Tree) (s t : State) → Linked n.functions here.holder o → Grows n k → Roomier here.levels m → Is k xs ys → Is k i j → ArgumentsGood n args args' → CleanSides c k qs s t
       → Alike SameValue k qs (applied_lambda rec here xs i (λ here next s. arguments rec here [] next args s) x s) (applied_lambda rec' (record here { levels = m; holder = o }) ys j (λ here next s. arguments rec' here [] next args' s) y t)
 
   -- behind the first element, and of the first element
@@ -228,14 +230,14 @@ module _ (c : Compiler) (cr : CompilerRespects c) (one : OneRunFacts) (two : Two
 
   arguments_good : (n : Names) (x y : Tree) → Parts n x y → ArgumentsGood n x y
   arguments_good n _ _ (of_node a d b p i j) k qs here m o vs ws f h s t u g r z next e =
-      then_ends c k qs s t _ _ _ _ e (one.eval_goes rec' gr (record here { levels = m; holder = o }) Inside b t) (λ v s. one.arguments_goes rec gl here (vs ++ v ∷ []) f d s next.left) (λ v s. one.arguments_goes rec' gr (record here { levels = m; holder = o }) (ws ++ v ∷ []) h p s next.right)
+      then_ends c k qs s t _ _ _ _ e (one.eval_goes rec gl here Inside a s) (one.eval_goes rec' gr (record here { levels = m; holder = o }) Inside b t) (λ v s. one.arguments_goes rec gl here (vs ++ v ∷ []) f d s next.left) (λ v s. one.arguments_goes rec' gr (record here { levels = m; holder = o }) (ws ++ v ∷ []) h p s next.right)
       (i.eval_ k qs here m o Inside s t u g r e) (λ k' v w s t x q e.
       j.arguments_ k' qs here m o _ _ f h s t u (grows_trans n k k' g x) r (each_append (SameValue k') vs ws _ _ (values_grow k k' vs ws z x) (more v w [] [] q end)) (nexts_grow k k' qs f h x next) e)
   arguments_good n _ _ i k qs here m o vs ws f h s t u g r z next e = next.ends k vs ws s t (grows_refl k) z e
 
   progn_good : (n : Names) (x y : Tree) → Parts n x y → PrognGood n x y
   progn_good n _ _ (of_node a d b p i j) k qs here m o position v w s t u g r h e =
-      then_ends c k qs s t _ _ _ _ e (one.eval_goes rec' gr (record here { levels = m; holder = o }) position b t) (λ v s. one.progn_goes rec gl here position v d s) (λ v s. one.progn_goes rec' gr (record here { levels = m; holder = o }) position v p s)
+      then_ends c k qs s t _ _ _ _ e (one.eval_goes rec gl here position a s) (one.eval_goes rec' gr (record here { levels = m; holder = o }) position b t) (λ v s. one.progn_goes rec gl here position v d s) (λ v s. one.progn_goes rec' gr (record here { levels = m; holder = o }) position v p s)
       (i.eval_ k qs here m o position s t u g r e) (λ k' v w s t x h e. j.progn_ k' qs here m o position v w s t u (grows_trans n k k' g x) r h e)
   progn_good n _ _ i k qs here m o position v w s t u g r h e = done_here c k qs v w s t h e
 
@@ -247,12 +249,12 @@ module _ (c : Compiler) (cr : CompilerRespects c) (one : OneRunFacts) (two : Two
 
   clause_good : (n : Names) (x y : Tree) → Parts n x y → ClauseGood n x y
   clause_good n _ _ (of_node a d b p i j) k qs here m o position f h s t u g r fx hx next e =
-      then_ends c k qs s t _ _ _ _ e (one.eval_goes rec' gr (record here { levels = m; holder = o }) Inside b t)
+      then_ends c k qs s t _ _ _ _ e (one.eval_goes rec gl here Inside a s) (one.eval_goes rec' gr (record here { levels = m; holder = o }) Inside b t)
       (λ v s. tested_goes v s f (λ s. progn rec here position v d s) fx (λ s. one.progn_goes rec gl here position v d s)) (λ v s. tested_goes v s h (λ s. progn rec' (record here { levels = m; holder = o }) position v p s) hx (λ s. one.progn_goes rec' gr (record here { levels = m; holder = o }) position v p s))
       (i.eval_ k qs here m o Inside s t u g r e)
       (λ k' v w s t x z e. choose_ends c k' qs _ _ s t _ _ _ _ (nil_same k' v w z) (next k' s t x e) (j.progn_ k' qs here m o position v w s t u (grows_trans n k k' g x) r z e))
   clause_good n _ _ (of_literal _ a b j) k qs here m o position f h s t u g r fx hx next e =
-      then_ends c k qs s t _ _ _ _ e (one.variable_goes function_id t)
+      then_ends c k qs s t _ _ _ _ e (one.variable_goes function_id s) (one.variable_goes function_id t)
       (λ v s. tested_goes v s f (λ s. eval rec here position a s) fx (λ s. one.eval_goes rec gl here position a s)) (λ v s. tested_goes v s h (λ s. eval rec' (record here { levels = m; holder = o }) position b s) hx (λ s. one.eval_goes rec' gr (record here { levels = m; holder = o }) position b s))
       (variable_ends k qs function_id s t e)
       (λ k' v w s t x z e. choose_ends c k' qs _ _ s t _ _ _ _ (nil_same k' v w z) (next k' s t x e) (j.eval_ k' qs here m o position s t u (grows_trans n k k' g x) r e))
@@ -260,7 +262,7 @@ module _ (c : Compiler) (cr : CompilerRespects c) (one : OneRunFacts) (two : Two
 
   conjunction_good : (n : Names) (x y : Tree) → Parts n x y → ConjunctionGood n x y
   conjunction_good n _ _ (of_node a d b p i j) k qs here m o v w s t u g r h e =
-      then_ends c k qs s t _ _ _ _ e (one.eval_goes rec' gr (record here { levels = m; holder = o }) Inside b t)
+      then_ends c k qs s t _ _ _ _ e (one.eval_goes rec gl here Inside a s) (one.eval_goes rec' gr (record here { levels = m; holder = o }) Inside b t)
       (λ v s. tested_goes v s (λ s. Done nil s) (λ s. conjunction rec here v d s) (λ s. here_goes s nil) (λ s. one.conjunction_goes rec gl here v d s)) (λ v s. tested_goes v s (λ s. Done nil s) (λ s. conjunction rec' (record here { levels = m; holder = o }) v p s) (λ s. here_goes s nil) (λ s. one.conjunction_goes rec' gr (record here { levels = m; holder = o }) v p s))
       (i.eval_ k qs here m o Inside s t u g r e)
       (λ k' v w s t x z e. choose_ends c k' qs _ _ s t _ _ _ _ (nil_same k' v w z) (done_here c k' qs nil nil s t (same_id 0) e) (j.conjunction_ k' qs here m o v w s t u (grows_trans n k k' g x) r z e))
@@ -268,7 +270,7 @@ module _ (c : Compiler) (cr : CompilerRespects c) (one : OneRunFacts) (two : Two
 
   disjunction_good : (n : Names) (x y : Tree) → Parts n x y → DisjunctionGood n x y
   disjunction_good n _ _ (of_node a d b p i j) k qs here m o s t u g r e =
-      then_ends c k qs s t _ _ _ _ e (one.eval_goes rec' gr (record here { levels = m; holder = o }) Inside b t)
+      then_ends c k qs s t _ _ _ _ e (one.eval_goes rec gl here Inside a s) (one.eval_goes rec' gr (record here { levels = m; holder = o }) Inside b t)
       (λ v s. tested_goes v s (λ s. disjunction rec here d s) (λ s. Done v s) (λ s. one.disjunction_goes rec gl here d s) (λ s. here_goes s v)) (λ v s. tested_goes v s (λ s. disjunction rec' (record here { levels = m; holder = o }) p s) (λ s. Done v s) (λ s. one.disjunction_goes rec' gr (record here { levels = m; holder = o }) p s) (λ s. here_goes s v))
       (i.eval_ k qs here m o Inside s t u g r e)
       (λ k' v w s t x z e. choose_ends c k' qs _ _ s t _ _ _ _ (nil_same k' v w z) (j.disjunction_ k' qs here m o s t u (grows_trans n k k' g x) r e) (done_here c k' qs v w s t z e))
@@ -276,8 +278,8 @@ module _ (c : Compiler) (cr : CompilerRespects c) (one : OneRunFacts) (two : Two
 
   setq_node : (n : Names) (a d b e : Tree) → SameTree n a b → SameTree n d e → First n d e → SetqGood n (Pair a d) (Pair b e)
   setq_node n _ _ _ _ (same_atom _ _ (same_id x)) (same_node a d b p i j) eval_ k qs here m o s t u g r e =
-      then_ends c k qs s t _ _ _ _ e (one.eval_goes rec' gr (record here { levels = m; holder = o }) Inside b t) (λ v s. one.assigned_goes x v s) (λ v s. one.assigned_goes x v s) (eval_ k qs here m o Inside s t u g r e)
-      (λ k' v w s t q z e. two.assigned_ k' qs x v w s t z (shown_whole qs t.bindings e.whole) e.like)
+      then_ends c k qs s t _ _ _ _ e (one.eval_goes rec gl here Inside a s) (one.eval_goes rec' gr (record here { levels = m; holder = o }) Inside b t) (λ v s. one.assigned_goes x v s) (λ v s. one.assigned_goes x v s) (eval_ k qs here m o Inside s t u g r e)
+      (λ k' v w s t q z e. two.assigned_ k' qs x v w s t z (c.shown qs e.places) e.like)
   setq_node n _ _ _ _ (same_atom _ _ (same_id x)) i first k qs here m o s t u g r e = done_here c k qs nil nil s t (same_id 0) e
   setq_node n _ _ _ _ (same_atom _ _ h) i first k qs here m o s t u g r e = done_here c k qs nil nil s t (same_id 0) e
   setq_node n _ _ _ _ h i first k qs here m o s t u g r e = done_here c k qs nil nil s t (same_id 0) e
@@ -289,7 +291,7 @@ module _ (c : Compiler) (cr : CompilerRespects c) (one : OneRunFacts) (two : Two
   returning_good : (n : Names) (x y : Tree) → Parts n x y → ReturningGood n x y
   returning_good n _ _ (of_node a d b p i j) k qs here m o position s t u g r e =
       misplaced_ends c one k qs position (Id return_id) (Id return_id) s t _ _ (same_id return_id) e
-      (then_ends c k qs s t _ _ _ _ e (one.eval_goes rec' gr (record here { levels = m; holder = o }) Inside b t) (λ v s. record { goes = goes_refl s }) (λ v s. record { goes = goes_refl s }) (i.eval_ k qs here m o Inside s t u g r e) (λ k' v w s t x z e. returned k' v w s t (grows_refl k') z e.like))
+      (then_ends c k qs s t _ _ _ _ e (one.eval_goes rec gl here Inside a s) (one.eval_goes rec' gr (record here { levels = m; holder = o }) Inside b t) (λ v s. record { goes = goes_refl s }) (λ v s. record { goes = goes_refl s }) (i.eval_ k qs here m o Inside s t u g r e) (λ k' v w s t x z e. returned k' v w s t (grows_refl k') z e.like))
   returning_good n _ _ i k qs here m o position s t u g r e = done_here c k qs nil nil s t (same_id 0) e
 
   prog_good : (n : Names) (x y : Tree) → Parts n x y → ProgGood n x y
@@ -304,19 +306,19 @@ module _ (c : Compiler) (cr : CompilerRespects c) (one : OneRunFacts) (two : Two
   statement_node n _ d _ p (same_atom _ _ (same_id x)) eval_ rest k qs here m o whole whole' h s t u g r e = rest k qs here m o whole whole' h s t u g r e
   statement_node n _ d _ p (same_atom v w i) eval_ rest k qs here m o whole whole' h s t u g r e =
       in_prog_ends c cr one two ask ask' ga gb respects k qs here m o whole whole' (λ s. statements rec here whole d s) (λ s. statements rec' (record here { levels = m; holder = o }) whole' p s) s t _ _ r (g.functions here.holder o u) (tree_grows n k whole whole' h g) e
-      (one.eval_goes rec' gr (record here { levels = m; holder = o }) Statement (Atom w) t) (λ s. one.statements_goes rec gl here whole d s) (λ s. one.statements_goes rec' gr (record here { levels = m; holder = o }) whole' p s)
+      (one.eval_goes rec gl here Statement (Atom v) s) (one.eval_goes rec' gr (record here { levels = m; holder = o }) Statement (Atom w) t) (λ s. one.statements_goes rec gl here whole d s) (λ s. one.statements_goes rec' gr (record here { levels = m; holder = o }) whole' p s)
       (eval_ k qs here m o Statement s t u g r e) (λ k' s t x e. rest k' qs here m o whole whole' h s t u (grows_trans n k k' g x) r e)
   statement_node n _ d _ p (same_quoted v w i) eval_ rest k qs here m o whole whole' h s t u g r e =
       in_prog_ends c cr one two ask ask' ga gb respects k qs here m o whole whole' (λ s. statements rec here whole d s) (λ s. statements rec' (record here { levels = m; holder = o }) whole' p s) s t _ _ r (g.functions here.holder o u) (tree_grows n k whole whole' h g) e
-      (one.eval_goes rec' gr (record here { levels = m; holder = o }) Statement (Quoted w) t) (λ s. one.statements_goes rec gl here whole d s) (λ s. one.statements_goes rec' gr (record here { levels = m; holder = o }) whole' p s)
+      (one.eval_goes rec gl here Statement (Quoted v) s) (one.eval_goes rec' gr (record here { levels = m; holder = o }) Statement (Quoted w) t) (λ s. one.statements_goes rec gl here whole d s) (λ s. one.statements_goes rec' gr (record here { levels = m; holder = o }) whole' p s)
       (eval_ k qs here m o Statement s t u g r e) (λ k' s t x e. rest k' qs here m o whole whole' h s t u (grows_trans n k k' g x) r e)
   statement_node n _ d _ p (same_node x x' y y' i i') eval_ rest k qs here m o whole whole' h s t u g r e =
       in_prog_ends c cr one two ask ask' ga gb respects k qs here m o whole whole' (λ s. statements rec here whole d s) (λ s. statements rec' (record here { levels = m; holder = o }) whole' p s) s t _ _ r (g.functions here.holder o u) (tree_grows n k whole whole' h g) e
-      (one.eval_goes rec' gr (record here { levels = m; holder = o }) Statement (Pair y y') t) (λ s. one.statements_goes rec gl here whole d s) (λ s. one.statements_goes rec' gr (record here { levels = m; holder = o }) whole' p s)
+      (one.eval_goes rec gl here Statement (Pair x x') s) (one.eval_goes rec' gr (record here { levels = m; holder = o }) Statement (Pair y y') t) (λ s. one.statements_goes rec gl here whole d s) (λ s. one.statements_goes rec' gr (record here { levels = m; holder = o }) whole' p s)
       (eval_ k qs here m o Statement s t u g r e) (λ k' s t x e. rest k' qs here m o whole whole' h s t u (grows_trans n k k' g x) r e)
   statement_node n _ d _ p (same_literal x y y' i) eval_ rest k qs here m o whole whole' h s t u g r e =
       in_prog_ends c cr one two ask ask' ga gb respects k qs here m o whole whole' (λ s. statements rec here whole d s) (λ s. statements rec' (record here { levels = m; holder = o }) whole' p s) s t _ _ r (g.functions here.holder o u) (tree_grows n k whole whole' h g) e
-      (one.eval_goes rec' gr (record here { levels = m; holder = o }) Statement (Literal x y') t) (λ s. one.statements_goes rec gl here whole d s) (λ s. one.statements_goes rec' gr (record here { levels = m; holder = o }) whole' p s)
+      (one.eval_goes rec gl here Statement (Literal x y) s) (one.eval_goes rec' gr (record here { levels = m; holder = o }) Statement (Literal x y') t) (λ s. one.statements_goes rec gl here whole d s) (λ s. one.statements_goes rec' gr (record here { levels = m; holder = o }) whole' p s)
       (eval_ k qs here m o Statement s t u g r e) (λ k' s t x e. rest k' qs here m o whole whole' h s t u (grows_trans n k k' g x) r e)
 
   statements_good : (n : Names) (x y : Tree) → Parts n x y → StatementsGood n x y
@@ -325,20 +327,20 @@ module _ (c : Compiler) (cr : CompilerRespects c) (one : OneRunFacts) (two : Two
 
   listed_good : (n : Names) (x y : Tree) → Parts n x y → ListedGood n x y
   listed_good n _ _ (of_node a d b p i j) k qs here m o s t u g r e =
-      then_ends c k qs s t _ _ _ _ e (one.eval_goes rec' gr (record here { levels = m; holder = o }) Inside b t) (λ v s. listed_pair_goes rec gl here v d s) (λ v s. listed_pair_goes rec' gr (record here { levels = m; holder = o }) v p s) (i.eval_ k qs here m o Inside s t u g r e)
+      then_ends c k qs s t _ _ _ _ e (one.eval_goes rec gl here Inside a s) (one.eval_goes rec' gr (record here { levels = m; holder = o }) Inside b t) (λ v s. listed_pair_goes rec gl here v d s) (λ v s. listed_pair_goes rec' gr (record here { levels = m; holder = o }) v p s) (i.eval_ k qs here m o Inside s t u g r e)
       (λ k' v w s t x z e. deeper_ends c k' qs s t (λ l. then_do (listed rec (record here { levels = l }) d s) (λ list s. made_pair v list s)) (λ l. then_do (listed rec' (record here { levels = l; holder = o }) p t) (λ list s. made_pair w list s)) e
       (λ l. pair_listed_goes rec gl (record here { levels = l }) v d s) (λ l. pair_listed_goes rec' gr (record here { levels = l; holder = o }) w p t)
-      (λ l m r. then_ends c k' qs s t _ _ _ _ e (one.listed_goes rec' gr (record here { levels = m; holder = o }) p t) (λ list s. one.pair_goes v list s) (λ list s. one.pair_goes w list s) (j.listed_ k' qs (record here { levels = l }) m o s t u (grows_trans n k k' g x) r e)
+      (λ l m r. then_ends c k' qs s t _ _ _ _ e (one.listed_goes rec gl (record here { levels = l }) d s) (one.listed_goes rec' gr (record here { levels = m; holder = o }) p t) (λ list s. one.pair_goes v list s) (λ list s. one.pair_goes w list s) (j.listed_ k' qs (record here { levels = l }) m o s t u (grows_trans n k k' g x) r e)
       (λ k'' v' w' s t q h e. pair_ends c one k'' qs v w v' w' s t (value_grows k' k'' v w z q) h e)) 1 here.levels m r)
   listed_good n _ _ i k qs here m o s t u g r e = done_here c k qs nil nil s t (same_id 0) e
 
   combined_good : (n : Names) (x y : Tree) → Parts n x y → CombinedGood n x y
   combined_good n _ _ (of_node a d b p i j) form k qs here m o s t u g r e =
-      then_ends c k qs s t _ _ _ _ e (one.eval_goes rec' gr (record here { levels = m; holder = o }) Inside b t) (λ v s. one.combined_goes rec gl form here v d s) (λ v s. one.combined_goes rec' gr form (record here { levels = m; holder = o }) v p s) (i.eval_ k qs here m o Inside s t u g r e)
+      then_ends c k qs s t _ _ _ _ e (one.eval_goes rec gl here Inside a s) (one.eval_goes rec' gr (record here { levels = m; holder = o }) Inside b t) (λ v s. one.combined_goes rec gl form here v d s) (λ v s. one.combined_goes rec' gr form (record here { levels = m; holder = o }) v p s) (i.eval_ k qs here m o Inside s t u g r e)
       (λ k' v w s t x z e. j.combined_rest_ form k' qs here m o v w s t u (grows_trans n k k' g x) r z e)
   combined_good n _ _ i form k qs here m o s t u g r e = done_here c k qs _ _ s t (none_same k form) e
 
-  operated_ends : (n : Names) (ps : List Place) (o : Operation) (xs ys : List Value) (s t : State) → Values n xs ys → Sides c n ps s t → Alike SameValue n ps (operated o xs s) (operated o ys t)
+  operated_ends : (n : Names) (ps : List Place) (o : Operation) (xs ys : List Value) (s t : State) → Values n xs ys → CleanSides c n ps s t → Alike SameValue n ps (operated o xs s) (operated o ys t)
   operated_ends n ps o xs ys s t h i = quiet_ends n ps s t _ _ i.like (two.operated_quiet o xs s) (two.operated_quiet o ys t) (two.operated_ n ps o xs ys s t h i.like)
 
   rest_goes : (rec : Rec) → RecGoes rec → (form : Special) (v : Value) (inner : Here) (e rest : Tree) (s : State) → GoesOn s (then_do (then_do (eval rec inner Inside e s) (λ w s. combined_rest rec form inner w rest s)) (λ w s. operated (operation_of form) (v ∷ w ∷ []) s))
@@ -349,8 +351,8 @@ module _ (c : Compiler) (cr : CompilerRespects c) (one : OneRunFacts) (two : Two
       deeper_ends c k qs s t _ _ e (λ l. rest_goes rec gl form v (record here { levels = l }) a d s) (λ l. rest_goes rec' gr form w (record here { levels = l; holder = o }) b p t)
       (λ l m r. let inner : Here = record here { levels = l } in let inner' : Here = record here { levels = m; holder = o } in
       then_ends c k qs s t (then_do (eval rec inner Inside a s) (λ w s. combined_rest rec form inner w d s)) (then_do (eval rec' inner' Inside b t) (λ w s. combined_rest rec' form inner' w p s)) (λ w s. operated (operation_of form) (v ∷ w ∷ []) s) (λ z s. operated (operation_of form) (w ∷ z ∷ []) s)
-      e (inner_goes rec' gr form inner' b p t) (λ w s. one.operated_goes (operation_of form) (v ∷ w ∷ []) s) (λ z s. one.operated_goes (operation_of form) (w ∷ z ∷ []) s)
-      (then_ends c k qs s t _ _ _ _ e (one.eval_goes rec' gr inner' Inside b t) (λ w s. one.combined_goes rec gl form inner w d s) (λ w s. one.combined_goes rec' gr form inner' w p s) (i.eval_ k qs inner m o Inside s t u g r e)
+      e (inner_goes rec gl form inner a d s) (inner_goes rec' gr form inner' b p t) (λ w s. one.operated_goes (operation_of form) (v ∷ w ∷ []) s) (λ z s. one.operated_goes (operation_of form) (w ∷ z ∷ []) s)
+      (then_ends c k qs s t _ _ _ _ e (one.eval_goes rec gl inner Inside a s) (one.eval_goes rec' gr inner' Inside b t) (λ w s. one.combined_goes rec gl form inner w d s) (λ w s. one.combined_goes rec' gr form inner' w p s) (i.eval_ k qs inner m o Inside s t u g r e)
       (λ k' v w s t x z e. j.combined_rest_ form k' qs inner m o v w s t u (grows_trans n k k' g x) r z e))
       (λ k' v' w' s t x z e. operated_ends k' qs (operation_of form) _ _ s t (more v w _ _ (value_grows k k' v w h x) (more v' w' [] [] z end)) e)) 1 here.levels m r
   combined_rest_good n _ _ i form k qs here m o v w s t u g r h e = done_here c k qs v w s t h e
@@ -380,18 +382,18 @@ module _ (c : Compiler) (cr : CompilerRespects c) (one : OneRunFacts) (two : Two
   applied_good n _ _ i k qs here m o _ _ _ _ args args' s t u g r (is (Some xs)) (is d) given e = bad_ends k qs (Id lambda_id) (Id lambda_id) here.levels m s t (same_id lambda_id) r e
   applied_good n _ _ i k qs here m o _ _ _ _ args args' s t u g r (is None) (is d) given e = bad_ends k qs (Id lambda_id) (Id lambda_id) here.levels m s t (same_id lambda_id) r e
 
-  call_ends : (n : Names) (head head' args args' : Tree) → SameTree n head head' → AllGood n args args' → (k : Names) (qs : List Place) (here : Here) (m : Levels) (o : ℕ) (position : Position) (s t : State) → Linked n.functions here.holder o → Grows n k → Roomier here.levels m → Sides c k qs s t → (i : ℕ) (kind : Kind)
+  call_ends : (n : Names) (head head' args args' : Tree) → SameTree n head head' → AllGood n args args' → (k : Names) (qs : List Place) (here : Here) (m : Levels) (o : ℕ) (position : Position) (s t : State) → Linked n.functions here.holder o → Grows n k → Roomier here.levels m → CleanSides c k qs s t → (i : ℕ) (kind : Kind)
       → Alike SameValue k qs (call_form rec here position head args s i kind) (call_form rec' (record here { levels = m; holder = o }) position head' args' t i kind)
   call_ends n head head' args args' h j k qs here m o position s t u g r e i Expr = deeper_same k qs _ _ here.levels m s t _ _ (ap (λ z. call_levels z) (count_same n args args' j.same)) r e (λ l. call_goes rec gl here i args s l) (λ l. call_goes rec' gr (record here { holder = o }) i args' t l)
       (λ l m r. j.arguments_ k qs (record here { levels = l }) m o [] [] (λ vs s. called rec i l vs s) (λ vs s. called rec' i m vs s) s t u g r end
-      (record { ends = λ k' vs ws s t w z e. called_ends c cr one two ask ask' ga gb respects k' qs i l m vs ws s t r z e; left = λ vs s. one.called_goes rec gl i l vs s; right = λ vs s. one.called_goes rec' gr i m vs s }) e)
+      (record { ends = λ k' vs ws s t w z e. called_ends c cr one two ask ask' ga gb respects k' qs i l m vs ws s t r z (begun_sides c k' qs s t e); left = λ vs s. one.called_goes rec gl i l vs s; right = λ vs s. one.called_goes rec' gr i m vs s }) e)
   call_ends n head head' args args' h j k qs here m o position s t u g r e i Fexpr = deeper_same k qs _ _ here.levels m s t _ _ (ap (λ z. call_levels z) (count_same n args args' j.same)) r e (λ l. one.fexpr_goes rec gl i (record here { levels = l }) args s) (λ l. one.fexpr_goes rec' gr i (record here { levels = l; holder = o }) args' t)
-      (λ l m r. fexpr_ends c cr one two ask ask' ga gb respects k qs i (record here { levels = l }) m o args args' s t r (tree_grows n k args args' j.same g) e)
+      (λ l m r. fexpr_ends c cr one two ask ask' ga gb respects k qs i (record here { levels = l }) m o args args' s t r (tree_grows n k args args' j.same g) (begun_sides c k qs s t e))
   call_ends n head head' args args' h j k qs here m o position s t u g r e i Macro = chain_ends c cr one two ask ask' ga gb respects k qs here.chain i s t _ _ e (λ d. deeper_same k qs _ _ here.levels m s t _ _ (ap (λ z. call_levels z) (count_same n args args' j.same)) r e
       (λ l. one.macro_goes rec gl i (record here { levels = l; chain = d }) position (Pair head args) s) (λ l. one.macro_goes rec' gr i (record here { levels = l; chain = d; holder = o }) position (Pair head' args') t)
       (λ l m r. macro_ends c cr one two ask ask' ga gb respects k qs i (record here { levels = l; chain = d }) m o position _ _ s t r (tree_grows n k _ _ (same_node head args head' args' h j.same) g) e))
 
-  form_ends_ : (n : Names) (args args' : Tree) → AllGood n args args' → (k : Names) (qs : List Place) (here : Here) (m : Levels) (o : ℕ) (position : Position) (s t : State) → Linked n.functions here.holder o → Grows n k → Roomier here.levels m → Sides c k qs s t → (form : Special)
+  form_ends_ : (n : Names) (args args' : Tree) → AllGood n args args' → (k : Names) (qs : List Place) (here : Here) (m : Levels) (o : ℕ) (position : Position) (s t : State) → Linked n.functions here.holder o → Grows n k → Roomier here.levels m → CleanSides c k qs s t → (form : Special)
       → Alike SameValue k qs (special_form rec here position args s form) (special_form rec' (record here { levels = m; holder = o }) position args' t form)
   form_ends_ n args args' j k qs here m o position s t u g r e Quote = quoted_ends k args args' (tree_grows n k args args' j.same g) qs s t e
   form_ends_ n args args' j k qs here m o position s t u g r e names.Function = named_ends k args args' (tree_grows n k args args' j.same g) qs s t e
@@ -412,7 +414,7 @@ module _ (c : Compiler) (cr : CompilerRespects c) (one : OneRunFacts) (two : Two
   form_ends_ n args args' j k qs here m o position s t u g r e Df = define_ends c cr one two ask ask' ga gb respects Df k args args' (tree_grows n k args args' j.same g) qs here.levels m s t r e
   form_ends_ n args args' j k qs here m o position s t u g r e Dm = define_ends c cr one two ask ask' ga gb respects Dm k args args' (tree_grows n k args args' j.same g) qs here.levels m s t r e
 
-  list_ends : (n : Names) (head head' args args' : Tree) → SameTree n head head' → AllGood n args args' → (k : Names) (qs : List Place) (here : Here) (m : Levels) (o : ℕ) (position : Position) (s t : State) → Linked n.functions here.holder o → Grows n k → Roomier here.levels m → Sides c k qs s t → (x y : Head) → SameHead k x y
+  list_ends : (n : Names) (head head' args args' : Tree) → SameTree n head head' → AllGood n args args' → (k : Names) (qs : List Place) (here : Here) (m : Levels) (o : ℕ) (position : Position) (s t : State) → Linked n.functions here.holder o → Grows n k → Roomier here.levels m → CleanSides c k qs s t → (x y : Head) → SameHead k x y
       → Alike SameValue k qs (list_form rec here position head args s x) (list_form rec' (record here { levels = m; holder = o }) position head' args' t y)
   list_ends n head head' args args' h j k qs here m o position s t u g r e _ _ same_applied = done_here c k qs nil nil s t (same_id 0) e
   list_ends n head head' args args' h j k qs here m o position s t u g r e _ _ (same_bad v w z) = bad_ends k qs v w here.levels m s t z r e
@@ -425,7 +427,7 @@ module _ (c : Compiler) (cr : CompilerRespects c) (one : OneRunFacts) (two : Two
       (λ l m r. choose_ends c k qs (fits form args) (fits form args') s t (λ s. special_form rec (record here { levels = l }) position args s form) (λ s. bad_form (atom_in rec head) s) (λ t. special_form rec' (record here { levels = m; holder = o }) position args' t form) (λ t. bad_form (atom_in rec' head') t) (fits_same n form args args' j.same)
       (form_ends_ n args args' j k qs (record here { levels = l }) m o position s t u g r e form) (fail_ends c k qs badly_formed _ _ s t e (atom_same k head head' (tree_grows n k head head' h g)))) 1 here.levels m r
 
-  lambda_ends_ : (n : Names) (a b lambda lambda' args args' : Tree) → SameTree n lambda lambda' → AppliedGood n lambda lambda' → AllGood n args args' → (k : Names) (qs : List Place) (here : Here) (m : Levels) (o : ℕ) (s t : State) → Linked n.functions here.holder o → Grows n k → Roomier here.levels m → Sides c k qs s t → (x y : Head) → SameHead k x y
+  lambda_ends_ : (n : Names) (a b lambda lambda' args args' : Tree) → SameTree n lambda lambda' → AppliedGood n lambda lambda' → AllGood n args args' → (k : Names) (qs : List Place) (here : Here) (m : Levels) (o : ℕ) (s t : State) → Linked n.functions here.holder o → Grows n k → Roomier here.levels m → CleanSides c k qs s t → (x y : Head) → SameHead k x y
       → Alike SameValue k qs (lambda_form rec here a lambda args s x) (lambda_form rec' (record here { levels = m; holder = o }) b lambda' args' t y)
   lambda_ends_ n a b lambda lambda' args args' h applied_ j k qs here m o s t u g r e _ _ (same_form form) = done_here c k qs nil nil s t (same_id 0) e
   lambda_ends_ n a b lambda lambda' args args' h applied_ j k qs here m o s t u g r e _ _ (same_call kind f) = done_here c k qs nil nil s t (same_id 0) e
@@ -494,16 +496,14 @@ module _ (c : Compiler) (cr : CompilerRespects c) (one : OneRunFacts) (two : Two
   statements_ends n x y h = (good n x y h).statements_
 
   -- a held function is walked
-  pub walked_ends : (n : Names) (ps : List Place) (l m : Levels) (h o : ℕ) (p q : Option Pointer) (a b : Held) (vs ws : List Value) (s t : State) → Roomier l m → Linked n.functions h o → Maybe (SamePointer n) p q → SameHeld n a b → Values n vs ws → Sides c n ps s t → Alike SameValue n ps (walked rec l h p a vs s) (walked rec' m o q b ws t)
+  pub walked_ends : (n : Names) (ps : List Place) (l m : Levels) (h o : ℕ) (p q : Option Pointer) (a b : Held) (vs ws : List Value) (s t : State) → Roomier l m → Linked n.functions h o → Maybe (SamePointer n) p q → SameHeld n a b → Values n vs ws → BelowSides c n ps s t → Alike SameValue n ps (walked rec l h p a vs s) (walked rec' m o q b ws t)
   walked_ends n ps l m h o p q _ _ vs ws s t r x pq (same_held kind parameters kept a b y) vv i =
-      let j : Sides c n (Both ∷ ps) (with_mark p s) (with_mark q t) = mark_sides c n ps p q s t pq i in
-      restored_ends n ps s t (binding l kept parameters vs (with_mark p s) (λ levels s. eval rec (at_here kept h levels) Inside a s)) (binding m kept parameters ws (with_mark q t) (λ levels t. eval rec' (at_here kept o levels) Inside b t)) i.whole i.like
-      ((bound_goes m kept parameters ws (with_mark q t) (λ levels t. eval rec' (at_here kept o levels) Inside b t) (λ l s. one.eval_goes rec' gr (at_here kept o l) Inside b s)).goes.within j.ready.event)
+      let j : CleanSides c n (BothMark ∷ ps) (with_mark p s) (with_mark q t) = mark_sides c n ps p q s t pq i in
+      restored_ends n ps s t (binding l kept parameters vs (with_mark p s) (λ levels s. eval rec (at_here kept h levels) Inside a s)) (binding m kept parameters ws (with_mark q t) (λ levels t. eval rec' (at_here kept o levels) Inside b t)) i.like
       (record {
-        places = Both ∷ ps;
-        whole = j.whole;
-        deep = omega arith;
-        ends = binding_ends c one n (Both ∷ ps) l m kept parameters vs ws (with_mark p s) (with_mark q t) (λ levels s. eval rec (at_here kept h levels) Inside a s) (λ levels t. eval rec' (at_here kept o levels) Inside b t) r vv j
+        places = BothMark ∷ ps;
+        above = over BothMark ps level;
+        ends = binding_ends c one n (BothMark ∷ ps) l m kept parameters vs ws (with_mark p s) (with_mark q t) (λ levels s. eval rec (at_here kept h levels) Inside a s) (λ levels t. eval rec' (at_here kept o levels) Inside b t) r vv j
             (λ l s. one.eval_goes rec gl (at_here kept h l) Inside a s) (λ l s. one.eval_goes rec' gr (at_here kept o l) Inside b s)
             (λ k qs l m s t w r e. eval_ends n a b y k qs (at_here kept h l) m o Inside s t x w r e);
       })

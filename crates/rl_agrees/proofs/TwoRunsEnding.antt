@@ -1,40 +1,34 @@
 -- The ways in which outcomes of two runs side by side are made, where the left one may run code: those that are apart stay so, as each run goes on.
-use Rattle.std.proofs.Common.{◌≡◌, ◌∙◌, ◌≤◌, ◌-◌, ℕ, zero, suc, Bool, true, false, nat_le, is_some, List, [], ◌∷◌, length, drop, Option, Some, None, refl, sym, ap, subst, arith}
+use Rattle.std.proofs.Common.{◌≡◌, ◌∙◌, ◌≤◌, ◌-◌, ℕ, zero, suc, Bool, true, false, nat_le, is_some, List, [], ◌∷◌, length, Option, Some, None, refl, sym, ap, subst, arith}
 use Rattle.std.proofs.lemmas.Bool.Decides.{nat_tests}
 use Rattle.rl_tree.specs.Value.{Value, Id, Str}
 use Rattle.rl_tree.specs.declared.held.VarKind.{VarKind}
 use Rattle.rl_tree.specs.declared.held.VarKind.TheVariants as kind
-use Rattle.rl_meaning.specs.State.{State, Counts, Expansion, Entry, Binding, Mark, Local, Fluid, Kept, Pointer, Outside}
+use Rattle.rl_meaning.specs.State.{State, Counts, Expansion, Binding, Mark, Local, Fluid, Kept, Pointer, Outside, Scope}
 use Rattle.rl_meaning.specs.Outcome.{Outcome, Done, Failed, Went, Returned, Stopped, Stop, Depth, then_do, choose, turn, Levels, entered, deeper, cells_within, run_room, expansion_within, expansion_room, made_pair, run_turn, expansion_turn, turn_of}
 use Rattle.rl_meaning.specs.Opening.{state_of}
 use Rattle.rl_meaning.specs.Symbols.{nil, is_constant}
 use Rattle.rl_meaning.specs.Errors.{fail, error_text, not_bindable}
 use Rattle.rl_meaning.specs.Holding.{kept_kind}
-use Rattle.rl_meaning.specs.Variables.{with_mark, bound_as, bind_all, binding_levels, with_oldest, restored, binding}
+use Rattle.rl_meaning.specs.Variables.{with_binding, with_mark, bound_as, bind_all, binding_levels, restored, binding}
 use Rattle.rl_meaning.specs.Evaluation.{closed, without_expansion}
-use Rattle.rl_meaning.specs.Compiling.{Compiler}
 use Rattle.rl_meaning.specs.TwoRunsValues.{Names, Grows, Maybe, Each, end, more, SameValue, same_id, SamePointer}
-use Rattle.rl_meaning.specs.TwoRunsStates.{Place, Both, Hidden, HiddenMark, SameEntry, same_binding, same_mark, Aligned, bottom, both, hidden, hidden_mark, Shown, SameExpansion, same_none, same_open, SameCounts, Like, Roomier}
+use Rattle.rl_meaning.specs.TwoRunsStates.{Place, Both, BothMark, SameExpansion, same_none, same_open, SameCounts, Like, Roomier}
 use Rattle.rl_meaning.specs.TwoRunsEnds.{Begins, HasShown, IsShort, short_of_levels, Parted, SameSeen, Related, done, failed, went, returned, stopped, parted, Ends}
 use Rattle.rl_meaning.specs.TwoRunsEnds as ends
-use Rattle.rl_agrees.specs.TwoRunsJobs.{EventWithin, Goes, Ready, IsWhole, EndsSomewhere}
+use Rattle.rl_agrees.specs.TwoRunsJobs.{EventWithin, Goes}
 use Rattle.rl_agrees.proofs.TwoRunsGrowth.{grows_refl, grows_trans}
 use Rattle.rl_agrees.proofs.TwoRunsWays.{Beside, Short, right_short, left_short, with_counts_like}
 use Rattle.rl_agrees.proofs.TwoRunsObjects.{fail_related}
+use Rattle.rl_agrees.proofs.TwoRunsBinding.{Above, level, over, bound_like, mark_like, restored_related}
 use Rattle.rl_agrees.proofs.TwoRunsJoined.{shown_refl}
-use Rattle.rl_agrees.proofs.TwoRunsReady.{ready_stays}
 use Rattle.rl_agrees.proofs.TwoRunsAssumed.{GoesOn, OneRunFacts, Quiet}
 use Rattle.rl_agrees.proofs.TwoRunsGoes.{goes_with, goes_to, then_goes, parted_in, then_context, restored_context, closed_context}
+use Rattle.rl_agrees.proofs.TwoRunsCompared.{Comparison, Sides, BelowSides, CleanSides}
 
 -- the ends of two runs of which the left one may run code
 abbrev pub Alike : {A : Type 0} → (Names → A → A → Type 0) → Names → List Place → Outcome A → Outcome A → Type 0
 Alike {A} R n ps o p = Related {A = A} Parted R n ps o p
-
--- the states of two runs as they are beside each other
-pub record Sides (c : Compiler) (n : Names) (ps : List Place) (s t : State) : Type 0 where
-  pub like : Like n ps s t
-  pub whole : IsWhole ps
-  pub ready : Ready c t
 
 pub further_ends : {A : Type 0} {R : Names → A → A → Type 0} (n m : Names) (ps : List Place) (o p : Outcome A) → Grows n m → Alike R m ps o p → Alike R n ps o p
 further_ends n m ps o p g (done k a b s t h r l) = done k a b s t (grows_trans n m k g h) r l
@@ -44,35 +38,27 @@ further_ends n m ps o p g (returned k v w s t h r l) = returned k v w s t (grows
 further_ends n m ps o p g (stopped why s t e) = stopped why s t e
 further_ends n m ps o p g (parted _ _ a) = parted _ _ a
 
-pub done_here : {A : Type 0} {R : Names → A → A → Type 0} (c : Compiler) (n : Names) (ps : List Place) (a b : A) (s t : State) → R n a b → Sides c n ps s t → Alike R n ps (Done a s) (Done b t)
+pub done_here : {A : Type 0} {R : Names → A → A → Type 0} {P : List Place → Type 0} (c : Comparison) (n : Names) (ps : List Place) (a b : A) (s t : State) → R n a b → Sides c P n ps s t → Alike R n ps (Done a s) (Done b t)
 done_here c n ps a b s t r i = done n a b s t (grows_refl n) r i.like
 
-pub stopped_here : {A : Type 0} {R : Names → A → A → Type 0} (c : Compiler) (n : Names) (ps : List Place) (why : Stop) (s t : State) → Sides c n ps s t → Alike {A = A} R n ps (Stopped why s) (Stopped why t)
+pub stopped_here : {A : Type 0} {R : Names → A → A → Type 0} {P : List Place → Type 0} (c : Comparison) (n : Names) (ps : List Place) (why : Stop) (s t : State) → Sides c P n ps s t → Alike {A = A} R n ps (Stopped why s) (Stopped why t)
 stopped_here c n ps why s t i = stopped why s t (record { outside = i.like.outside; turns = i.like.counts.turns })
 
-pub shown_whole : (ps : List Place) (ys : List Entry) → IsWhole ps → Shown ps ys
-shown_whole [] ys w = tt
-shown_whole (Hidden x v ∷ ps) ys w = absurd w
-shown_whole (HiddenMark g ∷ ps) ys w = absurd w
-shown_whole (Both ∷ ps) [] w = tt
-shown_whole (Both ∷ ps) (Binding x scope v ∷ ys) w = shown_whole ps ys w
-shown_whole (Both ∷ ps) (Mark f ∷ ys) w = tt
-
-module _ (c : Compiler) where
-  pub sides_on : (n m : Names) (ps : List Place) (s t u v : State) → Sides c n ps s t → Goes t v → Like m ps u v → Sides c m ps u v
-  sides_on n m ps s t u v i g l = record { like = l; whole = i.whole; ready = ready_stays c t v g i.ready }
+module _ (c : Comparison) where
+  pub sides_on : {P : List Place → Type 0} (n m : Names) (ps : List Place) (s t u v : State) → Sides c P n ps s t → Goes s u → Goes t v → Like m ps u v → Sides c P m ps u v
+  sides_on n m ps s t u v i h g l = record { like = l; places = i.places; ready = c.stay s t u v h g i.ready }
 
   -- ---- and then
 
-  pub then_ends : {A B : Type 0} {R : Names → A → A → Type 0} {S : Names → B → B → Type 0} (n : Names) (ps : List Place) (s t : State) (o p : Outcome A) (f g : A → State → Outcome B)
-      → Sides c n ps s t → GoesOn t p → ((a : A) (s : State) → GoesOn s (f a s)) → ((a : A) (s : State) → GoesOn s (g a s)) → Alike R n ps o p
-      → ((m : Names) (a b : A) (u v : State) → Grows n m → R m a b → Sides c m ps u v → Alike S m ps (f a u) (g b v)) → Alike S n ps (then_do o f) (then_do p g)
-  then_ends n ps s t o p f g i w x y (done m a b u v k r l) h = further_ends n m ps _ _ k (h m a b u v k r (sides_on n m ps s t u v i w.goes l))
-  then_ends n ps s t o p f g i w x y (failed m z a b u v k r l) h = failed m z a b u v k r l
-  then_ends n ps s t o p f g i w x y (went m z u v k l) h = went m z u v k l
-  then_ends n ps s t o p f g i w x y (returned m a b u v k r l) h = returned m a b u v k r l
-  then_ends n ps s t o p f g i w x y (stopped why u v e) h = stopped why u v e
-  then_ends n ps s t o p f g i w x y (parted _ _ a) h = parted _ _ (parted_in (λ o. then_do o f) (λ o. then_do o g) o p (then_context f x) (then_context g y) (w.goes.within i.ready.event) a)
+  pub then_ends : {A B : Type 0} {R : Names → A → A → Type 0} {S : Names → B → B → Type 0} {P : List Place → Type 0} (n : Names) (ps : List Place) (s t : State) (o p : Outcome A) (f g : A → State → Outcome B)
+      → Sides c P n ps s t → GoesOn s o → GoesOn t p → ((a : A) (s : State) → GoesOn s (f a s)) → ((a : A) (s : State) → GoesOn s (g a s)) → Alike R n ps o p
+      → ((m : Names) (a b : A) (u v : State) → Grows n m → R m a b → Sides c P m ps u v → Alike S m ps (f a u) (g b v)) → Alike S n ps (then_do o f) (then_do p g)
+  then_ends n ps s t o p f g i d w x y (done m a b u v k r l) h = further_ends n m ps _ _ k (h m a b u v k r (sides_on n m ps s t u v i d.goes w.goes l))
+  then_ends n ps s t o p f g i d w x y (failed m z a b u v k r l) h = failed m z a b u v k r l
+  then_ends n ps s t o p f g i d w x y (went m z u v k l) h = went m z u v k l
+  then_ends n ps s t o p f g i d w x y (returned m a b u v k r l) h = returned m a b u v k r l
+  then_ends n ps s t o p f g i d w x y (stopped why u v e) h = stopped why u v e
+  then_ends n ps s t o p f g i d w x y (parted _ _ a) h = parted _ _ (parted_in (λ o. then_do o f) (λ o. then_do o g) o p (then_context f x) (then_context g y) (w.goes.within (c.event s t i.ready)) a)
 
   pub closed_ends : {A : Type 0} {R : Names → A → A → Type 0} (n : Names) (ps : List Place) (o p : Outcome A) → ((m : Names) (u v : State) → Like m ps u v → Like m ps (without_expansion u) (without_expansion v)) → EventWithin (state_of p) → Alike R n ps o p → Alike R n ps (closed o) (closed p)
   closed_ends n ps o p h w (done m a b u v k r l) = done m a b _ _ k r (h m u v l)
@@ -91,16 +77,16 @@ module _ (c : Compiler) where
 
   -- ---- turns and levels
 
-  pub counts_sides : (n : Names) (ps : List Place) (s t : State) (a b : Counts) → is_some t.counts.cells ≡ is_some b.cells → SameCounts a b → Sides c n ps s t → Sides c n ps (record s { counts = a }) (record t { counts = b })
-  counts_sides n ps s t a b e h i = record { like = with_counts_like n ps s t a b h i.like; whole = i.whole; ready = ready_stays c t _ (goes_with t b t.bindings e) i.ready }
+  pub counts_sides : {P : List Place → Type 0} (n : Names) (ps : List Place) (s t : State) (a b : Counts) → is_some s.counts.cells ≡ is_some a.cells → is_some t.counts.cells ≡ is_some b.cells → SameCounts a b → Sides c P n ps s t → Sides c P n ps (record s { counts = a }) (record t { counts = b })
+  counts_sides n ps s t a b d e h i = record { like = with_counts_like n ps s t a b h i.like; places = i.places; ready = c.stay s t _ _ (goes_with s a s.bindings d) (goes_with t b t.bindings e) i.ready }
 
   -- E: how outcomes end, where a stop of both, and what is apart, is an end
-  module _ {A : Type 0} (E : Outcome A → Outcome A → Type 0) (n : Names) (ps : List Place) (s t : State) (i : Sides c n ps s t) (stops : (why : Stop) → E (Stopped why s) (Stopped why t)) where
-    pub turn_by : (f g : State → Outcome A) → ((u v : State) → Goes s u → Goes t v → Sides c n ps u v → E (f u) (g v)) → E (turn s f) (turn t g)
+  module _ {A : Type 0} {P : List Place → Type 0} (E : Outcome A → Outcome A → Type 0) (n : Names) (ps : List Place) (s t : State) (i : Sides c P n ps s t) (stops : (why : Stop) → E (Stopped why s) (Stopped why t)) where
+    pub turn_by : (f g : State → Outcome A) → ((u v : State) → Goes s u → Goes t v → Sides c P n ps u v → E (f u) (g v)) → E (turn s f) (turn t g)
     turn_by f g h = at s.counts.expansion t.counts.expansion i.like.counts.expansion
       where
         on : (a b : Counts) → is_some s.counts.cells ≡ is_some a.cells → is_some t.counts.cells ≡ is_some b.cells → SameCounts a b → E (f (record s { counts = a })) (g (record t { counts = b }))
-        on a b x y z = h _ _ (goes_with s a s.bindings x) (goes_with t b t.bindings y) (counts_sides n ps s t a b y z i)
+        on a b x y z = h _ _ (goes_with s a s.bindings x) (goes_with t b t.bindings y) (counts_sides n ps s t a b x y z i)
 
         run_at : (j k : ℕ) → j ≡ k → E (run_turn j s f) (run_turn k t g)
         run_at zero zero e = stops _
@@ -149,11 +135,11 @@ module _ (c : Compiler) where
       deeper_by k None (Some m) r = right_entered (nat_le k m) (m - k)
       deeper_by k (Some l) (Some m) r = let le : m ≤ l = r.is in entered_by (nat_le k l) (nat_le k m) (l - k) (m - k) (test_wider k l m le) (omega (arith, le))
 
-  pub turn_ends : {A : Type 0} {R : Names → A → A → Type 0} (n : Names) (ps : List Place) (s t : State) (f g : State → Outcome A) → Sides c n ps s t
-      → ((u v : State) → Goes s u → Goes t v → Sides c n ps u v → Alike R n ps (f u) (g v)) → Alike R n ps (turn s f) (turn t g)
+  pub turn_ends : {A : Type 0} {R : Names → A → A → Type 0} {P : List Place → Type 0} (n : Names) (ps : List Place) (s t : State) (f g : State → Outcome A) → Sides c P n ps s t
+      → ((u v : State) → Goes s u → Goes t v → Sides c P n ps u v → Alike R n ps (f u) (g v)) → Alike R n ps (turn s f) (turn t g)
   turn_ends {R = R} n ps s t f g i h = turn_by (Alike R n ps) n ps s t i (λ why. stopped_here c n ps why s t i) f g h
 
-  pub deeper_ends : {A : Type 0} {R : Names → A → A → Type 0} (n : Names) (ps : List Place) (s t : State) (f g : Levels → Outcome A) → Sides c n ps s t → ((l : Levels) → GoesOn s (f l)) → ((l : Levels) → GoesOn t (g l)) → ((l m : Levels) → Roomier l m → Alike R n ps (f l) (g m))
+  pub deeper_ends : {A : Type 0} {R : Names → A → A → Type 0} {P : List Place → Type 0} (n : Names) (ps : List Place) (s t : State) (f g : Levels → Outcome A) → Sides c P n ps s t → ((l : Levels) → GoesOn s (f l)) → ((l : Levels) → GoesOn t (g l)) → ((l m : Levels) → Roomier l m → Alike R n ps (f l) (g m))
       → (k : ℕ) (l m : Levels) → Roomier l m → Alike R n ps (deeper k l s f) (deeper k m t g)
   deeper_ends {R = R} n ps s t f g i x y h = deeper_by (Alike R n ps) n ps s t i (λ why. stopped_here c n ps why s t i) (λ o p a. parted o p a) f g x y h
 
@@ -211,7 +197,7 @@ pair_quiet a d s = pair_quiet_from s a d s refl refl
 pub fail_quiet : {A : Type 0} (n : ℕ) (v : Value) (s : State) → Quiet {A = A} s (fail n v s)
 fail_quiet n v s = quiet_then s _ _ (pair_quiet (Str (error_text n)) nil s) (λ a t x y. quiet_then s _ _ (pair_quiet_from s v a t x y) (λ b u x y. record { output = x; notes = y }))
 
-pub fail_ends : {A : Type 0} {R : Names → A → A → Type 0} (c : Compiler) (n : Names) (ps : List Place) (k : ℕ) (v w : Value) (s t : State) → Sides c n ps s t → SameValue n v w → Alike {A = A} R n ps (fail k v s) (fail k w t)
+pub fail_ends : {A : Type 0} {R : Names → A → A → Type 0} {P : List Place → Type 0} (c : Comparison) (n : Names) (ps : List Place) (k : ℕ) (v w : Value) (s t : State) → Sides c P n ps s t → SameValue n v w → Alike {A = A} R n ps (fail k v s) (fail k w t)
 fail_ends {A} c n ps k v w s t i r = quiet_ends n ps s t _ _ i.like (fail_quiet {A = A} k v s) (fail_quiet {A = A} k w t) (fail_related n ps k v w s t i.like r)
 
 module _ (facts : OneRunFacts) where
@@ -220,117 +206,43 @@ module _ (facts : OneRunFacts) where
 
 -- ---- bindings
 
-whole_drop : (k : ℕ) (ps : List Place) → IsWhole ps → IsWhole (drop k ps)
-whole_drop zero ps w = w
-whole_drop (suc k) [] w = tt
-whole_drop (suc k) (Both ∷ ps) w = whole_drop k ps w
-whole_drop (suc k) (Hidden x v ∷ ps) w = absurd w
-whole_drop (suc k) (HiddenMark g ∷ ps) w = absurd w
-
-pub aligned_drop : (n : Names) (ps : List Place) (xs ys : List Entry) (k : ℕ) → IsWhole ps → Aligned n ps xs ys → Aligned n (drop k ps) (drop k xs) (drop k ys)
-aligned_drop n ps xs ys zero w a = a
-aligned_drop n ps xs ys (suc k) w bottom = bottom
-aligned_drop n ps xs ys (suc k) w (both e d qs as' bs r h) = aligned_drop n qs as' bs k w h
-aligned_drop n ps xs ys (suc k) w (hidden x v qs as' bs h) = absurd w
-aligned_drop n ps xs ys (suc k) w (hidden_mark f qs as' bs h) = absurd w
-
-left_length : (n : Names) (ps : List Place) (xs ys : List Entry) → IsWhole ps → Aligned n ps xs ys → length xs ≡ length ps
-left_length n ps xs ys w bottom = refl
-left_length n ps xs ys w (both e d qs as' bs r h) = ap suc (left_length n qs as' bs w h)
-left_length n ps xs ys w (hidden x v qs as' bs h) = absurd w
-left_length n ps xs ys w (hidden_mark f qs as' bs h) = absurd w
-
-right_length : (n : Names) (ps : List Place) (xs ys : List Entry) → IsWhole ps → Aligned n ps xs ys → length ys ≡ length ps
-right_length n ps xs ys w bottom = refl
-right_length n ps xs ys w (both e d qs as' bs r h) = ap suc (right_length n qs as' bs w h)
-right_length n ps xs ys w (hidden x v qs as' bs h) = absurd w
-right_length n ps xs ys w (hidden_mark f qs as' bs h) = absurd w
-
-whole_same : (ps qs : List Place) → IsWhole ps → IsWhole qs → length ps ≡ length qs → ps ≡ qs
-whole_same [] [] w v e = refl
-whole_same (Both ∷ ps) (Both ∷ qs) w v e = ap (λ rs. Both ∷ rs) (whole_same ps qs w v (omega (arith, e)))
-whole_same (Hidden x u ∷ ps) qs w v e = absurd w
-whole_same (HiddenMark g ∷ ps) qs w v e = absurd w
-whole_same (Both ∷ ps) (Hidden x u ∷ qs) w v e = absurd v
-whole_same (Both ∷ ps) (HiddenMark g ∷ qs) w v e = absurd v
-whole_same [] (q ∷ qs) w v e = absurd (omega (arith, e))
-whole_same (p ∷ ps) [] w v e = absurd (omega (arith, e))
-
-length_dropped : (k : ℕ) (ps : List Place) → length (drop k ps) ≡ length ps - k
-length_dropped zero ps = omega arith
-length_dropped (suc k) [] = omega arith
-length_dropped (suc k) (p ∷ ps) = omega (arith, length_dropped k ps)
-
-pub bindings_like : (n : Names) (ps qs : List Place) (s t : State) (xs ys : List Entry) → Like n ps s t → Aligned n qs xs ys → Like n qs (record s { bindings = xs }) (record t { bindings = ys })
-bindings_like n ps qs s t xs ys l a = record { store = l.store; functions = l.functions; symbols = l.symbols; bindings = a; counts = l.counts; outside = l.outside; gensyms = l.gensyms; compilation = l.compilation }
-
--- the oldest entries of both
-abbrev pub oldest_places : ℕ → List Place → List Place
-oldest_places i qs = drop (length qs - i) qs
-
-pub oldest_like : (n : Names) (qs : List Place) (i : ℕ) (s t : State) → IsWhole qs → Like n qs s t → Like n (oldest_places i qs) (with_oldest i s) (with_oldest i t)
-oldest_like n qs i s t w l =
-    let x : length s.bindings ≡ length qs = left_length n qs _ _ w l.bindings in
-    let y : length t.bindings ≡ length qs = right_length n qs _ _ w l.bindings in
-    bindings_like n qs (oldest_places i qs) s t _ _ l
-    (subst (λ a. Aligned n (oldest_places i qs) (drop (a - i) s.bindings) (drop (length t.bindings - i) t.bindings)) (sym x)
-    (subst (λ b. Aligned n (oldest_places i qs) (drop (length qs - i) s.bindings) (drop (b - i) t.bindings)) (sym y)
-    (aligned_drop n qs _ _ (length qs - i) w l.bindings)))
-
-pub oldest_whole : (i : ℕ) (qs : List Place) → IsWhole qs → IsWhole (oldest_places i qs)
-oldest_whole i qs w = whole_drop (length qs - i) qs w
-
-oldest_are : (ps qs : List Place) → IsWhole ps → IsWhole qs → length ps ≤ length qs → oldest_places (length ps) qs ≡ ps
-oldest_are ps qs w v le = whole_same _ ps (whole_drop _ qs v) w (let x : length (drop (length qs - length ps) qs) ≡ length qs - (length qs - length ps) = length_dropped (length qs - length ps) qs in omega (arith, x, le))
-
--- outcomes in which more bindings may be there than so many
-pub record EndsIn {A : Type 0} (k : ℕ) (R : Names → A → A → Type 0) (n : Names) (o p : Outcome A) : Type 0 where
+-- outcomes behind more entries than those of these places
+pub record EndsIn {A : Type 0} (base : List Place) (R : Names → A → A → Type 0) (n : Names) (o p : Outcome A) : Type 0 where
   pub places : List Place
-  pub whole : IsWhole places
-  pub deep : k ≤ length places
+  pub above : Above base places
   pub ends : Alike R n places o p
 
-pub further_in : {A : Type 0} {R : Names → A → A → Type 0} (k : ℕ) (n m : Names) (o p : Outcome A) → Grows n m → EndsIn k R m o p → EndsIn k R n o p
-further_in k n m o p g e = record { places = e.places; whole = e.whole; deep = e.deep; ends = further_ends n m e.places o p g e.ends }
-
-restored_at : {A : Type 0} {R : Names → A → A → Type 0} (n : Names) (qs : List Place) (i : ℕ) (o p : Outcome A) → IsWhole qs → EventWithin (state_of p) → Alike R n qs o p → Alike R n (oldest_places i qs) (restored i o) (restored i p)
-restored_at n qs i o p w x (done m a b u v k r l) = done m a b _ _ k r (oldest_like m qs i u v w l)
-restored_at n qs i o p w x (failed m z a b u v k r l) = failed m z a b _ _ k r (oldest_like m qs i u v w l)
-restored_at n qs i o p w x (went m z u v k l) = went m z _ _ k (oldest_like m qs i u v w l)
-restored_at n qs i o p w x (returned m a b u v k r l) = returned m a b _ _ k r (oldest_like m qs i u v w l)
-restored_at n qs i o p w x (stopped why u v e) = stopped why u v e
-restored_at n qs i o p w x (parted _ _ a) = parted _ _ (parted_in (λ o. restored i o) (λ o. restored i o) o p (restored_context i) (restored_context i) x a)
-
-pub somewhere_restored : (n : Names) (i : ℕ) (o p : Outcome Value) → EventWithin (state_of p) → EndsIn 0 SameValue n o p → EndsSomewhere n (restored i o) (restored i p)
-somewhere_restored n i o p x e = record { places = oldest_places i e.places; whole = whole_drop _ e.places e.whole; ends = restored_at n e.places i o p e.whole x e.ends }
+pub further_in : {A : Type 0} {R : Names → A → A → Type 0} (base : List Place) (n m : Names) (o p : Outcome A) → Grows n m → EndsIn base R m o p → EndsIn base R n o p
+further_in base n m o p g e = record { places = e.places; above = e.above; ends = further_ends n m e.places o p g e.ends }
 
 -- former bindings are back
-pub restored_ends : {A : Type 0} {R : Names → A → A → Type 0} (n : Names) (ps : List Place) (s t : State) (o p : Outcome A) → IsWhole ps → Like n ps s t → EventWithin (state_of p) → EndsIn (length ps) R n o p → Alike R n ps (restored (length s.bindings) o) (restored (length t.bindings) p)
-restored_ends {R = R} n ps s t o p w l x e =
-    subst (λ i. Alike R n ps (restored i o) (restored (length t.bindings) p)) (sym (left_length n ps _ _ w l.bindings))
-    (subst (λ i. Alike R n ps (restored (length ps) o) (restored i p)) (sym (right_length n ps _ _ w l.bindings))
-    (subst (λ qs. Alike R n qs (restored (length ps) o) (restored (length ps) p)) (oldest_are ps e.places w e.whole e.deep) (restored_at n e.places (length ps) o p e.whole x e.ends)))
+pub restored_ends : {A : Type 0} {R : Names → A → A → Type 0} (n : Names) (ps : List Place) (s t : State) (o p : Outcome A) → Like n ps s t → EndsIn ps R n o p → Alike R n ps (restored (length s.bindings) o) (restored (length t.bindings) p)
+restored_ends n ps s t o p l e = restored_related n ps s t l n e.places o p e.above e.ends
 
-module _ (c : Compiler) where
-  entry_sides : (n : Names) (ps : List Place) (s t : State) (e d : Entry) → SameEntry n e d → Sides c n ps s t → Sides c n (Both ∷ ps) (record s { bindings = e ∷ s.bindings }) (record t { bindings = d ∷ t.bindings })
-  entry_sides n ps s t e d r i = record {
-    like = bindings_like n ps (Both ∷ ps) s t _ _ i.like (both e d ps _ _ r i.like.bindings);
-    whole = i.whole;
-    ready = ready_stays c t _ (goes_with t t.counts (d ∷ t.bindings) refl) i.ready;
+module _ (c : Comparison) where
+  bound_sides : (n : Names) (ps : List Place) (x : ℕ) (scope : Scope) (v w : Value) (s t : State) → SameValue n v w → CleanSides c n ps s t → CleanSides c n (Both ∷ ps) (with_binding x scope v s) (with_binding x scope w t)
+  bound_sides n ps x scope v w s t r i = record {
+    like = bound_like n ps x scope v w s t r i.like;
+    places = c.bound ps i.places;
+    ready = c.stay s t _ _ (goes_with s s.counts (Binding x scope v ∷ s.bindings) refl) (goes_with t t.counts (Binding x scope w ∷ t.bindings) refl) i.ready;
   }
 
-  pub mark_sides : (n : Names) (ps : List Place) (f g : Option Pointer) (s t : State) → Maybe (SamePointer n) f g → Sides c n ps s t → Sides c n (Both ∷ ps) (with_mark f s) (with_mark g t)
-  mark_sides n ps f g s t r i = entry_sides n ps s t (Mark f) (Mark g) (same_mark f g r) i
+  pub mark_sides : (n : Names) (ps : List Place) (f g : Option Pointer) (s t : State) → Maybe (SamePointer n) f g → BelowSides c n ps s t → CleanSides c n (BothMark ∷ ps) (with_mark f s) (with_mark g t)
+  mark_sides n ps f g s t r i = record {
+    like = mark_like n ps f g s t r i.like;
+    places = c.marked ps i.places;
+    ready = c.stay s t _ _ (goes_with s s.counts (Mark f ∷ s.bindings) refl) (goes_with t t.counts (Mark g ∷ t.bindings) refl) i.ready;
+  }
 
-  pub then_in : {A B : Type 0} {R : Names → A → A → Type 0} {S : Names → B → B → Type 0} (k : ℕ) (n : Names) (ps : List Place) (s t : State) (o p : Outcome A) (f g : A → State → Outcome B)
-      → Sides c n ps s t → k ≤ length ps → GoesOn t p → ((a : A) (s : State) → GoesOn s (f a s)) → ((a : A) (s : State) → GoesOn s (g a s)) → Alike R n ps o p
-      → ((m : Names) (a b : A) (u v : State) → Grows n m → R m a b → Sides c m ps u v → EndsIn k S m (f a u) (g b v)) → EndsIn k S n (then_do o f) (then_do p g)
-  then_in k n ps s t o p f g i le w x y (done m a b u v j r l) h = further_in k n m _ _ j (h m a b u v j r (sides_on c n m ps s t u v i w.goes l))
-  then_in k n ps s t o p f g i le w x y (failed m z a b u v j r l) h = record { places = ps; whole = i.whole; deep = le; ends = failed m z a b u v j r l }
-  then_in k n ps s t o p f g i le w x y (went m z u v j l) h = record { places = ps; whole = i.whole; deep = le; ends = went m z u v j l }
-  then_in k n ps s t o p f g i le w x y (returned m a b u v j r l) h = record { places = ps; whole = i.whole; deep = le; ends = returned m a b u v j r l }
-  then_in k n ps s t o p f g i le w x y (stopped why u v e) h = record { places = ps; whole = i.whole; deep = le; ends = stopped why u v e }
-  then_in k n ps s t o p f g i le w x y (parted _ _ a) h = record { places = ps; whole = i.whole; deep = le; ends = parted _ _ (parted_in (λ o. then_do o f) (λ o. then_do o g) o p (then_context f x) (then_context g y) (w.goes.within i.ready.event) a) }
+  pub then_in : {A B : Type 0} {R : Names → A → A → Type 0} {S : Names → B → B → Type 0} (base : List Place) (n : Names) (ps : List Place) (s t : State) (o p : Outcome A) (f g : A → State → Outcome B)
+      → CleanSides c n ps s t → Above base ps → GoesOn s o → GoesOn t p → ((a : A) (s : State) → GoesOn s (f a s)) → ((a : A) (s : State) → GoesOn s (g a s)) → Alike R n ps o p
+      → ((m : Names) (a b : A) (u v : State) → Grows n m → R m a b → CleanSides c m ps u v → EndsIn base S m (f a u) (g b v)) → EndsIn base S n (then_do o f) (then_do p g)
+  then_in base n ps s t o p f g i le d w x y (done m a b u v j r l) h = further_in base n m _ _ j (h m a b u v j r (sides_on c n m ps s t u v i d.goes w.goes l))
+  then_in base n ps s t o p f g i le d w x y (failed m z a b u v j r l) h = record { places = ps; above = le; ends = failed m z a b u v j r l }
+  then_in base n ps s t o p f g i le d w x y (went m z u v j l) h = record { places = ps; above = le; ends = went m z u v j l }
+  then_in base n ps s t o p f g i le d w x y (returned m a b u v j r l) h = record { places = ps; above = le; ends = returned m a b u v j r l }
+  then_in base n ps s t o p f g i le d w x y (stopped why u v e) h = record { places = ps; above = le; ends = stopped why u v e }
+  then_in base n ps s t o p f g i le d w x y (parted _ _ a) h = record { places = ps; above = le; ends = parted _ _ (parted_in (λ o. then_do o f) (λ o. then_do o g) o p (then_context f x) (then_context g y) (w.goes.within (c.event s t i.ready)) a) }
 
   module _ (facts : OneRunFacts) where
     then_assoc : {A B D : Type 0} (o : Outcome A) (f : A → State → Outcome B) (g : B → State → Outcome D) → then_do o (λ a s. then_do (f a s) g) ≡ then_do (then_do o f) g
@@ -342,49 +254,49 @@ module _ (c : Compiler) where
 
     data Never {A : Type 0} (n : Names) (a b : A) : Type 0 where
 
-    fail_then : {A B : Type 0} {S : Names → B → B → Type 0} (k : ℕ) (n : Names) (ps : List Place) (e : ℕ) (v w : Value) (s t : State) (f g : A → State → Outcome B) → Sides c n ps s t → k ≤ length ps → SameValue n v w
-        → ((a : A) (s : State) → GoesOn s (f a s)) → ((a : A) (s : State) → GoesOn s (g a s)) → EndsIn k S n (then_do (fail e v s) f) (then_do (fail e w t) g)
-    fail_then {A} k n ps e v w s t f g i le r x y = then_in k n ps s t (fail e v s) (fail e w t) f g i le (fail_goes facts A e w t) x y (fail_ends {A = A} {R = Never} c n ps e v w s t i r) (λ m a b u v j r h. elim r [ ])
+    fail_then : {A B : Type 0} {S : Names → B → B → Type 0} (base : List Place) (n : Names) (ps : List Place) (e : ℕ) (v w : Value) (s t : State) (f g : A → State → Outcome B) → CleanSides c n ps s t → Above base ps → SameValue n v w
+        → ((a : A) (s : State) → GoesOn s (f a s)) → ((a : A) (s : State) → GoesOn s (g a s)) → EndsIn base S n (then_do (fail e v s) f) (then_do (fail e w t) g)
+    fail_then {A} base n ps e v w s t f g i le r x y = then_in base n ps s t (fail e v s) (fail e w t) f g i le (fail_goes facts A e v s) (fail_goes facts A e w t) x y (fail_ends {A = A} {R = Never} c n ps e v w s t i r) (λ m a b u v j r h. elim r [ ])
 
-    module _ {A : Type 0} {R : Names → A → A → Type 0} (k : ℕ) (kept : List Kept) (f g : State → Outcome A) (x : (s : State) → GoesOn s (f s)) (y : (s : State) → GoesOn s (g s)) where
-      fail_twice : (n : Names) (ps : List Place) (i : ℕ) (xs : List ℕ) (vs ws : List Value) (s t : State) → k ≤ length ps → Sides c n ps s t
-          → EndsIn k R n (then_do (then_do (fail not_bindable (Id i) s) (λ (done : Unit {0}) s. bind_all kept xs vs s)) (λ done s. f s)) (then_do (then_do (fail not_bindable (Id i) t) (λ (done : Unit {0}) t. bind_all kept xs ws t)) (λ done t. g t))
+    module _ {A : Type 0} {R : Names → A → A → Type 0} (base : List Place) (kept : List Kept) (f g : State → Outcome A) (x : (s : State) → GoesOn s (f s)) (y : (s : State) → GoesOn s (g s)) where
+      fail_twice : (n : Names) (ps : List Place) (i : ℕ) (xs : List ℕ) (vs ws : List Value) (s t : State) → Above base ps → CleanSides c n ps s t
+          → EndsIn base R n (then_do (then_do (fail not_bindable (Id i) s) (λ (done : Unit {0}) s. bind_all kept xs vs s)) (λ done s. f s)) (then_do (then_do (fail not_bindable (Id i) t) (λ (done : Unit {0}) t. bind_all kept xs ws t)) (λ done t. g t))
       fail_twice n ps i xs vs ws s t le side =
           let o : Outcome (Unit {0}) = fail not_bindable (Id i) s in
           let p : Outcome (Unit {0}) = fail not_bindable (Id i) t in
-          subst (λ z. EndsIn k R n z (then_do (then_do p (λ done t. bind_all kept xs ws t)) (λ done t. g t))) (then_assoc o (λ done s. bind_all kept xs vs s) (λ done s. f s))
-          (subst (λ z. EndsIn k R n (then_do o (λ done s. then_do (bind_all kept xs vs s) (λ done s. f s))) z) (then_assoc p (λ done s. bind_all kept xs ws s) (λ done s. g s))
-          (fail_then k n ps not_bindable (Id i) (Id i) s t (λ done s. then_do (bind_all kept xs vs s) (λ done s. f s)) (λ done t. then_do (bind_all kept xs ws t) (λ done t. g t)) side le (same_id i)
+          subst (λ z. EndsIn base R n z (then_do (then_do p (λ done t. bind_all kept xs ws t)) (λ done t. g t))) (then_assoc o (λ done s. bind_all kept xs vs s) (λ done s. f s))
+          (subst (λ z. EndsIn base R n (then_do o (λ done s. then_do (bind_all kept xs vs s) (λ done s. f s))) z) (then_assoc p (λ done s. bind_all kept xs ws s) (λ done s. g s))
+          (fail_then base n ps not_bindable (Id i) (Id i) s t (λ done s. then_do (bind_all kept xs vs s) (λ done s. f s)) (λ done t. then_do (bind_all kept xs ws t) (λ done t. g t)) side le (same_id i)
           (λ done s. then_goes s _ _ (facts.bind_all_goes kept xs vs s) (λ done s. x s)) (λ done s. then_goes s _ _ (facts.bind_all_goes kept xs ws s) (λ done s. y s))))
 
-      bound_ends : (n : Names) (ps : List Place) (kind' : VarKind) (i : ℕ) (xs : List ℕ) (v w : Value) (vs ws : List Value) (s t : State) → SameValue n v w → k ≤ length ps → Sides c n ps s t
-          → ((ps : List Place) (s t : State) → k ≤ length ps → Sides c n ps s t → EndsIn k R n (then_do (bind_all kept xs vs s) (λ done s. f s)) (then_do (bind_all kept xs ws t) (λ done t. g t)))
-          → EndsIn k R n (then_do (then_do (bound_as kind' i v s) (λ done s. bind_all kept xs vs s)) (λ done s. f s)) (then_do (then_do (bound_as kind' i w t) (λ done t. bind_all kept xs ws t)) (λ done t. g t))
-      bound_ends n ps kind.Plain i xs v w vs ws s t r le side next = next (Both ∷ ps) _ _ (omega (arith, le)) (entry_sides n ps s t _ _ (same_binding i Local v w r) side)
-      bound_ends n ps kind.Fluid i xs v w vs ws s t r le side next = next (Both ∷ ps) _ _ (omega (arith, le)) (entry_sides n ps s t _ _ (same_binding i Fluid v w r) side)
+      bound_ends : (n : Names) (ps : List Place) (kind' : VarKind) (i : ℕ) (xs : List ℕ) (v w : Value) (vs ws : List Value) (s t : State) → SameValue n v w → Above base ps → CleanSides c n ps s t
+          → ((ps : List Place) (s t : State) → Above base ps → CleanSides c n ps s t → EndsIn base R n (then_do (bind_all kept xs vs s) (λ done s. f s)) (then_do (bind_all kept xs ws t) (λ done t. g t)))
+          → EndsIn base R n (then_do (then_do (bound_as kind' i v s) (λ done s. bind_all kept xs vs s)) (λ done s. f s)) (then_do (then_do (bound_as kind' i w t) (λ done t. bind_all kept xs ws t)) (λ done t. g t))
+      bound_ends n ps kind.Plain i xs v w vs ws s t r le side next = next (Both ∷ ps) _ _ (over Both ps le) (bound_sides n ps i Local v w s t r side)
+      bound_ends n ps kind.Fluid i xs v w vs ws s t r le side next = next (Both ∷ ps) _ _ (over Both ps le) (bound_sides n ps i Fluid v w s t r side)
       bound_ends n ps kind.Global i xs v w vs ws s t r le side next = fail_twice n ps i xs vs ws s t le side
 
-      one_bound : (n : Names) (ps : List Place) (b : Bool) (i : ℕ) (xs : List ℕ) (v w : Value) (vs ws : List Value) (s t : State) → SameValue n v w → k ≤ length ps → Sides c n ps s t
-          → ((ps : List Place) (s t : State) → k ≤ length ps → Sides c n ps s t → EndsIn k R n (then_do (bind_all kept xs vs s) (λ done s. f s)) (then_do (bind_all kept xs ws t) (λ done t. g t)))
-          → EndsIn k R n (then_do (then_do (choose b s (λ s. fail not_bindable (Id i) s) (λ s. bound_as (kept_kind kept i) i v s)) (λ done s. bind_all kept xs vs s)) (λ done s. f s))
+      one_bound : (n : Names) (ps : List Place) (b : Bool) (i : ℕ) (xs : List ℕ) (v w : Value) (vs ws : List Value) (s t : State) → SameValue n v w → Above base ps → CleanSides c n ps s t
+          → ((ps : List Place) (s t : State) → Above base ps → CleanSides c n ps s t → EndsIn base R n (then_do (bind_all kept xs vs s) (λ done s. f s)) (then_do (bind_all kept xs ws t) (λ done t. g t)))
+          → EndsIn base R n (then_do (then_do (choose b s (λ s. fail not_bindable (Id i) s) (λ s. bound_as (kept_kind kept i) i v s)) (λ done s. bind_all kept xs vs s)) (λ done s. f s))
           (then_do (then_do (choose b t (λ t. fail not_bindable (Id i) t) (λ t. bound_as (kept_kind kept i) i w t)) (λ done t. bind_all kept xs ws t)) (λ done t. g t))
       one_bound n ps true i xs v w vs ws s t r le side next = fail_twice n ps i xs vs ws s t le side
       one_bound n ps false i xs v w vs ws s t r le side next = bound_ends n ps (kept_kind kept i) i xs v w vs ws s t r le side next
 
-      pub bind_ends : (xs : List ℕ) (n : Names) (ps : List Place) (vs ws : List Value) (s t : State) → Each (SameValue n) vs ws → ((m : Names) (ps : List Place) (s t : State) → Grows n m → k ≤ length ps → Sides c m ps s t → EndsIn k R m (f s) (g t)) → k ≤ length ps → Sides c n ps s t → EndsIn k R n (then_do (bind_all kept xs vs s) (λ done s. f s)) (then_do (bind_all kept xs ws t) (λ done t. g t))
+      pub bind_ends : (xs : List ℕ) (n : Names) (ps : List Place) (vs ws : List Value) (s t : State) → Each (SameValue n) vs ws → ((m : Names) (ps : List Place) (s t : State) → Grows n m → Above base ps → CleanSides c m ps s t → EndsIn base R m (f s) (g t)) → Above base ps → CleanSides c n ps s t → EndsIn base R n (then_do (bind_all kept xs vs s) (λ done s. f s)) (then_do (bind_all kept xs ws t) (λ done t. g t))
       bind_ends [] n ps vs ws s t r next le side = next n ps s t (grows_refl n) le side
       bind_ends (i ∷ xs) n ps vs ws s t (more v w as' bs h r) next le side = one_bound n ps (is_constant i) i xs v w as' bs s t h le side (λ ps s t le side. bind_ends xs n ps as' bs s t r next le side)
       bind_ends (i ∷ xs) n ps vs ws s t end next le side = one_bound n ps (is_constant i) i xs nil nil [] [] s t (same_id 0) le side (λ ps s t le side. bind_ends xs n ps [] [] s t end next le side)
 
     -- variables are bound on both sides, and former bindings come back
-    pub binding_ends : {A : Type 0} {R : Names → A → A → Type 0} (n : Names) (ps : List Place) (l m : Levels) (kept : List Kept) (xs : List ℕ) (vs ws : List Value) (s t : State) (f g : Levels → State → Outcome A) → Roomier l m → Each (SameValue n) vs ws → Sides c n ps s t
+    pub binding_ends : {A : Type 0} {R : Names → A → A → Type 0} (n : Names) (ps : List Place) (l m : Levels) (kept : List Kept) (xs : List ℕ) (vs ws : List Value) (s t : State) (f g : Levels → State → Outcome A) → Roomier l m → Each (SameValue n) vs ws → CleanSides c n ps s t
         → ((l : Levels) (s : State) → GoesOn s (f l s)) → ((l : Levels) (s : State) → GoesOn s (g l s))
-        → ((k : Names) (qs : List Place) (l m : Levels) (s t : State) → Grows n k → Roomier l m → Sides c k qs s t → Alike R k qs (f l s) (g m t))
+        → ((k : Names) (qs : List Place) (l m : Levels) (s t : State) → Grows n k → Roomier l m → CleanSides c k qs s t → Alike R k qs (f l s) (g m t))
         → Alike R n ps (binding l kept xs vs s f) (binding m kept xs ws t g)
     binding_ends {A} {R} n ps l m kept xs vs ws s t f g r h i x y next =
-        deeper_ends c n ps s t _ _ i (λ l. left l) (λ l. right l) (λ l m r. restored_ends n ps s t _ _ i.whole i.like ((inside m).goes.within i.ready.event)
-        (bind_ends (length ps) kept (f l) (g m) (λ s. x l s) (λ s. y m s) xs n ps vs ws s t h
-        (λ k qs s t w le j. record { places = qs; whole = j.whole; deep = le; ends = next k qs l m s t w r j }) (omega arith) i)) (binding_levels (length xs)) l m r
+        deeper_ends c n ps s t _ _ i (λ l. left l) (λ l. right l) (λ l m r. restored_ends n ps s t _ _ i.like
+        (bind_ends ps kept (f l) (g m) (λ s. x l s) (λ s. y m s) xs n ps vs ws s t h
+        (λ k qs s t w le j. record { places = qs; above = le; ends = next k qs l m s t w r j }) level i)) (binding_levels (length xs)) l m r
       where
         inside : (m : Levels) → GoesOn t (then_do (bind_all kept xs ws t) (λ done t. g m t))
         inside m = then_goes t _ _ (facts.bind_all_goes kept xs ws t) (λ done t. y m t)

@@ -12,7 +12,7 @@ use Rattle.rl_meaning.specs.Laws.{IsFuelEnough}
 use Rattle.rl_meaning.specs.TwoRunsValues.{Names, Each, SameValue, same_id}
 use Rattle.rl_meaning.specs.TwoRunsStates.{Place, Like}
 use Rattle.rl_meaning.specs.TwoRunsEnds.{Ends, done}
-use Rattle.rl_agrees.specs.Laws.{CodeAgrees}
+use Rattle.rl_agrees.specs.Laws.{CodeAgrees, WalksAgree}
 use Rattle.rl_agrees.specs.TwoRunsJobs.{Goes}
 use Rattle.rl_agrees.proofs.OneRun.{Follows, follows_same, LeadsAt, Leads}
 use Rattle.rl_agrees.proofs.OneRunQuiet as quiet
@@ -43,6 +43,7 @@ use Rattle.rl_agrees.proofs.TwoRunsReading.{read_bytes_related}
 use Rattle.rl_agrees.proofs.TwoRunsAssumed.{GoesOn, AskGoes, RecGoes, OneRunFacts, Quiet, may_part, TwoRunsFacts}
 use Rattle.rl_agrees.proofs.TwoRunsGoes.{then_goes}
 use Rattle.rl_agrees.proofs.TwoRunsMixed.{jobs_agree}
+use Rattle.rl_agrees.proofs.TwoRunsMixed as mixed
 use Rattle.rl_agrees.proofs.TwoRunsLoop as loop
 
 -- ---- one run
@@ -201,7 +202,10 @@ two = record {
   read_quiet = λ turns l bytes s. still (read_bytes_leads quiet_steps turns l bytes s (silent s));
 }
 
--- ---- the law
+-- ---- the laws
 
 pub code_agrees : IsFuelEnough → CodeAgrees
 code_agrees fuel = loop.code_agrees (record { fuel = fuel; composed = jobs_agree one two jobs_go fuel; job_goes = jobs_go; one = one; two = two })
+
+pub walks_agree : IsFuelEnough → WalksAgree
+walks_agree fuel = mixed.walks_agree one two jobs_go fuel

@@ -55,7 +55,7 @@ later_trans s t u h g = record {
 }
 
 pub goes_trans : (s t u : State) → Goes s t → Goes t u → Goes s u
-goes_trans s t u h g = record { later = later_trans s t u h.later g.later; within = λ w. g.within (h.within w); bounded = h.bounded ∙ g.bounded }
+goes_trans s t u h g = record { later = later_trans s t u h.later g.later; within = λ w. g.within (h.within w); bounded = h.bounded ∙ g.bounded; runs_code = h.runs_code ∙ g.runs_code }
 
 -- other counts and bindings change nothing of this
 pub goes_with : (s : State) (counts : Counts) (bindings : List Entry) → is_some s.counts.cells ≡ is_some counts.cells → Goes s (record s { counts = counts; bindings = bindings })
@@ -73,6 +73,7 @@ goes_with s counts bindings e = record {
   };
   within = λ w. record { printed = w.printed; noted = w.noted };
   bounded = e;
+  runs_code = refl;
 }
 
 pub goes_refl : (s : State) → Goes s s

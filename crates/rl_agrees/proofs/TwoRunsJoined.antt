@@ -6,7 +6,7 @@ use Rattle.rl_meaning.specs.CMacros.{Operand, CMacro}
 use Rattle.rl_meaning.specs.State.{State, Tree, Held, Pointer, Function, Definition, Symbol, Entry, Dependency, Coded, Compilation, Counts, Expansion, Outside, Recorded}
 use Rattle.rl_meaning.specs.TwoRunsLinks.{Links, unlinked, link, Linked, newest, older, OneToOne, Within}
 use Rattle.rl_meaning.specs.TwoRunsValues.{Names, Grows, Maybe, nothing, just, Each, end, more, SameValue, same_int, same_id, same_str, same_ref, same_fun, SameObject, same_pair, same_vector, SameTree, same_atom, same_quoted, same_node, same_literal, SameHeld, same_held, SameFunction, same_special, same_native, same_held_function, SamePointer, same_pointer, SameDefinition, same_definition, SameSymbol, same_symbol, SameOperand, same_slot, same_constant, same_variable, same_register, SameMacro, same_load, same_copy, same_jump_eq, same_jump_ne, same_macro, SameDependency, same_called, same_fexpr, same_whole, SameCoded, same_coded}
-use Rattle.rl_meaning.specs.TwoRunsStates.{SameStore, SameFunctions, Place, SameEntry, same_binding, same_mark, Aligned, bottom, both, hidden, hidden_mark, SameExpansion, same_none, same_open, IsRoomier, SameCounts, SameCompilation, Like}
+use Rattle.rl_meaning.specs.TwoRunsStates.{SameStore, SameFunctions, Place, Aligned, bottom, both, both_mark, hidden, hidden_mark, SameExpansion, same_none, same_open, IsRoomier, SameCounts, SameCompilation, Like}
 use Rattle.rl_meaning.specs.Outcome.{Outcome, Done, Failed, Went, Returned, Stopped, Stop}
 use Rattle.rl_meaning.specs.Opening.{state_of}
 use Rattle.rl_meaning.specs.TwoRunsEnds.{Begins, HasShown, IsShort, OneBegins, Parted, by_event, right_short, left_short, short_by_event, both_short, SameSeen, Related, done, failed, went, returned, stopped, parted, Ends}
@@ -166,10 +166,6 @@ module _ (m k : Names) (once : Once k) where
   symbol_joined a b c (same_symbol name interned system kind x y p q d e r s t) (same_symbol _ _ _ _ _ y' _ q' _ e' r' s' t') =
       same_symbol name interned system kind x y' p q' d e' (maybe_joined _ _ _ value_joined x y y' r r') (value_joined p q q' s s') (maybe_joined _ _ _ definition_joined d e e' t t')
 
-  entry_joined : (a b c : Entry) → SameEntry m a b → SameEntry k b c → SameEntry J a c
-  entry_joined a b c (same_binding x scope v w r) (same_binding _ _ _ u s) = same_binding x scope v u (value_joined v w u r s)
-  entry_joined a b c (same_mark f g r) (same_mark _ h s) = same_mark f h (maybe_joined _ _ _ pointer_joined f g h r s)
-
   operand_joined : (a b c : Operand) → SameOperand m a b → SameOperand k b c → SameOperand J a c
   operand_joined a b c (same_slot i) (same_slot _) = same_slot i
   operand_joined a b c (same_constant v w r) (same_constant _ u s) = same_constant v u (value_joined v w u r s)
@@ -220,7 +216,8 @@ module _ (m k : Names) (once : Once k) where
 
   aligned_joined : (ps qs : List Place) (xs ys zs : List Entry) → IsWhole ps → IsWhole qs → Aligned m ps xs ys → Aligned k qs ys zs → Aligned J qs xs zs
   aligned_joined ps qs xs ys zs w v bottom bottom = bottom
-  aligned_joined ps qs xs ys zs w v (both e d ps' as' bs r h) (both _ c qs' _ cs s g) = both e c qs' as' cs (entry_joined e d c r s) (aligned_joined ps' qs' as' bs cs w v h g)
+  aligned_joined ps qs xs ys zs w v (both x scope a b ps' as' bs r h) (both _ _ _ d qs' _ cs s g) = both x scope a d qs' as' cs (value_joined a b d r s) (aligned_joined ps' qs' as' bs cs w v h g)
+  aligned_joined ps qs xs ys zs w v (both_mark f i ps' as' bs r h) (both_mark _ j qs' _ cs s g) = both_mark f j qs' as' cs (maybe_joined _ _ _ pointer_joined f i j r s) (aligned_joined ps' qs' as' bs cs w v h g)
   aligned_joined ps qs xs ys zs w v (hidden x y ps' as' bs h) g = absurd w
   aligned_joined ps qs xs ys zs w v (hidden_mark f ps' as' bs h) g = absurd w
   aligned_joined ps qs xs ys zs w v h (hidden x y ps' as' bs g) = absurd v

@@ -2,10 +2,10 @@
 use Rattle.std.proofs.Common.{◌≡◌, inl, inr, ◌<◌, ℕ, List, [], ◌∷◌, slice_get, Option, Some, None, refl, sym, subst, arith}
 use Rattle.rl_tree.specs.Value.{Value, Object, Store}
 use Rattle.rl_meaning.specs.CMacros.{Operand, CMacro}
-use Rattle.rl_meaning.specs.State.{State, Tree, Held, Pointer, Function, Definition, Symbol, Entry, Dependency, Code, Coded, Expansion}
+use Rattle.rl_meaning.specs.State.{State, Tree, Held, Pointer, Function, Definition, Symbol, Entry, Dependency, Code, Coded, Expansion, Binding, Mark}
 use Rattle.rl_meaning.specs.TwoRunsLinks.{Links, unlinked, link, Linked, newest, older, OneToOne, Within}
 use Rattle.rl_meaning.specs.TwoRunsValues.{Names, Maybe, nothing, just, Each, end, more, SameValue, same_int, same_id, same_str, same_ref, same_fun, SameObject, same_pair, same_vector, SameTree, same_atom, same_quoted, same_node, same_literal, SameHeld, same_held, SameFunction, same_special, same_native, same_held_function, SamePointer, same_pointer, SameDefinition, same_definition, SameSymbol, same_symbol, SameOperand, same_slot, same_constant, same_variable, same_register, SameMacro, same_load, same_copy, same_jump_eq, same_jump_ne, same_macro, SameCode, SameDependency, same_called, same_fexpr, same_whole, SameCoded, same_coded}
-use Rattle.rl_meaning.specs.TwoRunsStates.{SameStore, SameFunctions, Place, Both, SameEntry, same_binding, same_mark, Aligned, bottom, both, hidden, hidden_mark, all_both, SameExpansion, same_none, same_open, IsRoomier, Like}
+use Rattle.rl_meaning.specs.TwoRunsStates.{SameStore, SameFunctions, Place, Both, BothMark, Aligned, bottom, both, both_mark, hidden, hidden_mark, all_both, SameExpansion, same_none, same_open, IsRoomier, Like}
 use Rattle.rl_meaning.specs.Right.{IsIdentity, Knows}
 use Rattle.rl_agrees.specs.TwoRunsJobs.{IsWhole}
 use Rattle.rl_agrees.proofs.TwoRunsLinked.{linked_cases}
@@ -96,10 +96,6 @@ module _ (n : Names) where
   symbol_right a b (same_symbol name interned system kind x y p q d e r s t) =
       same_symbol name interned system kind y y q q e e (maybe_right _ _ value_right x y r) (value_right p q s) (maybe_right _ _ definition_right d e t)
 
-  entry_right : (a b : Entry) → SameEntry n a b → SameEntry K b b
-  entry_right a b (same_binding x scope v w r) = same_binding x scope w w (value_right v w r)
-  entry_right a b (same_mark f g r) = same_mark g g (maybe_right _ _ pointer_right f g r)
-
   operand_right : (a b : Operand) → SameOperand n a b → SameOperand K b b
   operand_right a b (same_slot i) = same_slot i
   operand_right a b (same_constant v w r) = same_constant w w (value_right v w r)
@@ -156,7 +152,8 @@ module _ (n : Names) where
 
   aligned_right : (ps : List Place) (xs ys : List Entry) → IsWhole ps → Aligned n ps xs ys → Aligned K (all_both ys) ys ys
   aligned_right ps xs ys w bottom = bottom
-  aligned_right ps xs ys w (both e d qs as' bs r h) = both d d (all_both bs) bs bs (entry_right e d r) (aligned_right qs as' bs w h)
+  aligned_right ps xs ys w (both x scope a b qs as' bs r h) = both x scope b b (all_both bs) bs bs (value_right a b r) (aligned_right qs as' bs w h)
+  aligned_right ps xs ys w (both_mark f g qs as' bs r h) = both_mark g g (all_both bs) bs bs (maybe_right _ _ pointer_right f g r) (aligned_right qs as' bs w h)
   aligned_right ps xs ys w (hidden x v qs as' bs h) = absurd w
   aligned_right ps xs ys w (hidden_mark f qs as' bs h) = absurd w
 
@@ -194,10 +191,12 @@ module _ (n : Names) where
 -- all places are of both
 pub whole_places : (n : Names) (ps : List Place) (xs ys : List Entry) → IsWhole ps → Aligned n ps xs ys → ps ≡ all_both ys
 whole_places n ps xs ys w bottom = refl
-whole_places n ps xs ys w (both e d qs as' bs r h) = λ i. Both ∷ whole_places n qs as' bs w h i
+whole_places n ps xs ys w (both x scope a b qs as' bs r h) = λ i. Both ∷ whole_places n qs as' bs w h i
+whole_places n ps xs ys w (both_mark f g qs as' bs r h) = λ i. BothMark ∷ whole_places n qs as' bs w h i
 whole_places n ps xs ys w (hidden x v qs as' bs h) = absurd w
 whole_places n ps xs ys w (hidden_mark f qs as' bs h) = absurd w
 
 pub all_both_whole : (ys : List Entry) → IsWhole (all_both ys)
 all_both_whole [] = tt
-all_both_whole (y ∷ ys) = all_both_whole ys
+all_both_whole (Binding x scope v ∷ ys) = all_both_whole ys
+all_both_whole (Mark f ∷ ys) = all_both_whole ys

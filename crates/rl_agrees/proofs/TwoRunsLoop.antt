@@ -38,7 +38,8 @@ use Rattle.rl_agrees.proofs.TwoRunsAssumed.{AskGoes, GoesOn, OneRunFacts, TwoRun
 use Rattle.rl_agrees.proofs.TwoRunsReading.{SameReading, same_form, same_end, same_unreadable}
 use Rattle.rl_agrees.proofs.TwoRunsAsked.{Respects}
 use Rattle.rl_agrees.proofs.TwoRunsGoes.{goes_refl, goes_trans, then_goes, Context, parted_in}
-use Rattle.rl_agrees.proofs.TwoRunsEnding.{Sides, further_ends, sides_on, then_ends, quiet_ends}
+use Rattle.rl_agrees.proofs.TwoRunsEnding.{further_ends, sides_on, then_ends, quiet_ends}
+use Rattle.rl_agrees.proofs.TwoRunsCompared.{CleanSides, code_and_walk}
 
 -- ---- an atom is printed, which may break a line
 
@@ -104,20 +105,20 @@ unfolding outcome_of
 goes_on_context {A} f h = record { stops = λ why s. refl; goes = λ o. subst (λ u. Goes (state_of o) u) (sym (state_is (goes_on o f).ending (goes_on o f).state)) (goes_on_goes (state_of o) o f (goes_refl (state_of o)) h) }
 
 goes_on_agrees : {A : Type 0} {R : Names → A → A → Type 0} (n : Names) (ps : List Place) (s t : State) (o p : Outcome A) (f g : A → State → Ran)
-    → Sides the_compiler n ps s t → Goes t (state_of p) → ((a : A) (t : State) → Goes t (f a t).state) → ((a : A) (t : State) → Goes t (g a t).state) → Related {A = A} Parted R n ps o p
-    → ((m : Names) (a b : A) (u v : State) → R m a b → Sides the_compiler m ps u v → RunsAgree (f a u) (g b v)) → RunsAgree (goes_on o f) (goes_on p g)
-goes_on_agrees n ps s t o p f g i w x y (done m a b u v k r l) h = h m a b u v r (sides_on the_compiler n m ps s t u v i w l)
-goes_on_agrees n ps s t o p f g i w x y (failed m z a b u v k r l) h = alike _ _ refl l.outside l.counts.turns
-goes_on_agrees n ps s t o p f g i w x y (went m z u v k l) h = alike _ _ refl l.outside l.counts.turns
-goes_on_agrees n ps s t o p f g i w x y (returned m a b u v k r l) h = alike _ _ refl l.outside l.counts.turns
-goes_on_agrees n ps s t o p f g i w x y (stopped why u v e) h = alike _ _ refl e.outside e.turns
-goes_on_agrees n ps s t o p f g i w x y (parted _ _ a) h =
+    → CleanSides code_and_walk n ps s t → Goes s (state_of o) → Goes t (state_of p) → ((a : A) (t : State) → Goes t (f a t).state) → ((a : A) (t : State) → Goes t (g a t).state) → Related {A = A} Parted R n ps o p
+    → ((m : Names) (a b : A) (u v : State) → R m a b → CleanSides code_and_walk m ps u v → RunsAgree (f a u) (g b v)) → RunsAgree (goes_on o f) (goes_on p g)
+goes_on_agrees n ps s t o p f g i d w x y (done m a b u v k r l) h = h m a b u v r (sides_on code_and_walk n m ps s t u v i d w l)
+goes_on_agrees n ps s t o p f g i d w x y (failed m z a b u v k r l) h = alike _ _ refl l.outside l.counts.turns
+goes_on_agrees n ps s t o p f g i d w x y (went m z u v k l) h = alike _ _ refl l.outside l.counts.turns
+goes_on_agrees n ps s t o p f g i d w x y (returned m a b u v k r l) h = alike _ _ refl l.outside l.counts.turns
+goes_on_agrees n ps s t o p f g i d w x y (stopped why u v e) h = alike _ _ refl e.outside e.turns
+goes_on_agrees n ps s t o p f g i d w x y (parted _ _ a) h =
     ran_agrees (goes_on o f) (goes_on p g) _ _ refl refl (parted_in (λ o. as_outcome (goes_on o f)) (λ o. as_outcome (goes_on o g)) o p (goes_on_context f x) (goes_on_context g y) (w.within i.ready.event) a)
 
 -- evaluation respects the relation; and what is taken of one run, and of two
 pub record LoopFacts : Type 0 where
   pub fuel : IsFuelEnough
-  pub composed : Respects the_compiler (job the_compiler) (job the_compiler)
+  pub composed : Respects code_and_walk (job the_compiler) (job the_compiler)
   pub job_goes : AskGoes (job the_compiler)
   pub one : OneRunFacts
   pub two : TwoRunsFacts
@@ -128,17 +129,17 @@ module _ (facts : LoopFacts) where
   evaluate_is : (h : Here) (a : Tree) (s : State) → job the_compiler (In h Inside a) s ≡ evaluate h a s
   evaluate_is h a s = facts.fuel.done (In h Inside a) s
 
-  evaluate_ends : (n : Names) (ps : List Place) (h g : Here) (a b : Tree) (s t : State) → SameHere n h g → SameTree n a b → Sides the_compiler n ps s t → Ends n ps (evaluate h a s) (evaluate g b t)
+  evaluate_ends : (n : Names) (ps : List Place) (h g : Here) (a b : Tree) (s t : State) → SameHere n h g → SameTree n a b → CleanSides code_and_walk n ps s t → Ends n ps (evaluate h a s) (evaluate g b t)
   evaluate_ends n ps h g a b s t x y i =
       subst (λ o. Ends n ps o (evaluate g b t)) (evaluate_is h a s) (subst (λ o. Ends n ps (job the_compiler (In h Inside a) s) o) (evaluate_is g b t)
-      (facts.composed n ps (In h Inside a) s (In g Inside b) t (record { same = same_in h g Inside a b x y; like = i.like; whole = i.whole; of_state = tt; ready = i.ready })))
+      (facts.composed n ps (In h Inside a) s (In g Inside b) t (record { same = same_in h g Inside a b x y; like = i.like; places = i.places; asked = tt; ready = i.ready })))
 
   held_goes : (l : Levels) (f : ℕ) (function : Function) (s : State) → GoesOn s (held_evaluated l f function s)
   held_goes l f (HeldFunction held) s = subst (λ o. GoesOn s o) (evaluate_is _ held.body s) (facts.job_goes.goes _ s)
   held_goes l f (SpecialForm form) s = record { goes = goes_refl s }
   held_goes l f (NativeFunction native) s = record { goes = goes_refl s }
 
-  held_ends : (n : Names) (ps : List Place) (l m : Levels) (f g : ℕ) (a b : Function) (s t : State) → Roomier l m → Linked n.functions f g → SameFunction n a b → Sides the_compiler n ps s t → Ends n ps (held_evaluated l f a s) (held_evaluated m g b t)
+  held_ends : (n : Names) (ps : List Place) (l m : Levels) (f g : ℕ) (a b : Function) (s t : State) → Roomier l m → Linked n.functions f g → SameFunction n a b → CleanSides code_and_walk n ps s t → Ends n ps (held_evaluated l f a s) (held_evaluated m g b t)
   held_ends n ps l m f g _ _ s t r h (same_special form) i = done n _ _ s t (grows_refl n) (same_id _) i.like
   held_ends n ps l m f g _ _ s t r h (same_native native) i = done n _ _ s t (grows_refl n) (same_id _) i.like
   held_ends n ps l m f g _ _ s t r h (same_held_function _ _ (same_held kind parameters kept a b k)) i = evaluate_ends n ps _ _ a b s t (same_here longest_chain kept l m f g r h) k i
@@ -146,9 +147,9 @@ module _ (facts : LoopFacts) where
   statement_goes : (l : Levels) (v : Value) (s : State) → GoesOn s (statement l v s)
   statement_goes l v s = then_goes s _ _ (facts.one.hold_form_goes l v s) (λ f t. held_goes l f (function_at t (pointer_to f)) t)
 
-  pub statement_ends : (n : Names) (ps : List Place) (l m : Levels) (v w : Value) (s t : State) → Roomier l m → SameValue n v w → Sides the_compiler n ps s t → Ends n ps (statement l v s) (statement m w t)
+  pub statement_ends : (n : Names) (ps : List Place) (l m : Levels) (v w : Value) (s t : State) → Roomier l m → SameValue n v w → CleanSides code_and_walk n ps s t → Ends n ps (statement l v s) (statement m w t)
   statement_ends n ps l m v w s t r x i =
-      then_ends the_compiler {R = SameNumber} n ps s t _ _ _ _ i (facts.one.hold_form_goes m w t) (λ f u. held_goes l f (function_at u (pointer_to f)) u) (λ f u. held_goes m f (function_at u (pointer_to f)) u)
+      then_ends code_and_walk {R = SameNumber} n ps s t _ _ _ _ i (facts.one.hold_form_goes l v s) (facts.one.hold_form_goes m w t) (λ f u. held_goes l f (function_at u (pointer_to f)) u) (λ f u. held_goes m f (function_at u (pointer_to f)) u)
       (quiet_ends n ps s t _ _ i.like (facts.two.hold_form_quiet l v s) (facts.two.hold_form_quiet m w t) (facts.two.hold_form_ n ps l m v w s t r x i.like))
       (λ k f g u y z h j. held_ends k ps l m f g _ _ u y r h.linked (function_same k ps u y (pointer_to f) (pointer_to g) j.like (same_pointer f g 0 h.linked)) j)
 
@@ -165,7 +166,7 @@ module _ (facts : LoopFacts) where
       goes (Returned v s) = goes_refl s
       goes (Stopped why s) = goes_refl s
 
-  pub after_ends : (n : Names) (ps : List Place) (l m : Levels) (s t : State) (o p : Outcome Value) → Sides the_compiler n ps s t → Goes t (state_of p) → Ends n ps o p → Related {A = Unit {0}} Parted Is n ps (after_statement l o) (after_statement m p)
+  pub after_ends : (n : Names) (ps : List Place) (l m : Levels) (s t : State) (o p : Outcome Value) → CleanSides code_and_walk n ps s t → Goes t (state_of p) → Ends n ps o p → Related {A = Unit {0}} Parted Is n ps (after_statement l o) (after_statement m p)
   after_ends n ps l m s t o p i w (done k a b u v g r x) = done k tt tt u v g (is tt) x
   after_ends n ps l m s t o p i w (failed k z a b u v g r x) = further_ends n k ps _ _ g (facts.two.print_error_ k ps l m a b u v r x)
   after_ends n ps l m s t o p i w (went k z u v g x) = done k tt tt u v g (is tt) x
@@ -196,27 +197,27 @@ module _ (facts : LoopFacts) where
 
   reading_agrees : (n : Names) (ps : List Place) (l m : Levels) (size : ℕ) (f g : List ℕ → State → Ran) (x y : Reading) (s t : State) → Roomier l m
       → ((bytes : List ℕ) (s : State) → Goes s (f bytes s).state) → ((bytes : List ℕ) (s : State) → Goes s (g bytes s).state)
-      → ((m : Names) (bytes : List ℕ) (u v : State) → Sides the_compiler m ps u v → RunsAgree (f bytes u) (g bytes v)) → SameReading n x y → Sides the_compiler n ps s t → RunsAgree (read_and_run l size f x s) (read_and_run m size g y t)
+      → ((m : Names) (bytes : List ℕ) (u v : State) → CleanSides code_and_walk m ps u v → RunsAgree (f bytes u) (g bytes v)) → SameReading n x y → CleanSides code_and_walk n ps s t → RunsAgree (read_and_run l size f x s) (read_and_run m size g y t)
   reading_agrees n ps l m size f g _ _ s t r d e h (same_form v w rest x) i =
-      goes_on_agrees {R = Is} n ps s t _ _ _ _ i (after_goes m w t) (λ z u. d rest u) (λ z u. e rest u)
+      goes_on_agrees {R = Is} n ps s t _ _ _ _ i (after_goes l v s) (after_goes m w t) (λ z u. d rest u) (λ z u. e rest u)
       (after_ends n ps l m s t _ _ i (statement_on m w t) (statement_ends n ps l m v w s t r x i)) (λ k a b u v z j. h k rest u v j)
   reading_agrees n ps l m size f g _ _ s t r d e h same_end i = alike _ _ refl i.like.outside i.like.counts.turns
-  reading_agrees n ps l m size f g _ _ s t r d e h (same_unreadable k from) i = h n (behind_line from) _ _ (sides_on the_compiler n n ps s t _ _ i (facts.one.unreadable_goes (size - length from) t) (unreadable_like n ps (size - length from) s t i.like))
+  reading_agrees n ps l m size f g _ _ s t r d e h (same_unreadable k from) i = h n (behind_line from) _ _ (sides_on code_and_walk n n ps s t _ _ i (facts.one.unreadable_goes (size - length from) s) (facts.one.unreadable_goes (size - length from) t) (unreadable_like n ps (size - length from) s t i.like))
 
-  run_agrees : (i : ℕ) (n : Names) (ps : List Place) (l m : Levels) (size : ℕ) (bytes : List ℕ) (s t : State) → Roomier l m → Sides the_compiler n ps s t → RunsAgree (run_within i l size bytes s) (run_within i m size bytes t)
+  run_agrees : (i : ℕ) (n : Names) (ps : List Place) (l m : Levels) (size : ℕ) (bytes : List ℕ) (s t : State) → Roomier l m → CleanSides code_and_walk n ps s t → RunsAgree (run_within i l size bytes s) (run_within i m size bytes t)
   run_agrees zero n ps l m size bytes s t r i = alike _ _ refl i.like.outside i.like.counts.turns
   run_agrees (suc i) n ps l m size bytes s t r x =
-      goes_on_agrees {R = SameReading} n ps s t _ _ _ _ x (read_goes m bytes t)
+      goes_on_agrees {R = SameReading} n ps s t _ _ _ _ x (read_goes l bytes s) (read_goes m bytes t)
       (λ reading u. reading_goes l size (λ rest s. run_within i l size rest s) (λ rest s. run_goes i l size rest s) reading u)
       (λ reading u. reading_goes m size (λ rest s. run_within i m size rest s) (λ rest s. run_goes i m size rest s) reading u)
       (quiet_ends n ps s t _ _ x.like (facts.two.read_quiet false l bytes s) (facts.two.read_quiet false m bytes t) (facts.two.read_ n ps false l m bytes s t r x.like))
       (λ k a b u v z j. reading_agrees k ps l m size (λ rest s. run_within i l size rest s) (λ rest s. run_within i m size rest s) a b u v r (λ rest s. run_goes i l size rest s) (λ rest s. run_goes i m size rest s)
       (λ o rest u v j. run_agrees i o ps l m size rest u v r j) z j)
 
-  pub bytes_agree : (n : Names) (ps : List Place) (l m : Levels) (bytes : List ℕ) (s t : State) → Roomier l m → Sides the_compiler n ps s t → RunsAgree (run_bytes l bytes s) (run_bytes m bytes t)
+  pub bytes_agree : (n : Names) (ps : List Place) (l m : Levels) (bytes : List ℕ) (s t : State) → Roomier l m → CleanSides code_and_walk n ps s t → RunsAgree (run_bytes l bytes s) (run_bytes m bytes t)
   bytes_agree n ps l m bytes s t r i = run_agrees (suc (length bytes)) n ps l m (length bytes) bytes s t r i
 
-  pub file_agrees : (n : Names) (ps : List Place) (l m : Levels) (name : Name) (file : Option (List ℕ)) (s t : State) → Roomier l m → Sides the_compiler n ps s t → RunsAgree (run_file l name file s) (run_file m name file t)
+  pub file_agrees : (n : Names) (ps : List Place) (l m : Levels) (name : Name) (file : Option (List ℕ)) (s t : State) → Roomier l m → CleanSides code_and_walk n ps s t → RunsAgree (run_file l name file s) (run_file m name file t)
   file_agrees n ps l m name None s t r i = alike _ _ refl i.like.outside i.like.counts.turns
   file_agrees n ps l m name (Some file) s t r i = bytes_agree n ps l m (source_of file) s t r i
 
@@ -358,7 +359,7 @@ either_shown _ _ (until_both_stop o p why other e x i j h k) =
 
 pub code_agrees : LoopFacts → CodeAgrees
 code_agrees facts = record {
-  runs = λ s l m cells source sound ready r e. bytes_agree facts (names_of s) (all_both s.bindings) l m source (running s) (walking cells s) r (record { like = begins_like s cells sound e; whole = all_both_whole s.bindings; ready = ready_walking s cells ready });
+  runs = λ s l m cells source sound ready r e. bytes_agree facts (names_of s) (all_both s.bindings) l m source (running s) (walking cells s) r (record { like = begins_like s cells sound e; places = all_both_whole s.bindings; ready = ready_walking s cells ready });
   same = same_run;
   event = event_shown;
   front = front_of;

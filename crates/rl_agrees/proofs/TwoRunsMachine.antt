@@ -22,7 +22,7 @@ use Rattle.rl_meaning.specs.Machine.{as_list, unless, proper_elements, all_regis
 use Rattle.rl_meaning.specs.Jobs.{the_compiler}
 use Rattle.rl_meaning.specs.TwoRunsLinks.{OneToOne}
 use Rattle.rl_meaning.specs.TwoRunsValues.{Names, Grows, Maybe, nothing, just, Each, end, more, SameValue, same_int, same_id, same_str, same_ref, same_fun, SameTree, SameHeld, same_held, SameFunction, same_special, same_native, same_held_function, SamePointer, same_pointer, SameNumber, SameDefinition, same_definition, SameOperand, same_slot, same_constant, same_variable, same_register, SameMacro, same_load, same_copy, same_jump_eq, same_jump_ne, same_macro, SameCode, same_atom, same_quoted, same_node, same_literal}
-use Rattle.rl_meaning.specs.TwoRunsStates.{Place, Both, Hidden, HiddenMark, same_binding, Aligned, bottom, both, hidden, hidden_mark, SameExpansion, same_none, same_open, SameCounts, Like, Roomier}
+use Rattle.rl_meaning.specs.TwoRunsStates.{Place, Both, BothMark, Hidden, HiddenMark, Aligned, bottom, both, both_mark, hidden, hidden_mark, SameExpansion, same_none, same_open, SameCounts, Like, Roomier}
 use Rattle.rl_meaning.specs.TwoRunsEnds.{HasShown, short_of_levels, Parted, Related, done, failed, went, returned, stopped, parted, Ends}
 use Rattle.rl_meaning.specs.TwoRunsEnds as ends
 use Rattle.rl_agrees.specs.TwoRunsJobs.{Goes, SameBound, same_bound, SameMachine, same_machine, SameFrame, same_frame, same_onward, Ready, IsWhole, EndsSomewhere}
@@ -33,7 +33,7 @@ use Rattle.rl_agrees.proofs.TwoRunsReady.{ready_stays}
 use Rattle.rl_agrees.proofs.TwoRunsAssumed.{GoesOn, Ask, AskGoes, RecGoes, OneRunFacts, Quiet, TwoRunsFacts}
 use Rattle.rl_agrees.proofs.TwoRunsAsked.{by, Respects, no_compiler_respects, rec_goes}
 use Rattle.rl_agrees.proofs.TwoRunsEvaluation.{called_ends, defined_ends, define_ends}
-use Rattle.rl_agrees.proofs.TwoRunsEnding.{further_ends, shown_whole, quiet_ends, fail_goes}
+use Rattle.rl_agrees.proofs.TwoRunsEnding.{further_ends, quiet_ends, fail_goes}
 use Rattle.rl_agrees.proofs.TwoRunsGoes.{goes_with, goes_from, then_goes, choose_goes, done_goes, parted_in, then_context}
 use Rattle.rl_agrees.proofs.TwoRunsForms.{fits_same, function_same, form_same, definition_same}
 use Rattle.rl_agrees.proofs.TwoRunsProperties.{cdr_same}
@@ -44,6 +44,7 @@ use Rattle.rl_agrees.proofs.TwoRunsQuiet.{later_shows, fail_ends}
 use Rattle.rl_agrees.proofs.TwoRunsVariables.{bindings_like, variable_related, assigned_related}
 use Rattle.rl_agrees.proofs.TwoRunsBinding.{restored_parted, mark_like}
 use Rattle.rl_agrees.proofs.TwoRunsDefinitions.{system_same}
+use Rattle.rl_agrees.proofs.TwoRunsCompared.{whole_shown, code_and_walk, CleanSides}
 
 -- ---- what is taken from evaluation
 
@@ -51,7 +52,7 @@ pub record EvaluationRespects (rec rec' : Rec) : Type 0 where
   -- a function that is called by name
   pub called_ : (n : Names) (ps : List Place) (i : ℕ) (l m : Levels) (vs ws : List Value) (s t : State) → Roomier l m → Each (SameValue n) vs ws → Like n ps s t → IsWhole ps → Ready the_compiler t → Ends n ps (called rec i l vs s) (called rec' i m ws t)
   -- definitions: of a function that was held, and of a list of arguments that is a part of a held form
-  pub function_defined_ : (n : Names) (ps : List Place) (form : Special) (i : ℕ) (s t : State) (o p : Outcome ℕ) → Like n ps s t → IsWhole ps → Ready the_compiler t → GoesOn t p → Related Parted SameNumber n ps o p → Ends n ps (function_defined rec form i o) (function_defined rec' form i p)
+  pub function_defined_ : (n : Names) (ps : List Place) (form : Special) (i : ℕ) (s t : State) (o p : Outcome ℕ) → Like n ps s t → IsWhole ps → Ready the_compiler t → GoesOn s o → GoesOn t p → Related Parted SameNumber n ps o p → Ends n ps (function_defined rec form i o) (function_defined rec' form i p)
   pub define_function_ : (n : Names) (ps : List Place) (form : Special) (l m : Levels) (a b : Tree) (s t : State) → Roomier l m → SameTree n a b → Like n ps s t → IsWhole ps → Ready the_compiler t → Ends n ps (define_function rec form l a s) (define_function rec' form m b t)
 
 -- ---- lists of arguments
@@ -191,7 +192,8 @@ quietly n s t o p h k x r = record { places = x.places; whole = x.whole; ends = 
 
 whole_length : (n : Names) (ps : List Place) (xs ys : List Entry) → IsWhole ps → Aligned n ps xs ys → length xs ≡ length ys
 whole_length n _ _ _ w bottom = refl
-whole_length n _ _ _ w (both e d ps xs ys h k) = ap suc (whole_length n ps xs ys w k)
+whole_length n _ _ _ w (both x scope v u ps xs ys h k) = ap suc (whole_length n ps xs ys w k)
+whole_length n _ _ _ w (both_mark f g ps xs ys h k) = ap suc (whole_length n ps xs ys w k)
 whole_length n _ _ _ w (hidden x v ps xs ys k) = absurd w
 whole_length n _ _ _ w (hidden_mark g ps xs ys k) = absurd w
 
@@ -199,13 +201,15 @@ whole_dropped : (i : ℕ) (ps : List Place) → IsWhole ps → IsWhole (drop i p
 whole_dropped zero ps w = w
 whole_dropped (suc i) [] w = tt
 whole_dropped (suc i) (Both ∷ ps) w = whole_dropped i ps w
+whole_dropped (suc i) (BothMark ∷ ps) w = whole_dropped i ps w
 whole_dropped (suc i) (Hidden x v ∷ ps) w = absurd w
 whole_dropped (suc i) (HiddenMark g ∷ ps) w = absurd w
 
 aligned_dropped : (n : Names) (i : ℕ) (ps : List Place) (xs ys : List Entry) → IsWhole ps → Aligned n ps xs ys → Aligned n (drop i ps) (drop i xs) (drop i ys)
 aligned_dropped n zero ps xs ys w k = k
 aligned_dropped n (suc i) _ _ _ w bottom = bottom
-aligned_dropped n (suc i) _ _ _ w (both e d ps xs ys h k) = aligned_dropped n i ps xs ys w k
+aligned_dropped n (suc i) _ _ _ w (both x scope v u ps xs ys h k) = aligned_dropped n i ps xs ys w k
+aligned_dropped n (suc i) _ _ _ w (both_mark f g ps xs ys h k) = aligned_dropped n i ps xs ys w k
 aligned_dropped n (suc i) _ _ _ w (hidden x v ps xs ys k) = absurd w
 aligned_dropped n (suc i) _ _ _ w (hidden_mark g ps xs ys k) = absurd w
 
@@ -234,13 +238,13 @@ restored_somewhere {A = A} {R = R} n i o p h = at o p h.ends
 
 -- a mark, and a binding, of both
 mark_abreast : (n : Names) (f g : Option Pointer) (s t : State) → Maybe (SamePointer n) f g → Abreast n s t → Abreast n (with_mark f s) (with_mark g t)
-mark_abreast n f g s t h x = record { places = Both ∷ x.places; whole = x.whole; like = mark_like n x.places f g s t h x.like; ready = ready_stays the_compiler t _ (goes_with t t.counts _ refl) x.ready }
+mark_abreast n f g s t h x = record { places = BothMark ∷ x.places; whole = x.whole; like = mark_like n x.places f g s t h x.like; ready = ready_stays the_compiler t _ (goes_with t t.counts _ refl) x.ready }
 
 binding_abreast : (n : Names) (i : ℕ) (scope : Scope) (v w : Value) (s t : State) → SameValue n v w → Abreast n s t → Abreast n (with_binding i scope v s) (with_binding i scope w t)
 binding_abreast n i scope v w s t r x = record {
   places = Both ∷ x.places;
   whole = x.whole;
-  like = bindings_like n x.places (Both ∷ x.places) s t _ _ x.like (both _ _ x.places _ _ (same_binding i scope v w r) x.like.bindings);
+  like = bindings_like n x.places (Both ∷ x.places) s t _ _ x.like (both i scope v w x.places _ _ r x.like.bindings);
   ready = ready_stays the_compiler t _ (goes_with t t.counts _ refl) x.ready;
 }
 
@@ -380,7 +384,7 @@ is_same_same n _ _ i s t (same_frame name p q h k c d depth l j a (same_held kin
 
 -- ---- what a run of the machine is made of
 
-module _ (one : OneRunFacts) (two : TwoRunsFacts) (ask ask' : Ask) (left : AskGoes ask) (right : AskGoes ask') (respects : Respects the_compiler ask ask') (evaluation : EvaluationRespects (by the_compiler ask) (by the_compiler ask')) where
+module _ (one : OneRunFacts) (two : TwoRunsFacts) (ask ask' : Ask) (left : AskGoes ask) (right : AskGoes ask') (respects : Respects code_and_walk ask ask') (evaluation : EvaluationRespects (by the_compiler ask) (by the_compiler ask')) where
   abbrev rec : Rec
   rec = by the_compiler ask
 
@@ -388,17 +392,17 @@ module _ (one : OneRunFacts) (two : TwoRunsFacts) (ask ask' : Ask) (left : AskGo
   rec' = by the_compiler ask'
 
   left_goes : RecGoes rec
-  left_goes = rec_goes the_compiler no_compiler_respects ask left
+  left_goes = rec_goes the_compiler code_and_walk (no_compiler_respects code_and_walk) ask left
 
   right_goes : RecGoes rec'
-  right_goes = rec_goes the_compiler no_compiler_respects ask' right
+  right_goes = rec_goes the_compiler code_and_walk (no_compiler_respects code_and_walk) ask' right
 
   -- ---- operands and variables
 
   content_somewhere : (n : Names) (m k : Machine) (o p : Operand) (s t : State) → SameMachine n m k → SameOperand n o p → Abreast n s t → Somewhere SameValue n (content m o s) (content k p t)
   content_somewhere n m k _ _ s t h (same_slot i) x = done_somewhere n _ _ s t (slot_same n m k h i) x
   content_somewhere n m k _ _ s t h (same_constant v w r) x = done_somewhere n v w s t r x
-  content_somewhere n m k _ _ s t h (same_variable i) x = record { places = x.places; whole = x.whole; ends = variable_related n x.places i s t (shown_whole x.places t.bindings x.whole) x.like }
+  content_somewhere n m k _ _ s t h (same_variable i) x = record { places = x.places; whole = x.whole; ends = variable_related n x.places i s t (whole_shown x.places x.whole) x.like }
   content_somewhere n m k _ _ s t h (same_register r) x = done_somewhere n _ _ s t (register_same n m k h r) x
 
   content_goes : (m : Machine) (o : Operand) (s : State) → GoesOn s (content m o s)
@@ -408,7 +412,7 @@ module _ (one : OneRunFacts) (two : TwoRunsFacts) (ask ask' : Ask) (left : AskGo
   content_goes m (macros.Register r) s = done_goes _ s
 
   assigned_somewhere : (n : Names) (i : ℕ) (v w : Value) (s t : State) → SameValue n v w → Abreast n s t → Somewhere SameValue n (assigned i v s) (assigned i w t)
-  assigned_somewhere n i v w s t r x = record { places = x.places; whole = x.whole; ends = assigned_related n x.places i v w s t r (shown_whole x.places t.bindings x.whole) x.like }
+  assigned_somewhere n i v w s t r x = record { places = x.places; whole = x.whole; ends = assigned_related n x.places i v w s t r (whole_shown x.places x.whole) x.like }
 
   copied_somewhere : (n : Names) (l j : Levels) (a b : Tree) (s t : State) → Roomier l j → SameTree n a b → Abreast n s t → Somewhere SameValue n (copied l a s) (copied j b t)
   copied_somewhere n l j a b s t r h x = quietly n s t _ _ (two.copied_quiet l a s) (two.copied_quiet j b t) x (copied_related n x.places l j a b s t r h x.like)
@@ -465,7 +469,7 @@ module _ (one : OneRunFacts) (two : TwoRunsFacts) (ask ask' : Ask) (left : AskGo
   function_defined_somewhere n form i l j u v a b s t r h k x = record {
     places = x.places;
     whole = x.whole;
-    ends = evaluation.function_defined_ n x.places form i s t _ _ x.like x.whole x.ready (one.hold_function_goes (kind_of_definition form) j v b t)
+    ends = evaluation.function_defined_ n x.places form i s t _ _ x.like x.whole x.ready (one.hold_function_goes (kind_of_definition form) l u a s) (one.hold_function_goes (kind_of_definition form) j v b t)
         (quiet_ends n x.places s t _ _ x.like (two.hold_function_quiet (kind_of_definition form) l u a s) (two.hold_function_quiet (kind_of_definition form) j v b t) (hold_function_related n x.places (kind_of_definition form) l j u v a b s t r h k x.like));
   }
 
@@ -520,7 +524,7 @@ module _ (one : OneRunFacts) (two : TwoRunsFacts) (ask ask' : Ask) (left : AskGo
 
   onward_somewhere : (n : Names) (f g : Frame) (m k : Machine) (c d : Code) (s t : State) → SameFrame n f g → SameMachine n m k → SameCode n c d → Abreast n s t → Somewhere SameValue n (ask (Onward f m c) s) (ask' (Onward g k d) t)
   onward_somewhere n f g m k c d s t h e i x =
-      let r : EndsSomewhere n (ask (Onward f m c) s) (ask' (Onward g k d) t) = respects n x.places (Onward f m c) s (Onward g k d) t (record { same = same_onward f g m k c d h e i; like = x.like; whole = x.whole; of_state = tt; ready = x.ready }) in
+      let r : EndsSomewhere n (ask (Onward f m c) s) (ask' (Onward g k d) t) = respects n x.places (Onward f m c) s (Onward g k d) t (record { same = same_onward f g m k c d h e i; like = x.like; places = x.whole; asked = tt; ready = x.ready }) in
       record { places = r.places; whole = r.whole; ends = r.ends }
 
   marked_goes : (ask : Ask) → AskGoes ask → (f : Frame) (m : Machine) (c : Code) (p : Option Pointer) (s : State) → GoesOn s (ask (Onward f m c) (with_mark p s))
@@ -685,22 +689,25 @@ module _ (one : OneRunFacts) (two : TwoRunsFacts) (ask ask' : Ask) (left : AskGo
 
 -- ---- evaluation does
 
-evaluation_respects : (one : OneRunFacts) (two : TwoRunsFacts) (ask ask' : Ask) → AskGoes ask → AskGoes ask' → Respects the_compiler ask ask' → EvaluationRespects (by the_compiler ask) (by the_compiler ask')
+whole_sides : (n : Names) (ps : List Place) (s t : State) → Like n ps s t → IsWhole ps → Ready the_compiler t → CleanSides code_and_walk n ps s t
+whole_sides n ps s t like w ready = record { like = like; places = w; ready = ready }
+
+evaluation_respects : (one : OneRunFacts) (two : TwoRunsFacts) (ask ask' : Ask) → AskGoes ask → AskGoes ask' → Respects code_and_walk ask ask' → EvaluationRespects (by the_compiler ask) (by the_compiler ask')
 evaluation_respects one two ask ask' left right respects = record {
-  called_ = λ n ps i l m vs ws s t r e like w ready. called_ends the_compiler no_compiler_respects one two ask ask' left right respects n ps i l m vs ws s t r e (record { like = like; whole = w; ready = ready });
-  function_defined_ = λ n ps form i s t o p like w ready go h. defined_ends the_compiler no_compiler_respects one two ask ask' left right respects n ps form i s t o p (record { like = like; whole = w; ready = ready }) go h;
-  define_function_ = λ n ps form l m a b s t r h like w ready. define_ends the_compiler no_compiler_respects one two ask ask' left right respects form n a b h ps l m s t r (record { like = like; whole = w; ready = ready });
+  called_ = λ n ps i l m vs ws s t r e like w ready. called_ends code_and_walk (no_compiler_respects code_and_walk) one two ask ask' left right respects n ps i l m vs ws s t r e (whole_sides n ps s t like w ready);
+  function_defined_ = λ n ps form i s t o p like w ready goes go h. defined_ends code_and_walk (no_compiler_respects code_and_walk) one two ask ask' left right respects n ps form i s t o p (whole_sides n ps s t like w ready) goes go h;
+  define_function_ = λ n ps form l m a b s t r h like w ready. define_ends code_and_walk (no_compiler_respects code_and_walk) one two ask ask' left right respects form n a b h ps l m s t r (whole_sides n ps s t like w ready);
 }
 
 -- code that goes on, from related frames and machines, ends alike or apart, whatever bindings it leaves
-pub run_respects : (one : OneRunFacts) (two : TwoRunsFacts) (ask ask' : Ask) → AskGoes ask → AskGoes ask' → Respects the_compiler ask ask'
+pub run_respects : (one : OneRunFacts) (two : TwoRunsFacts) (ask ask' : Ask) → AskGoes ask → AskGoes ask' → Respects code_and_walk ask ask'
     → (n : Names) (ps : List Place) (f g : Frame) (m k : Machine) (c d : Code) (s t : State) → SameFrame n f g → SameMachine n m k → SameCode n c d → Like n ps s t → IsWhole ps → Ready the_compiler t → EndsSomewhere n (run (by the_compiler ask) f c m s) (run (by the_compiler ask') g d k t)
 run_respects one two ask ask' left right respects n ps f g m k c d s t h i e l w ready =
     let r = (code_somewhere one two ask ask' left right respects (evaluation_respects one two ask ask' left right respects) c).0 n f g d m k s t h e i (record { places = ps; whole = w; like = l; ready = ready }) in
     record { places = r.places; whole = r.whole; ends = r.ends }
 
 -- and so does a held function, by its code
-pub code_respects : (one : OneRunFacts) (two : TwoRunsFacts) (ask ask' : Ask) → AskGoes ask → AskGoes ask' → Respects the_compiler ask ask'
+pub code_respects : (one : OneRunFacts) (two : TwoRunsFacts) (ask ask' : Ask) → AskGoes ask → AskGoes ask' → Respects code_and_walk ask ask'
     → (n : Names) (ps : List Place) (l m : Levels) (p q : Option Pointer) (a b : Held) (c d : Code) (vs ws : List Value) (s t : State)
     → Roomier l m → Maybe (SamePointer n) p q → SameHeld n a b → SameCode n c d → Each (SameValue n) vs ws → Like n ps s t → IsWhole ps → Ready the_compiler t
     → EndsSomewhere n (run_code (by the_compiler ask) l p a c vs s) (run_code (by the_compiler ask') m q b d ws t)

@@ -1,58 +1,93 @@
--- Jobs of the run in which code runs agree with those of the walk: evaluation and c-macros respect that, so the whole composes.
+-- Jobs of the run in which code runs agree with those of the walk: evaluation and c-macros respect that, so the whole composes. And so do those of two walks.
 use Rattle.std.proofs.Common.{◌≡◌, ℕ, Bool, true, false, nat_lt, List}
-use Rattle.rl_meaning.specs.State.{State, Tree}
-use Rattle.rl_meaning.specs.Evaluation.{Job, From, In, Here, Position}
+use Rattle.rl_tree.specs.Value.{Value}
+use Rattle.rl_meaning.specs.State.{State, Tree, Code}
+use Rattle.rl_meaning.specs.Outcome.{Levels}
+use Rattle.rl_meaning.specs.Evaluation.{Job, From, In, Here, Position, Frame, Machine, Run, Onward, Call_, called}
+use Rattle.rl_meaning.specs.Machine.{run}
 use Rattle.rl_meaning.specs.Jobs.{rank, job, jobs, the_compiler}
 use Rattle.rl_meaning.specs.Laws.{below_by, below, IsFuelEnough}
-use Rattle.rl_meaning.specs.TwoRunsValues.{Names, SameTree}
-use Rattle.rl_meaning.specs.TwoRunsStates.{Place}
+use Rattle.rl_meaning.specs.TwoRunsValues.{Names, SameTree, SameCode, Each, SameValue}
+use Rattle.rl_meaning.specs.TwoRunsStates.{Place, Like, Roomier}
+use Rattle.rl_meaning.specs.TwoRunsEnds.{Ends}
+use Rattle.rl_agrees.specs.Laws.{WalksAgree}
 use Rattle.rl_agrees.specs.Leaving.{IsPlain, is_statement}
-use Rattle.rl_agrees.specs.TwoRunsJobs.{SameHere, same_here, SameJob, same_run, same_onward, same_call, same_from, same_in, Starts, EndsOf}
+use Rattle.rl_agrees.specs.TwoRunsJobs.{SameHere, same_here, SameJob, same_run, same_onward, same_call, same_from, same_in, EndsOf, SameMachine, SameFrame, EndsSomewhere, EventWithin, MayLack}
 use Rattle.rl_agrees.proofs.TwoRunsGrowth.{grows_refl}
 use Rattle.rl_agrees.proofs.TwoRunsAssumed.{Ask, AskGoes, GoesOn, OneRunFacts, TwoRunsFacts}
 use Rattle.rl_agrees.proofs.TwoRunsGoes.{goes_refl}
-use Rattle.rl_agrees.proofs.TwoRunsEnding.{Sides}
+use Rattle.rl_agrees.proofs.TwoRunsCompared.{Comparison, Sides, Starts, code_and_walk, CleanSides, PlacesOf, two_walks}
 use Rattle.rl_agrees.proofs.TwoRunsAsked.{by, Respects, CompilerRespects, no_compiler_respects, rec_goes}
-use Rattle.rl_agrees.proofs.TwoRunsEvaluation.{applied_ends}
+use Rattle.rl_agrees.proofs.TwoRunsEvaluation.{applied_ends, called_ends}
 use Rattle.rl_agrees.proofs.TwoRunsBlock.{eval_ends, statements_ends, walked_ends}
 use Rattle.rl_agrees.proofs.TwoRunsMachine.{run_respects, code_respects}
-use Rattle.rl_agrees.proofs.TwoRunsComposed.{walk_done, composed}
+use Rattle.rl_agrees.proofs.TwoRunsComposed.{walk_done, composed, walks_all, walks_composed}
 
-sides_of : (n : Names) (ps : List Place) (j : Job) (s : State) (k : Job) (t : State) → Starts the_compiler n ps j s k t → Sides the_compiler n ps s t
-sides_of n ps j s k t st = record { like = st.like; whole = st.whole; ready = st.ready }
-
-module _ (one : OneRunFacts) (two : TwoRunsFacts) (jobs_go : AskGoes (job the_compiler)) where
-  respects_compiler : CompilerRespects the_compiler
-  respects_compiler = no_compiler_respects
-
-  -- what walks respects the relation
-  walks_agree : (ask ask' : Ask) → AskGoes ask → AskGoes ask' → Respects the_compiler ask ask' → (n : Names) (ps : List Place) (j : Job) (s : State) (k : Job) (t : State) → Starts the_compiler n ps j s k t → EndsOf j n ps (walk_done (by the_compiler ask) j s) (walk_done (by the_compiler ask') k t)
-  walks_agree ask ask' ga gb respects n ps j s k t st = at j k st.same (sides_of n ps j s k t st)
+module _ (one : OneRunFacts) (two : TwoRunsFacts) where
+  -- what walks respects the relation, if code that goes on does
+  module _ (c : Comparison) (ask ask' : Ask) (ga : AskGoes ask) (gb : AskGoes ask') (respects : Respects c ask ask')
+      (onward : (n : Names) (ps : List Place) (f g : Frame) (m k : Machine) (x y : Code) (s t : State) → SameFrame n f g → SameMachine n m k → SameCode n x y → Sides c c.coded n ps s t
+      → EndsSomewhere n (run (by the_compiler ask) f x m s) (run (by the_compiler ask') g y k t))
     where
-      from : (h g : Here) (a b d e : Tree) → SameHere n h g → SameTree n a b → SameTree n d e → Sides the_compiler n ps s t → EndsOf (From h a d) n ps (walk_done (by the_compiler ask) (From h a d) s) (walk_done (by the_compiler ask') (From g b e) t)
-      from _ _ a b d e (same_here chain kept l m h g r u) x y i = statements_ends the_compiler respects_compiler one two ask ask' ga gb respects n d e y n ps (record { levels = l; chain = chain; kept = kept; holder = h }) m g a b x s t u (grows_refl n) r i
+      cr : CompilerRespects the_compiler c
+      cr = no_compiler_respects c
 
-      inside : (h g : Here) (position : Position) (a b : Tree) → SameHere n h g → SameTree n a b → Sides the_compiler n ps s t → EndsOf (In h position a) n ps (walk_done (by the_compiler ask) (In h position a) s) (walk_done (by the_compiler ask') (In g position b) t)
-      inside _ _ position a b (same_here chain kept l m h g r u) x i = eval_ends the_compiler respects_compiler one two ask ask' ga gb respects n a b x n ps (record { levels = l; chain = chain; kept = kept; holder = h }) m g position s t u (grows_refl n) r i
+      from_ends : (n : Names) (ps : List Place) (h g : Here) (a b d e : Tree) (s t : State) → SameHere n h g → SameTree n a b → SameTree n d e → CleanSides c n ps s t → Ends n ps (walk_done (by the_compiler ask) (From h a d) s) (walk_done (by the_compiler ask') (From g b e) t)
+      from_ends n ps _ _ a b d e s t (same_here chain kept l m h g r u) x y i = statements_ends c cr one two ask ask' ga gb respects n d e y n ps (record { levels = l; chain = chain; kept = kept; holder = h }) m g a b x s t u (grows_refl n) r i
 
-      at : (j k : Job) → SameJob n j k → Sides the_compiler n ps s t → EndsOf j n ps (walk_done (by the_compiler ask) j s) (walk_done (by the_compiler ask') k t)
-      at _ _ (same_run name l m h g p q a b vs ws r x y z v) i = walked_ends the_compiler respects_compiler one two ask ask' ga gb respects n ps l m h g p q a b vs ws s t r x y z v i
-      at _ _ (same_onward f g m k x y fr h r) i = run_respects one two ask ask' ga gb respects n ps f g m k x y s t fr h r i.like i.whole i.ready
-      at _ _ (same_call name l m p q vs ws r x v) i = applied_ends the_compiler respects_compiler one two ask ask' ga gb respects n ps name l m p q vs ws s t r x v i
-      at _ _ (same_from h g a b d e x y z) i = from h g a b d e x y z i
-      at _ _ (same_in h g position a b x y) i = inside h g position a b x y i
+      in_ends : (n : Names) (ps : List Place) (h g : Here) (position : Position) (a b : Tree) (s t : State) → SameHere n h g → SameTree n a b → CleanSides c n ps s t → Ends n ps (walk_done (by the_compiler ask) (In h position a) s) (walk_done (by the_compiler ask') (In g position b) t)
+      in_ends n ps _ _ position a b s t (same_here chain kept l m h g r u) x i = eval_ends c cr one two ask ask' ga gb respects n a b x n ps (record { levels = l; chain = chain; kept = kept; holder = h }) m g position s t u (grows_refl n) r i
 
-  below_goes : (i : ℕ) → AskGoes (below i)
-  below_goes i = record { goes = λ j s. goes j s (nat_lt (rank j s) i); plain = λ j s e. plain j s e (nat_lt (rank j s) i) }
-    where
-      goes : (j : Job) (s : State) (b : Bool) → GoesOn s (below_by b j s)
-      goes j s true = jobs_go.goes j s
-      goes j s false = record { goes = goes_refl s }
+      job_ends : (n : Names) (ps : List Place) (j k : Job) (s t : State) → SameJob n j k → Sides c (PlacesOf c j) n ps s t → EndsOf j n ps (walk_done (by the_compiler ask) j s) (walk_done (by the_compiler ask') k t)
+      job_ends n ps _ _ s t (same_run name l m h g p q a b vs ws r x y z v) i = walked_ends c cr one two ask ask' ga gb respects n ps l m h g p q a b vs ws s t r x y z v (record { like = i.like; places = i.places; ready = i.ready })
+      job_ends n ps _ _ s t (same_onward f g m k x y fr h r) i = onward n ps f g m k x y s t fr h r (record { like = i.like; places = i.places; ready = i.ready })
+      job_ends n ps _ _ s t (same_call name l m p q vs ws r x v) i = applied_ends c cr one two ask ask' ga gb respects n ps name l m p q vs ws s t r x v (record { like = i.like; places = i.places; ready = i.ready })
+      job_ends n ps _ _ s t (same_from h g a b d e x y z) i = from_ends n ps h g a b d e s t x y z (record { like = i.like; places = i.places; ready = i.ready })
+      job_ends n ps _ _ s t (same_in h g position a b x y) i = in_ends n ps h g position a b s t x y (record { like = i.like; places = i.places; ready = i.ready })
 
-      plain : (j : Job) (s : State) → is_statement j ≡ false → (b : Bool) → IsPlain (below_by b j s)
-      plain j s e true = jobs_go.plain j s e
-      plain j s e false = tt
+      walk_respects : (n : Names) (ps : List Place) (j : Job) (s : State) (k : Job) (t : State) → Starts c n ps j s k t → EndsOf j n ps (walk_done (by the_compiler ask) j s) (walk_done (by the_compiler ask') k t)
+      walk_respects n ps j s k t st = job_ends n ps j k s t st.same (record { like = st.like; places = st.places; ready = st.ready })
 
-  -- a run in which code runs agrees with the walk
-  pub jobs_agree : IsFuelEnough → Respects the_compiler (job the_compiler) (job the_compiler)
-  jobs_agree fuel = composed fuel jobs_go (λ l f held code vs s. one.code_goes (jobs the_compiler) (rec_goes the_compiler respects_compiler (job the_compiler) jobs_go) l f held code vs s) below_goes walks_agree (code_respects one two)
+  code_and_walk_respect : (ask ask' : Ask) → AskGoes ask → AskGoes ask' → Respects code_and_walk ask ask' → (n : Names) (ps : List Place) (j : Job) (s : State) (k : Job) (t : State) → Starts code_and_walk n ps j s k t → EndsOf j n ps (walk_done (by the_compiler ask) j s) (walk_done (by the_compiler ask') k t)
+  code_and_walk_respect ask ask' ga gb respects =
+      walk_respects code_and_walk ask ask' ga gb respects (λ n ps f g m k x y s t fr h r i. run_respects one two ask ask' ga gb respects n ps f g m k x y s t fr h r i.like i.places i.ready)
+
+  two_walks_respect : (ask ask' : Ask) → AskGoes ask → AskGoes ask' → Respects two_walks ask ask' → (n : Names) (ps : List Place) (j : Job) (s : State) (k : Job) (t : State) → Starts two_walks n ps j s k t → EndsOf j n ps (walk_done (by the_compiler ask) j s) (walk_done (by the_compiler ask') k t)
+  two_walks_respect ask ask' ga gb respects = walk_respects two_walks ask ask' ga gb respects (λ n ps f g m k x y s t fr h r i. absurd i.places)
+
+  module _ (jobs_go : AskGoes (job the_compiler)) where
+    below_goes : (i : ℕ) → AskGoes (below i)
+    below_goes i = record { goes = λ j s. goes j s (nat_lt (rank j s) i); plain = λ j s e. plain j s e (nat_lt (rank j s) i) }
+      where
+        goes : (j : Job) (s : State) (b : Bool) → GoesOn s (below_by b j s)
+        goes j s true = jobs_go.goes j s
+        goes j s false = record { goes = goes_refl s }
+
+        plain : (j : Job) (s : State) → is_statement j ≡ false → (b : Bool) → IsPlain (below_by b j s)
+        plain j s e true = jobs_go.plain j s e
+        plain j s e false = tt
+
+    -- a run in which code runs agrees with the walk
+    pub jobs_agree : IsFuelEnough → Respects code_and_walk (job the_compiler) (job the_compiler)
+    jobs_agree fuel = composed fuel jobs_go (λ l f held code vs s. one.code_goes (jobs the_compiler) (rec_goes the_compiler code_and_walk (no_compiler_respects code_and_walk) (job the_compiler) jobs_go) l f held code vs s) below_goes code_and_walk_respect (code_respects one two)
+
+    -- two walks agree, of which the left one may lack bindings
+    two_walks_agree : IsFuelEnough → Respects two_walks (job the_compiler) (job the_compiler)
+    two_walks_agree fuel = walks_composed two_walks fuel below_goes two_walks_respect (λ j s t w. walks_all j s w.0)
+
+    pub walks_agree : IsFuelEnough → WalksAgree
+    walks_agree fuel = record { job_ = agree; called_ = calls_agree }
+      where
+        start : (n : Names) (ps : List Place) (j : Job) (s : State) (k : Job) (t : State) → SameJob n j k → Like n ps s t → PlacesOf two_walks j ps → s.compilation.runs_code ≡ false → EventWithin t → Starts two_walks n ps j s k t
+        start n ps j s k t same like w code event = record { same = same; like = like; places = w; asked = tt; ready = (code, event) }
+
+        agree : (n : Names) (ps : List Place) (j : Job) (s : State) (k : Job) (t : State) → SameJob n j k → Like n ps s t → MayLack j ps → s.compilation.runs_code ≡ false → EventWithin t → Ends n ps (job the_compiler j s) (job the_compiler k t)
+        agree n ps (Run name l holder f held vs) s k t same like w code event = two_walks_agree fuel n ps _ s k t (start n ps _ s k t same like tt code event)
+        agree n ps (Onward f m c) s k t same like w code event = absurd w
+        agree n ps (Call_ name l f vs) s k t same like w code event = two_walks_agree fuel n ps _ s k t (start n ps _ s k t same like tt code event)
+        agree n ps (From here whole rest) s k t same like w code event = two_walks_agree fuel n ps _ s k t (start n ps _ s k t same like w code event)
+        agree n ps (In here position body) s k t same like w code event = two_walks_agree fuel n ps _ s k t (start n ps _ s k t same like w code event)
+
+        calls_agree : (n : Names) (ps : List Place) (i : ℕ) (l m : Levels) (vs ws : List Value) (s t : State) → Roomier l m → Each (SameValue n) vs ws → Like n ps s t → s.compilation.runs_code ≡ false → EventWithin t → Ends n ps (called (jobs the_compiler) i l vs s) (called (jobs the_compiler) i m ws t)
+        calls_agree n ps i l m vs ws s t r e like code event =
+            called_ends two_walks (no_compiler_respects two_walks) one two (job the_compiler) (job the_compiler) jobs_go jobs_go (two_walks_agree fuel) n ps i l m vs ws s t r e (record { like = like; places = tt; ready = (code, event) })

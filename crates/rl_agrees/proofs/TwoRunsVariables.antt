@@ -8,8 +8,8 @@ use Rattle.rl_meaning.specs.Errors.{fail, not_bindable, unbound}
 use Rattle.rl_meaning.specs.Events.{first_event}
 use Rattle.rl_meaning.specs.Opening.{state_of}
 use Rattle.rl_meaning.specs.Variables.{Nearest, nearest_from, is_local, strays, use_strays, top_value, used, variable, with_nearest, with_value, stray_of, assigned, assigned_by_name}
-use Rattle.rl_meaning.specs.TwoRunsValues.{Names, Maybe, nothing, just, SameValue, same_id, SameSymbol, same_symbol}
-use Rattle.rl_meaning.specs.TwoRunsStates.{Place, Both, Hidden, HiddenMark, SameEntry, same_binding, same_mark, Aligned, bottom, both, hidden, hidden_mark, Shown, Like}
+use Rattle.rl_meaning.specs.TwoRunsValues.{Names, Maybe, nothing, just, SameValue, same_id, SameSymbol, same_symbol, SamePointer}
+use Rattle.rl_meaning.specs.TwoRunsStates.{Place, Both, BothMark, Hidden, HiddenMark, Aligned, bottom, both, both_mark, hidden, hidden_mark, Shown, Like}
 use Rattle.rl_meaning.specs.TwoRunsEnds.{HasShown, Parted, by_event, done, parted, Ends}
 use Rattle.rl_agrees.proofs.TwoRunsGrowth.{grows_refl}
 use Rattle.rl_agrees.proofs.TwoRunsWays.{watched_like}
@@ -62,25 +62,25 @@ abbrev Deep : (Nearest → Bool) → Type 0
 Deep test = (w : Value) → test (local_at w true) ≡ true
 
 -- above it a use strays too, or nothing is hidden
-abbrev Covered : (Nearest → Bool) → Bool → List Place → List Entry → Type 0
-Covered test true ps ys = Unit {0}
-Covered test false ps ys = ((w : Value) → test (local_at w false) ≡ true) ⊎ Shown ps ys
+abbrev Covered : (Nearest → Bool) → Bool → List Place → Type 0
+Covered test true ps = Unit {0}
+Covered test false ps = ((w : Value) → test (local_at w false) ≡ true) ⊎ Shown ps
 
 module _ (test : Nearest → Bool) where
-  covered_behind : (c : Bool) (y : ℕ) (scope : Scope) (v : Value) (ps : List Place) (ys : List Entry) → Covered test c (Both ∷ ps) (Binding y scope v ∷ ys) → Covered test c ps ys
-  covered_behind true y scope v ps ys w = tt
-  covered_behind false y scope v ps ys (inl h) = inl h
-  covered_behind false y scope v ps ys (inr h) = inr h
+  covered_behind : (c : Bool) (ps : List Place) → Covered test c (Both ∷ ps) → Covered test c ps
+  covered_behind true ps w = tt
+  covered_behind false ps (inl h) = inl h
+  covered_behind false ps (inr h) = inr h
 
-  covered_hidden : (c : Bool) (y : ℕ) (v : Value) (ps : List Place) (xs ys : List Entry) → Covered test c (Hidden y v ∷ ps) xs → Covered test c ps ys
-  covered_hidden true y v ps xs ys w = tt
-  covered_hidden false y v ps xs ys (inl h) = inl h
-  covered_hidden false y v ps xs ys (inr h) = absurd h
+  covered_hidden : (c : Bool) (y : ℕ) (v : Value) (ps : List Place) → Covered test c (Hidden y v ∷ ps) → Covered test c ps
+  covered_hidden true y v ps w = tt
+  covered_hidden false y v ps (inl h) = inl h
+  covered_hidden false y v ps (inr h) = absurd h
 
-  hidden_strays : Deep test → (c : Bool) (y : ℕ) (v : Value) (ps : List Place) (ys : List Entry) → Covered test c (Hidden y v ∷ ps) ys → test (local_at v c) ≡ true
-  hidden_strays deep true y v ps ys w = deep v
-  hidden_strays deep false y v ps ys (inl h) = h v
-  hidden_strays deep false y v ps ys (inr h) = absurd h
+  hidden_strays : Deep test → (c : Bool) (y : ℕ) (v : Value) (ps : List Place) → Covered test c (Hidden y v ∷ ps) → test (local_at v c) ≡ true
+  hidden_strays deep true y v ps w = deep v
+  hidden_strays deep false y v ps (inl h) = h v
+  hidden_strays deep false y v ps (inr h) = absurd h
 
 module _ (test : Nearest → Bool) (deep : Deep test) (n : Names) (x : ℕ) where
   -- one more entry on top: a binding of another variable, or a mark
@@ -88,12 +88,12 @@ module _ (test : Nearest → Bool) (deep : Deep test) (n : Names) (x : ℕ) wher
       → SameNearest test n x (Both ∷ ps) (Binding y scope v ∷ xs) (Binding y scope w ∷ ys) o p
   binding_over c e y f scope v w ps xs ys _ _ h nowhere = nowhere
   binding_over c e y f scope v w ps xs ys _ _ h (missed o u below i) = missed o u below i
-  binding_over c e y f scope v w ps xs ys _ _ h (found s a b below below' i k) = found s a b below below' i (λ a b r. rw (f, e) (both _ _ ps _ _ (same_binding y scope v w h) (k a b r)))
+  binding_over c e y f scope v w ps xs ys _ _ h (found s a b below below' i k) = found s a b below below' i (λ a b r. rw (f, e) (both y scope v w ps _ _ h (k a b r)))
 
-  mark_over : (f g : Option Pointer) (ps : List Place) (xs ys : List Entry) (o p : Option Nearest) → SameEntry n (Mark f) (Mark g) → SameNearest test n x ps xs ys o p → SameNearest test n x (Both ∷ ps) (Mark f ∷ xs) (Mark g ∷ ys) o p
+  mark_over : (f g : Option Pointer) (ps : List Place) (xs ys : List Entry) (o p : Option Nearest) → Maybe (SamePointer n) f g → SameNearest test n x ps xs ys o p → SameNearest test n x (BothMark ∷ ps) (Mark f ∷ xs) (Mark g ∷ ys) o p
   mark_over f g ps xs ys _ _ h nowhere = nowhere
   mark_over f g ps xs ys _ _ h (missed o u below i) = missed o u below i
-  mark_over f g ps xs ys _ _ h (found s a b below below' i k) = found s a b below below' i (λ a b r. both _ _ ps _ _ h (k a b r))
+  mark_over f g ps xs ys _ _ h (found s a b below below' i k) = found s a b below below' i (λ a b r. both_mark f g ps _ _ h (k a b r))
 
   hidden_over : (y : ℕ) → (x == y) ≡ false → (v : Value) (ps : List Place) (xs ys : List Entry) (o p : Option Nearest) → SameNearest test n x ps xs ys o p → SameNearest test n x (Hidden y v ∷ ps) xs (Binding y Local v ∷ ys) o p
   hidden_over y f v ps xs ys _ _ nowhere = nowhere
@@ -107,7 +107,7 @@ module _ (test : Nearest → Bool) (deep : Deep test) (n : Names) (x : ℕ) wher
 
   binding_found : (b b' : Bool) (y : ℕ) (scope : Scope) (v w : Value) (ps : List Place) (xs ys : List Entry) (o p : Option Nearest) → SameValue n v w → Aligned n ps xs ys → SameNearest test n x ps xs ys o p → (c : Bool) → (x == y) ≡ c
       → SameNearest test n x (Both ∷ ps) (Binding y scope v ∷ xs) (Binding y scope w ∷ ys) (if c then Some (record { scope = scope; value = v; below = b }) else o) (if c then Some (record { scope = scope; value = w; below = b' }) else p)
-  binding_found b b' y scope v w ps xs ys o p h k r true e = found scope v w b b' h (λ a c r. rw e (both _ _ ps xs ys (same_binding y scope a c r) k))
+  binding_found b b' y scope v w ps xs ys o p h k r true e = found scope v w b b' h (λ a c r. rw e (both y scope a c ps xs ys r k))
   binding_found b b' y scope v w ps xs ys o p h k r false e = binding_over false refl y e scope v w ps xs ys o p h r
 
   hidden_found : (b : Bool) (y : ℕ) (v : Value) (ps : List Place) (xs ys : List Entry) (o p : Option Nearest) → test (local_at v b) ≡ true → SameNearest test n x ps xs ys o p → (c : Bool) → (x == y) ≡ c
@@ -115,13 +115,13 @@ module _ (test : Nearest → Bool) (deep : Deep test) (n : Names) (x : ℕ) wher
   hidden_found b y v ps xs ys o p h r true e = missed o v b h
   hidden_found b y v ps xs ys o p h r false e = hidden_over y e v ps xs ys o p r
 
-  nearest_same : (b c : Bool) (ps : List Place) (xs ys : List Entry) → Covered test c ps ys → Aligned n ps xs ys → SameNearest test n x ps xs ys (nearest_from b x xs) (nearest_from c x ys)
+  nearest_same : (b c : Bool) (ps : List Place) (xs ys : List Entry) → Covered test c ps → Aligned n ps xs ys → SameNearest test n x ps xs ys (nearest_from b x xs) (nearest_from c x ys)
   nearest_same b c _ _ _ w bottom = nowhere
-  nearest_same b c _ _ _ w (both _ _ ps xs ys (same_binding y scope v u h) k) = binding_found b c y scope v u ps xs ys _ _ h k (nearest_same b c ps xs ys (covered_behind test c y scope u ps ys w) k) (x == y) refl
-  nearest_same b c _ _ _ w (both _ _ ps xs ys (same_mark f g h) k) = mark_over f g ps xs ys _ _ (same_mark f g h) (nearest_same true true ps xs ys tt k)
+  nearest_same b c _ _ _ w (both y scope v u ps xs ys h k) = binding_found b c y scope v u ps xs ys _ _ h k (nearest_same b c ps xs ys (covered_behind test c ps w) k) (x == y) refl
+  nearest_same b c _ _ _ w (both_mark f g ps xs ys h k) = mark_over f g ps xs ys _ _ h (nearest_same true true ps xs ys tt k)
   nearest_same b c _ _ _ w (hidden_mark g ps xs ys k) = hidden_mark_over g ps xs ys _ _ (nearest_same b true ps xs ys tt k)
   nearest_same b c _ _ _ w (hidden y v ps xs ys k) =
-      hidden_found c y v ps xs ys _ _ (hidden_strays test deep c y v ps (Binding y Local v ∷ ys) w) (nearest_same b c ps xs ys (covered_hidden test c y v ps (Binding y Local v ∷ ys) ys w) k) (x == y) refl
+      hidden_found c y v ps xs ys _ _ (hidden_strays test deep c y v ps w) (nearest_same b c ps xs ys (covered_hidden test c y v ps w) k) (x == y) refl
 
 -- ---- use
 
@@ -146,7 +146,7 @@ used_ends n ps x xs ys _ _ s t (found scope v w below below' h k) l = done n v w
 used_ends n ps x xs ys _ _ s t (missed o w below h) l =
     parted _ _ (subst (λ b. Parted (used o x s) (Done w (strays b x t))) (sym h) (event_parts (Stray x) t (used o x s) (Done w (strays true x t)) (used_outside o x s ∙ l.outside) refl refl))
 
-pub variable_related : (n : Names) (ps : List Place) (x : ℕ) (s t : State) → Shown ps t.bindings → Like n ps s t → Ends n ps (variable x s) (variable x t)
+pub variable_related : (n : Names) (ps : List Place) (x : ℕ) (s t : State) → Shown ps → Like n ps s t → Ends n ps (variable x s) (variable x t)
 variable_related n ps x s t w l = used_ends n ps x _ _ _ _ s t (nearest_same use_strays (λ w. refl) n x false false ps s.bindings t.bindings (inr w) l.bindings) l
 
 -- ---- setting
@@ -177,7 +177,7 @@ constant_ends : (n : Names) (ps : List Place) (x : ℕ) (b : Bool) (s t : State)
 constant_ends n ps x true s t f g l h = fail_ends n ps not_bindable (Id x) (Id x) s t (same_id x) l
 constant_ends n ps x false s t f g l h = h
 
-pub assigned_related : (n : Names) (ps : List Place) (x : ℕ) (v w : Value) (s t : State) → SameValue n v w → Shown ps t.bindings → Like n ps s t → Ends n ps (assigned x v s) (assigned x w t)
+pub assigned_related : (n : Names) (ps : List Place) (x : ℕ) (v w : Value) (s t : State) → SameValue n v w → Shown ps → Like n ps s t → Ends n ps (assigned x v s) (assigned x w t)
 assigned_related n ps x v w s t r h l =
     constant_ends n ps x (is_constant x) s t _ _ l (set_ends use_strays n ps x v w s t _ _ (nearest_same use_strays (λ w. refl) n x false false ps s.bindings t.bindings (inr h) l.bindings) r l)
 

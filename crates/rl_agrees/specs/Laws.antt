@@ -1,17 +1,19 @@
--- Laws of one run: what was there stays, and only a statement of a PROG leaves by GO or RETURN. And the law of two runs: one in which code runs agrees with the walk of the same program (this project's).
+-- Laws of one run: what was there stays, and only a statement of a PROG leaves by GO or RETURN. And the laws of two runs: one in which code runs agrees with the walk of the same program, and so do two walks, of which one may lack local bindings (this project's).
 use Rattle.std.specs.Prelude.{◌≡◌, ℕ, false, List, Option}
 use Rattle.rl_tree.specs.Name.{Name}
+use Rattle.rl_tree.specs.Value.{Value}
 use Rattle.rl_meaning.specs.State.{State}
 use Rattle.rl_meaning.specs.Outcome.{Levels}
-use Rattle.rl_meaning.specs.Evaluation.{Job}
-use Rattle.rl_meaning.specs.Jobs.{job, the_compiler}
+use Rattle.rl_meaning.specs.Evaluation.{Job, called}
+use Rattle.rl_meaning.specs.Jobs.{job, jobs, the_compiler}
 use Rattle.rl_meaning.specs.Opening.{state_of}
 use Rattle.rl_meaning.specs.Run.{Ran, run_bytes, run_file}
-use Rattle.rl_meaning.specs.TwoRunsStates.{IsRoomier, Roomier}
-use Rattle.rl_meaning.specs.TwoRunsEnds.{HasShown, OneBegins}
+use Rattle.rl_meaning.specs.TwoRunsValues.{Names, Each, SameValue}
+use Rattle.rl_meaning.specs.TwoRunsStates.{Place, Like, IsRoomier, Roomier}
+use Rattle.rl_meaning.specs.TwoRunsEnds.{HasShown, OneBegins, Ends}
 use Rattle.rl_agrees.specs.Later.{Later}
 use Rattle.rl_agrees.specs.Leaving.{IsPlain, is_statement}
-use Rattle.rl_agrees.specs.TwoRunsJobs.{Ready}
+use Rattle.rl_agrees.specs.TwoRunsJobs.{EventWithin, SameJob, Ready, MayLack}
 use Rattle.rl_agrees.specs.TwoRunsRuns.{RunsAgree, HasRoom, HasNoEvent, SameRun, printed_first, noted_first, IsSound, running, walking}
 
 -- the state behind a job, and behind a run, is later than the one before
@@ -35,3 +37,11 @@ pub record CodeAgrees : Type 0 where
   pub front : (o p : Ran) → RunsAgree o p → HasNoEvent p → HasRoom p → HasShown o.state.outside.output o.state.outside.notes p.state.outside
   -- and in any case, of what the run does and what the walk does until its first event, one begins with the other
   pub either : (o p : Ran) → RunsAgree o p → OneBegins (printed_first p) o.state.outside.output × OneBegins (noted_first p) o.state.outside.notes
+
+-- two walks from states side by side, of which the left one may lack local bindings that code keeps in slots: they end side by side again, the same bindings lacking; or apart, where the right one has an event, or one of the two stopped for cells or levels
+pub record WalksAgree : Type 0 where
+  pub job_ : (n : Names) (ps : List Place) (j : Job) (s : State) (k : Job) (t : State) → SameJob n j k → Like n ps s t → MayLack j ps → s.compilation.runs_code ≡ false → EventWithin t
+      → Ends n ps (job the_compiler j s) (job the_compiler k t)
+  -- so does a function that is called by its name, which code does too
+  pub called_ : (n : Names) (ps : List Place) (i : ℕ) (l m : Levels) (vs ws : List Value) (s t : State) → Roomier l m → Each (SameValue n) vs ws → Like n ps s t → s.compilation.runs_code ≡ false → EventWithin t
+      → Ends n ps (called (jobs the_compiler) i l vs s) (called (jobs the_compiler) i m ws t)

@@ -1,4 +1,4 @@
--- When two jobs of two runs side by side are the same, when they may start, and how they end: the left run may run code, the right one walks all functions (this project's).
+-- When two jobs of two runs side by side are the same, and how they end: the left run may run code, the right one walks all functions (this project's).
 use Rattle.std.specs.Prelude.{◌≡◌, ◌≤◌, ◌<◌, ℕ, true, is_some, List, [], ◌∷◌, length, Option, Some}
 use Rattle.rl_tree.specs.Value.{Value}
 use Rattle.rl_meaning.specs.State.{State, Code, Coded, Kept, Held, Pointer, Tree, HeldFunction, Recorded}
@@ -9,7 +9,7 @@ use Rattle.rl_meaning.specs.Evaluation.{Position, Here, Bound, Machine, Frame, J
 use Rattle.rl_meaning.specs.Compiling.{Compiler}
 use Rattle.rl_meaning.specs.TwoRunsLinks.{Linked}
 use Rattle.rl_meaning.specs.TwoRunsValues.{Names, Maybe, Each, SameValue, SameTree, SameHeld, SamePointer, SameCode}
-use Rattle.rl_meaning.specs.TwoRunsStates.{Place, Both, Like, Roomier}
+use Rattle.rl_meaning.specs.TwoRunsStates.{Place, Both, BothMark, Shown, Roomier}
 use Rattle.rl_meaning.specs.TwoRunsEnds.{Ends}
 use Rattle.rl_meaning.specs.Right.{Stood, AllAsTheyStood, Right}
 use Rattle.rl_agrees.specs.Later.{Later, IsIn}
@@ -26,6 +26,7 @@ pub record Goes (s t : State) : Type 0 where
   pub later : Later s t
   pub within : EventWithin s → EventWithin t
   pub bounded : is_some s.counts.cells ≡ is_some t.counts.cells
+  pub runs_code : s.compilation.runs_code ≡ t.compilation.runs_code
 
 -- ---- jobs
 
@@ -80,14 +81,16 @@ IsOfState j t = Unit {0}
 abbrev pub IsWhole : List Place → Type 0
 IsWhole [] = Unit {0}
 IsWhole (Both ∷ ps) = IsWhole ps
+IsWhole (BothMark ∷ ps) = IsWhole ps
 IsWhole (p ∷ ps) = ⊥
 
-pub record Starts (compiler : Compiler) (n : Names) (ps : List Place) (j : Job) (s : State) (k : Job) (t : State) : Type 0 where
-  pub same : SameJob n j k
-  pub like : Like n ps s t
-  pub whole : IsWhole ps
-  pub of_state : IsOfState k t
-  pub ready : Ready compiler t
+-- what two walks ask of the places: where a function begins, nothing, as it pushes a mark over them; where a form is walked, that no binding is lacking above the newest mark. No code goes on
+abbrev pub MayLack : Job → List Place → Type 0
+MayLack (Run name l holder f held vs) ps = Unit {0}
+MayLack (Onward f m code) ps = ⊥
+MayLack (Call_ name l f vs) ps = Unit {0}
+MayLack (From here whole rest) ps = Shown ps
+MayLack (In here position body) ps = Shown ps
 
 -- code that goes on may leave other bindings, of which all are there on both sides
 pub record EndsSomewhere (n : Names) (o p : Outcome Value) : Type 0 where

@@ -1,5 +1,5 @@
 //! Laws of one run, and of two. A law is the contract of a function that does nothing.
-ghost use Rattle.rl_agrees.specs.Laws.{RunsGoOn, OnlyStatementsLeave, CodeAgrees};
+ghost use Rattle.rl_agrees.specs.Laws.{RunsGoOn, OnlyStatementsLeave, CodeAgrees, WalksAgree};
 ghost use Rattle.rl_agrees.specs.Expanding.{PlainExpandsAlone};
 
 /// The state behind a job, and behind a run, is later than the one before: what was printed and noted, the first event, functions and noted changes stay, and the codes that are left stand.
@@ -20,6 +20,13 @@ pub fn plain_expansions_stand_alone()
 /// A run in which code runs agrees with the walk of the same program, where each code is right: the same endings, output, notes, input and turns until the walk's first event, and of what they show until one stops for cells or levels one begins with the other.
 pub fn code_agrees()
     ensures { CodeAgrees }
+{
+    rl_meaning::laws::fuel_is_enough();
+}
+
+/// Two walks from states side by side agree, of which the left one may lack local bindings that code keeps in slots: where a form is walked, none above the newest mark.
+pub fn walks_agree()
+    ensures { WalksAgree }
 {
     rl_meaning::laws::fuel_is_enough();
 }

@@ -1,0 +1,5 @@
+use Rattle.rl_agrees.proofs.TwoRunsGiven.{walks_agree}
+use Rattle.rl_agrees.proofs.laws.walks_agree.Goals as goal
+
+pub returns : goal.returns
+returns c = walks_agree c.fuel_is_enough.ensures
