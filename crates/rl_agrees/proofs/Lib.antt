@@ -61,3 +61,6 @@ mod TwoRunsMachine
 mod TwoRunsMixed
 mod TwoRunsGiven
 mod TwoRunsLoop
+mod IdentityCode
+mod IdentityState
+mod IdentitySound

@@ -1,6 +1,7 @@
 //! Laws of one run, and of two. A law is the contract of a function that does nothing.
 ghost use Rattle.rl_agrees.specs.Laws.{RunsGoOn, OnlyStatementsLeave, CodeAgrees};
 ghost use Rattle.rl_agrees.specs.Expanding.{PlainExpandsAlone};
+ghost use Rattle.rl_agrees.specs.Identity.{ACodeIsRight};
 
 /// The state behind a job, and behind a run, is later than the one before: what was printed and noted, the first event, functions and noted changes stay, and the codes that are left stand.
 pub fn runs_go_on()
@@ -23,3 +24,8 @@ pub fn code_agrees()
 {
     rl_meaning::laws::fuel_is_enough();
 }
+
+/// There is code that is right, that of the identity; and a sound state in which it runs, and in which each code is right and rests on what stands.
+pub fn a_code_is_right()
+    ensures { ACodeIsRight }
+{}
