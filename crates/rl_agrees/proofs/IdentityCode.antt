@@ -58,6 +58,11 @@ inside_done v kept x p s free =
     ∙ ap (λ u. Done v (with_oldest (length s.bindings) u)) (binding_gone t x v)
     ∙ ap (λ u. Done v u) (mark_gone s p)
 
+-- with no bound the walk has the argument for its value
+pub walk_unbounded : (c : Compiler) (kept : List Kept) (x : ℕ) (p : Pointer) (v : Value) (s : State) → IsFree kept x → walked (jobs c) None p.function (Some p) (identity_of x kept) (v ∷ []) s ≡ Done v s
+unfolding walk_inside
+walk_unbounded c kept x p v s free = inside_done v kept x p s free
+
 module _ (c : Compiler) (i x : ℕ) (p : Pointer) (kept : List Kept) (free : IsFree kept x) where
   abbrev held : Held
   held = identity_of x kept

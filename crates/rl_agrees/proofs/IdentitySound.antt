@@ -18,8 +18,8 @@ use Rattle.rl_meaning.specs.TwoRunsValues.{Names, Maybe, nothing, just, Each, en
 use Rattle.rl_meaning.specs.TwoRunsStates.{bottom}
 use Rattle.rl_agrees.specs.TwoRunsJobs.{Ready}
 use Rattle.rl_agrees.specs.TwoRunsRuns.{names_of, IsSound, running}
-use Rattle.rl_agrees.specs.Identity.{identity_of, identity_code, identity_pointer, identity_name, identity_kept, identity_symbol, identity_state, ACodeIsRight}
-use Rattle.rl_agrees.proofs.IdentityCode.{itself_equal, identity_right}
+use Rattle.rl_agrees.specs.Identity.{identity_of, identity_code, identity_pointer, identity_name, identity_kept, identity_symbol, identity_state}
+use Rattle.rl_agrees.proofs.IdentityCode.{itself_equal}
 use Rattle.rl_agrees.proofs.IdentityState.{ready_with, linked_itself, sound_with}
 
 -- ---- the symbols of opening
@@ -98,21 +98,21 @@ last_at [] f = refl
 last_at (g ∷ fs) f = last_at fs f
 
 -- before the code comes
-before : ℕ → State
+unfoldable pub before : ℕ → State
 before x = record (with_function (HeldFunction (identity_of x (identity_kept x))) bare_state) { symbols = bare_state.symbols ++ identity_symbol ∷ [] }
 
-before_function : (x : ℕ) → function_at (before x) identity_pointer ≡ HeldFunction (identity_of x (identity_kept x))
+pub before_function : (x : ℕ) → function_at (before x) identity_pointer ≡ HeldFunction (identity_of x (identity_kept x))
 unfolding before
 before_function x = last_at bare_state.functions (HeldFunction (identity_of x (identity_kept x)))
 
-kept_plain : (x : ℕ) → kept_kind (identity_kept x) x ≡ Plain
+pub kept_plain : (x : ℕ) → kept_kind (identity_kept x) x ≡ Plain
 kept_plain x = ap (λ b. if b then Plain else Plain) (itself_equal x)
 
 before_ready : (c : Compiler) (x : ℕ) → Ready c (before x)
 unfolding before bare_state
 before_ready c x = record { codes = λ y h. absurd (elim h [ ]); event = record { printed = λ r e. absurd (cc); noted = λ r e. absurd (cc) } }
 
-before_sound : (x : ℕ) → IsSound (before x)
+pub before_sound : (x : ℕ) → IsSound (before x)
 unfolding before bare_state LinkedTo
 before_sound x =
     let count : ℕ = length (filter_map system_function opening_names) in
@@ -131,17 +131,17 @@ before_sound x =
     named : SameSymbol (names_of (before x)) identity_symbol identity_symbol
     named = same_symbol _ true false Plain None None nil nil _ _ nothing (same_id nil_id) (just _ _ (same_definition _ identity_pointer identity_pointer (same_pointer _ _ 0 (linked_itself _ _ (omega (arith, length-append (filter_map system_function opening_names) (HeldFunction (identity_of x (identity_kept x)) ∷ [])))))))
 
-ready_state : (c : Compiler) (x : ℕ) → is_constant x ≡ false → Ready c (identity_state x)
+pub ready_state : (c : Compiler) (x : ℕ) → is_constant x ≡ false → Ready c (identity_state x)
 unfolding before
 ready_state c x e = ready_with c (before x) identity_name x identity_pointer (identity_kept x) (record { constant = e; plain = kept_plain x }) (before_function x) (before_ready c x)
 
-sound_state : (x : ℕ) → IsSound (identity_state x)
+pub sound_state : (x : ℕ) → IsSound (identity_state x)
 unfolding before
 sound_state x = sound_with (before x) identity_name x identity_pointer (identity_kept x) (before_function x) (before_sound x)
 
 -- ---- the code runs
 
-code_runs : (x : ℕ) → code_of (Some identity_name) (Some identity_pointer) (running (identity_state x)) ≡ Some (identity_code identity_name)
+pub code_runs : (x : ℕ) → code_of (Some identity_name) (Some identity_pointer) (running (identity_state x)) ≡ Some (identity_code identity_name)
 unfolding bare_state
 code_runs x = both (identity_name == identity_name) (length bare_state.functions == length bare_state.functions) (itself_equal identity_name) (itself_equal (length bare_state.functions))
   where
@@ -149,6 +149,3 @@ code_runs x = both (identity_name == identity_name) (length bare_state.functions
     both true true e h = refl
     both true false e h = absurd (cc)
     both false d e h = absurd (cc)
-
-pub a_code_is_right : ACodeIsRight
-a_code_is_right = record { right = λ c lowered i x p kept free. identity_right c i x p kept free lowered; ready = ready_with; sound = sound_with; ready_state = ready_state; sound_state = sound_state; runs = code_runs }

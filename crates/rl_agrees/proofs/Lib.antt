@@ -64,3 +64,4 @@ mod TwoRunsLoop
 mod IdentityCode
 mod IdentityState
 mod IdentitySound
+mod IdentityWrong

@@ -3,9 +3,9 @@ use Rattle.std.specs.Prelude.{◌≡◌, ℕ, true, false, List, [], ◌∷◌, 
 use Rattle.rl_tree.specs.Value.{Id}
 use Rattle.rl_tree.specs.declared.held.Kind.TheVariants.{Expr}
 use Rattle.rl_tree.specs.declared.held.VarKind.TheVariants.{Plain}
-use Rattle.rl_meaning.specs.CMacros.{Entry, Exit}
+use Rattle.rl_meaning.specs.CMacros.{Constant, Entry, Load, Exit}
 use Rattle.rl_meaning.specs.State.{State, Code, Coded, Kept, Held, Pointer, Symbol, Atom, HeldFunction}
-use Rattle.rl_meaning.specs.Symbols.{is_constant, new_symbol}
+use Rattle.rl_meaning.specs.Symbols.{nil, is_constant, new_symbol}
 use Rattle.rl_meaning.specs.Holding.{kept_kind, pointer_to, function_at, with_function}
 use Rattle.rl_meaning.specs.Compiling.{Compiler}
 use Rattle.rl_meaning.specs.Jobs.{code_of}
@@ -25,6 +25,10 @@ identity_code i = Entry i 1 ∷ Exit ∷ []
 -- the code of this name, which rests on nothing
 abbrev pub identity_coded : ℕ → Pointer → Coded
 identity_coded i p = record { name = i; function = p; code = identity_code i; dependencies = []; loaded = false }
+
+-- code that leaves NIL, whatever the argument is
+abbrev pub nil_coded : ℕ → Pointer → Coded
+nil_coded i p = record { name = i; function = p; code = Entry i 1 ∷ Load 1 (Constant nil) ∷ Exit ∷ []; dependencies = []; loaded = false }
 
 abbrev pub with_code : Coded → State → State
 with_code c s = record s { compilation = record s.compilation { coded = c ∷ s.compilation.coded } }
@@ -60,3 +64,5 @@ pub record ACodeIsRight : Type 0 where
   pub ready_state : (c : Compiler) (x : ℕ) → is_constant x ≡ false → Ready c (identity_state x)
   pub sound_state : (x : ℕ) → IsSound (identity_state x)
   pub runs : (x : ℕ) → code_of (Some identity_name) (Some identity_pointer) (running (identity_state x)) ≡ Some (identity_code identity_name)
+  -- and not all code is right
+  pub wrong : (c : Compiler) (lowered : State) (x : ℕ) → is_constant x ≡ false → Right c lowered (nil_coded identity_name identity_pointer) (identity_of x (identity_kept x)) [] → ⊥

@@ -25,7 +25,7 @@ pub fn code_agrees()
     rl_meaning::laws::fuel_is_enough();
 }
 
-/// There is code that is right, that of the identity; and a sound state in which it runs, and in which each code is right and rests on what stands.
+/// There is code that is right, that of the identity, and code that is not; and there is a sound state in which right code runs, and in which all that is asked of a state is so.
 pub fn a_code_is_right()
     ensures { ACodeIsRight }
 {}

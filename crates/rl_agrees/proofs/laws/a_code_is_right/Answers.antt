@@ -1,4 +1,4 @@
-use Rattle.rl_agrees.proofs.IdentitySound.{a_code_is_right}
+use Rattle.rl_agrees.proofs.IdentityWrong.{a_code_is_right}
 use Rattle.rl_agrees.proofs.laws.a_code_is_right.Goals as goal
 
 pub returns : goal.returns
