@@ -16,12 +16,11 @@ use Rattle.rl_meaning.specs.TwoRunsStates.{Place, all_both}
 use Rattle.rl_meaning.specs.TwoRunsEnds.{Related, done, failed, went, returned, stopped, parted}
 use Rattle.rl_meaning.specs.Right.{Leaves, at_event, at_bound, AgreesWith, Knows, Right}
 use Rattle.rl_agrees.specs.TwoRunsRuns.{names_of, running, walking}
-use Rattle.rl_agrees.specs.Identity.{identity_of, identity_pointer, identity_name, identity_kept, nil_coded, ACodeIsRight}
+use Rattle.rl_agrees.specs.Identity.{identity_of, identity_pointer, identity_name, identity_kept, nil_coded}
 use Rattle.rl_agrees.proofs.TwoRunsKnown.{names_on_right, knows, all_both_whole}
 use Rattle.rl_agrees.proofs.TwoRunsLoop.{begins_like}
-use Rattle.rl_agrees.proofs.IdentityCode.{walk_unbounded, identity_right}
-use Rattle.rl_agrees.proofs.IdentityState.{ready_with, sound_with}
-use Rattle.rl_agrees.proofs.IdentitySound.{before, before_function, before_sound, kept_plain, ready_state, sound_state, code_runs}
+use Rattle.rl_agrees.proofs.IdentityCode.{walk_unbounded}
+use Rattle.rl_agrees.proofs.IdentitySound.{before, before_function, before_sound, kept_plain}
 
 -- ---- two ends that are not alike
 
@@ -74,18 +73,7 @@ here_agrees : (c : Compiler) (lowered : State) (x : ℕ) → Right c lowered (ni
 unfolding here before bare_state
 here_agrees c lowered x right = right.agrees (names_on_right (names_of (before x))) None (truth_value ∷ []) (here x) (here_known x) refl (here_function x) refl refl refl tt
 
-nil_wrong : (c : Compiler) (lowered : State) (x : ℕ) → is_constant x ≡ false → Right c lowered (nil_coded identity_name identity_pointer) (identity_of x (identity_kept x)) [] → ⊥
+pub nil_wrong : (c : Compiler) (lowered : State) (x : ℕ) → is_constant x ≡ false → Right c lowered (nil_coded identity_name identity_pointer) (identity_of x (identity_kept x)) [] → ⊥
 unfolding here before bare_state
 nil_wrong c lowered x e right =
     ends_differ _ _ _ _ _ (here x) (here_agrees c lowered x right).ends refl (walk_unbounded c (identity_kept x) x identity_pointer truth_value (here x) (record { constant = e; plain = kept_plain x })) refl
-
-pub a_code_is_right : ACodeIsRight
-a_code_is_right = record {
-  right = λ c lowered i x p kept free. identity_right c i x p kept free lowered;
-  ready = ready_with;
-  sound = sound_with;
-  ready_state = ready_state;
-  sound_state = sound_state;
-  runs = code_runs;
-  wrong = nil_wrong;
-}

@@ -65,3 +65,4 @@ mod IdentityCode
 mod IdentityState
 mod IdentitySound
 mod IdentityWrong
+mod IdentityLaw

@@ -1,18 +1,21 @@
 -- A function with code that is right, the identity, and a state that has it: so what is asked of codes can be met (this project's).
-use Rattle.std.specs.Prelude.{◌≡◌, ℕ, true, false, List, [], ◌∷◌, ◌++◌, length, codes, Some}
+use Rattle.std.specs.Prelude.{◌≡◌, ℕ, true, false, List, [], ◌∷◌, ◌++◌, length, codes, Option, Some}
 use Rattle.rl_tree.specs.Value.{Id}
 use Rattle.rl_tree.specs.declared.held.Kind.TheVariants.{Expr}
 use Rattle.rl_tree.specs.declared.held.VarKind.TheVariants.{Plain}
 use Rattle.rl_meaning.specs.CMacros.{Constant, Entry, Load, Exit}
 use Rattle.rl_meaning.specs.State.{State, Code, Coded, Kept, Held, Pointer, Symbol, Atom, HeldFunction}
+use Rattle.rl_meaning.specs.Outcome.{Levels}
 use Rattle.rl_meaning.specs.Symbols.{nil, is_constant, new_symbol}
 use Rattle.rl_meaning.specs.Holding.{kept_kind, pointer_to, function_at, with_function}
 use Rattle.rl_meaning.specs.Compiling.{Compiler}
 use Rattle.rl_meaning.specs.Jobs.{code_of}
 use Rattle.rl_meaning.specs.Opening.{bare_state}
+use Rattle.rl_meaning.specs.Run.{run_bytes}
 use Rattle.rl_meaning.specs.Right.{Right}
+use Rattle.rl_meaning.specs.TwoRunsStates.{Roomier}
 use Rattle.rl_agrees.specs.TwoRunsJobs.{Ready}
-use Rattle.rl_agrees.specs.TwoRunsRuns.{IsSound, running}
+use Rattle.rl_agrees.specs.TwoRunsRuns.{RunsAgree, IsSound, running, walking}
 
 -- (LAMBDA (X) X)
 abbrev pub identity_of : ℕ → List Kept → Held
@@ -64,5 +67,7 @@ pub record ACodeIsRight : Type 0 where
   pub ready_state : (c : Compiler) (x : ℕ) → is_constant x ≡ false → Ready c (identity_state x)
   pub sound_state : (x : ℕ) → IsSound (identity_state x)
   pub runs : (x : ℕ) → code_of (Some identity_name) (Some identity_pointer) (running (identity_state x)) ≡ Some (identity_code identity_name)
+  -- so of each program that starts in it, the run with code agrees with the walk
+  pub agrees : (x : ℕ) (l m : Levels) (cells : Option ℕ) (source : List ℕ) → is_constant x ≡ false → Roomier l m → RunsAgree (run_bytes l source (running (identity_state x))) (run_bytes m source (walking cells (identity_state x)))
   -- and not all code is right
   pub wrong : (c : Compiler) (lowered : State) (x : ℕ) → is_constant x ≡ false → Right c lowered (nil_coded identity_name identity_pointer) (identity_of x (identity_kept x)) [] → ⊥

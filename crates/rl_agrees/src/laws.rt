@@ -25,7 +25,9 @@ pub fn code_agrees()
     rl_meaning::laws::fuel_is_enough();
 }
 
-/// There is code that is right, that of the identity, and code that is not; and there is a sound state in which right code runs, and in which all that is asked of a state is so.
+/// There is code that is right, that of the identity, and code that is not; and there is a sound state in which right code runs, and from which each run with code agrees with the walk.
 pub fn a_code_is_right()
     ensures { ACodeIsRight }
-{}
+{
+    code_agrees();
+}
