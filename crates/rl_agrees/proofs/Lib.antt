@@ -62,3 +62,8 @@ mod TwoRunsMachine
 mod TwoRunsMixed
 mod TwoRunsGiven
 mod TwoRunsLoop
+mod IdentityCode
+mod IdentityState
+mod IdentitySound
+mod IdentityWrong
+mod IdentityLaw

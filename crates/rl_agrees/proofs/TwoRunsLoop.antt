@@ -250,7 +250,7 @@ same_expansion : (e : Option Expansion) → SameExpansion e e
 same_expansion None = same_none
 same_expansion (Some e) = same_open e
 
-begins_like : (s : State) (cells : Option ℕ) → IsSound s → IsRoomier s.counts.cells cells → Like (names_of s) (all_both s.bindings) (running s) (walking cells s)
+pub begins_like : (s : State) (cells : Option ℕ) → IsSound s → IsRoomier s.counts.cells cells → Like (names_of s) (all_both s.bindings) (running s) (walking cells s)
 begins_like s cells h r = record {
   store = record { once = itself_once (length s.store); within = itself_within (length s.store); is = itself_gets _ (length s.store) s.store h.objects };
   functions = record { once = itself_once (length s.functions); within = itself_within (length s.functions); is = itself_gets _ (length s.functions) s.functions h.functions };

@@ -20,7 +20,7 @@ index_in (x ∷ xs) ys (suc i) h = index_in xs ys i (omega (arith, h))
 index_in [] ys i h = absurd (omega (arith, h))
 
 -- past the last there is no held function
-held_within : (xs : List Function) (i place : ℕ) (held : Held) → function_in (slice_index_or xs i no_function) place ≡ HeldFunction held → i < length xs
+pub held_within : (xs : List Function) (i place : ℕ) (held : Held) → function_in (slice_index_or xs i no_function) place ≡ HeldFunction held → i < length xs
 held_within [] i zero held e = absurd (cc)
 held_within [] i (suc place) held e = absurd (cc)
 held_within (x ∷ xs) zero place held e = omega arith

@@ -3,4 +3,5 @@ pub mod Leaving
 pub mod Expanding
 pub mod TwoRunsJobs
 pub mod TwoRunsRuns
+pub mod Identity
 pub mod Laws

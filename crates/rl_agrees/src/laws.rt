@@ -1,6 +1,7 @@
 //! Laws of one run, and of two. A law is the contract of a function that does nothing.
 ghost use Rattle.rl_agrees.specs.Laws.{RunsGoOn, OnlyStatementsLeave, CodeAgrees, WalksAgree};
 ghost use Rattle.rl_agrees.specs.Expanding.{PlainExpandsAlone};
+ghost use Rattle.rl_agrees.specs.Identity.{ACodeIsRight};
 
 /// The state behind a job, and behind a run, is later than the one before: what was printed and noted, the first event, functions and noted changes stay, and the codes that are left stand.
 pub fn runs_go_on()
@@ -29,4 +30,11 @@ pub fn walks_agree()
     ensures { WalksAgree }
 {
     rl_meaning::laws::fuel_is_enough();
+}
+
+/// There is code that is right, that of the identity, and code that is not; and there is a sound state in which right code runs, and from which each run with code agrees with the walk.
+pub fn a_code_is_right()
+    ensures { ACodeIsRight }
+{
+    code_agrees();
 }
