@@ -1,16 +1,5 @@
-mod Runs
 mod Rows
-mod RowsNatives
-mod RowsForms
-mod RowsConstants
-mod RowsCounts
-mod RowsPrinting
-mod RowsPrelude
-mod RowsExamples
-mod RowsCode
-mod RowsLinks
 mod RowsCoded
-mod RowsFunctions
 mod Spending
 mod SpendingObjects
 mod SpendingWalks

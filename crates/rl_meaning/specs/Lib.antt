@@ -35,3 +35,4 @@ pub mod Right
 pub mod Tidy
 pub mod Run
 pub mod Laws
+pub mod Seen

@@ -13,7 +13,7 @@ use Rattle.rl_meaning.specs.Symbols.{nil}
 use Rattle.rl_meaning.specs.Jobs.{job}
 use Rattle.rl_meaning.specs.Opening.{bare_state}
 use Rattle.rl_meaning.specs.Run.{Stops}
-use Rattle.rl_meaning.proofs.Runs.{Seen, run_from, lines, of_name, part_of, Written, after, after_with_code, seen_from, printed_from, both_ways, twice, finished}
+use Rattle.rl_meaning.specs.Seen.{Seen, run_from, lines, of_name, part_of, Written, after, after_with_code, seen_from, printed_from, both_ways, twice, finished}
 
 -- ---- copies
 

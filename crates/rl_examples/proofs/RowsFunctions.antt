@@ -14,7 +14,7 @@ use Rattle.rl_meaning.specs.Holding.{pointer_value}
 use Rattle.rl_meaning.specs.Jobs.{job}
 use Rattle.rl_meaning.specs.Opening.{bare_state}
 use Rattle.rl_meaning.specs.Run.{Ending, Finished, Stops}
-use Rattle.rl_meaning.proofs.Runs.{run, printed, bounds_of_levels, lines, of_name, function_of, part_of, after, printed_from, both_ways, twice, finished}
+use Rattle.rl_meaning.specs.Seen.{run, printed, bounds_of_levels, lines, of_name, function_of, part_of, after, printed_from, both_ways, twice, finished}
 
 -- ---- one function pointer for each place in a held body
 

@@ -1,0 +1,10 @@
+mod RowsNatives
+mod RowsForms
+mod RowsConstants
+mod RowsCounts
+mod RowsPrinting
+mod RowsPrelude
+mod RowsExamples
+mod RowsCode
+mod RowsLinks
+mod RowsFunctions
