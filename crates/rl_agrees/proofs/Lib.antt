@@ -40,6 +40,8 @@ mod OneRunLater
 mod OneRunQuiet
 mod OneRunGoes
 mod OneRunLaws
+mod OneRunWalking
+mod OneRunMarks
 mod PlainWays
 mod PlainObjects
 mod PlainNatives

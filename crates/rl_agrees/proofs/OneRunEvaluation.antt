@@ -15,6 +15,7 @@ use Rattle.rl_meaning.specs.Atoms.{proper}
 use Rattle.rl_meaning.specs.Natives.{argument}
 use Rattle.rl_meaning.specs.Evaluation.{Position, Statement, Inside, Here, Job, Run, Onward, Call_, From, In, Rec, longest_chain, bad_form, misplaced_at, deeper_here, kind_of_definition, with_expansion, closed, print_unless_nil, caught, Target, Function_, Lambda, Undefined, WrongType, target_of, with_arguments, held_applied, form_evaluated, evaluated, errorset, list_applied, applied_to, apply_target, apply, native_applied, counted, called_as, function_applied, applied, name_applied, called, fexpr_called, expansion_of, expanded_body, macro_called, in_chain, jumped, in_prog, function_defined, define_function, going, quoted, function_named}
 use Rattle.rl_meaning.specs.Compiling.{Compiler, no_compiler}
+use Rattle.rl_agrees.specs.Heads.{IsWalk}
 use Rattle.rl_agrees.proofs.OneRun.{StepsAt, Prints, Follows, LeadsAt, Moves, Leads, follows_same, follows_then, leads_from, anywhere, done_leads, failed_leads, went_leads, returned_leads, stopped_leads, then_leads, turn_leads, deeper_leads}
 use Rattle.rl_agrees.proofs.OneRunObjects.{leading, fail_leads, reading_follows, reading_pair_follows}
 use Rattle.rl_agrees.proofs.OneRunHolding.{hold_form_leads, hold_expansion_leads, elements_lead, copied_leads, hold_part_leads}
@@ -38,14 +39,6 @@ position_of (Run name levels holder f held vs) = Inside
 position_of (Onward f m code) = Inside
 position_of (Call_ name levels f vs) = Inside
 position_of (From here whole rest) = Inside
-
--- code from a label on is asked for only by c-macros
-abbrev pub IsWalk : Job → Type 0
-IsWalk (Onward f m code) = ⊥
-IsWalk (Run name levels holder f held vs) = Unit {0}
-IsWalk (Call_ name levels f vs) = Unit {0}
-IsWalk (From here whole rest) = Unit {0}
-IsWalk (In here position body) = Unit {0}
 
 -- the jobs that are asked for lead: all, or where no code runs those of a walk
 abbrev pub AsksLead : Bool → (State → State → Type 0) → Rec → Type 0

@@ -11,6 +11,7 @@ use Rattle.rl_meaning.specs.TwoRunsStates.{IsRoomier, Roomier}
 use Rattle.rl_meaning.specs.TwoRunsEnds.{HasShown, OneBegins}
 use Rattle.rl_agrees.specs.Later.{Later}
 use Rattle.rl_agrees.specs.Leaving.{IsPlain, is_statement}
+use Rattle.rl_agrees.specs.Heads.{IsWalk, IsBelow}
 use Rattle.rl_agrees.specs.TwoRunsJobs.{Ready}
 use Rattle.rl_agrees.specs.TwoRunsRuns.{RunsAgree, HasRoom, HasNoEvent, SameRun, printed_first, noted_first, IsSound, running, walking}
 
@@ -22,6 +23,10 @@ pub record RunsGoOn : Type 0 where
 
 pub record OnlyStatementsLeave : Type 0 where
   pub plain : (j : Job) (s : State) → is_statement j ≡ false → IsPlain (job the_compiler j s)
+
+-- where all functions are walked, bindings and marks stay below what a job binds, whatever it comes to
+pub record MarksStay : Type 0 where
+  pub below : (j : Job) (s : State) → IsWalk j → s.compilation.runs_code ≡ false → IsBelow s (state_of (job the_compiler j s))
 
 pub record CodeAgrees : Type 0 where
   -- from one sound state in which each code is right and rests on what stands, over one source; where both have a bound, that of the walk is no wider

@@ -1,5 +1,5 @@
 //! Laws of one run, and of two. A law is the contract of a function that does nothing.
-ghost use Rattle.rl_agrees.specs.Laws.{RunsGoOn, OnlyStatementsLeave, CodeAgrees};
+ghost use Rattle.rl_agrees.specs.Laws.{RunsGoOn, OnlyStatementsLeave, MarksStay, CodeAgrees};
 ghost use Rattle.rl_agrees.specs.Expanding.{PlainExpandsAlone};
 
 /// The state behind a job, and behind a run, is later than the one before: what was printed and noted, the first event, functions and noted changes stay, and the codes that are left stand.
@@ -10,6 +10,11 @@ pub fn runs_go_on()
 /// Only a statement of a PROG leaves by GO or RETURN.
 pub fn only_statements_leave()
     ensures { OnlyStatementsLeave }
+{}
+
+/// Where all functions are walked, the bindings and marks before a job stay below those that it leaves; only values of bindings change.
+pub fn marks_stay()
+    ensures { MarksStay }
 {}
 
 /// Where two runs stand side by side, an expansion of a plain macro in the right one leaves them so.
