@@ -42,6 +42,7 @@ mod OneRunGoes
 mod OneRunLaws
 mod OneRunWalking
 mod OneRunMarks
+mod HeadsReach
 mod PlainWays
 mod PlainObjects
 mod PlainNatives
