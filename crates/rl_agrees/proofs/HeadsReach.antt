@@ -8,7 +8,7 @@ use Rattle.std.proofs.lemmas.Bool.Decides.{eqb_tells}
 use Rattle.rl_tree.specs.Value.{Store, Id}
 use Rattle.rl_tree.specs.declared.held.Kind.{Kind}
 use Rattle.rl_meaning.specs.State.{State, Symbol, Tree, Atom, Quoted, Pair, Literal, Kept, Held, Pointer, Definition, Function, SpecialForm, NativeFunction, HeldFunction}
-use Rattle.rl_meaning.specs.Symbols.{nil, nil_id, progn_id, new_symbol, symbol_at}
+use Rattle.rl_meaning.specs.Symbols.{t_id, nil, nil_id, progn_id, new_symbol, symbol_at}
 use Rattle.rl_meaning.specs.Constants.{values_in, size_of, objects_within}
 use Rattle.rl_meaning.specs.Holding.{when, function_id, nodes_in, either_part, part_of_literal, part_at, body_of, forms_of, function_part, no_function, function_in, function_at}
 use Rattle.rl_meaning.specs.Reach.{identifier_in, value_identifiers, tree_mentions, Reached, same_bool, is_reached, all_through, body_mentions, is_opened, opened_names, reach_within, body_size, reach_bound, reach_of}
@@ -58,6 +58,15 @@ reached_self x xs = or_first _ _ (same_self x.name x.through)
 pub reached_behind : (x : Reached) (xs ys : List Reached) → is_reached x ys ≡ true → is_reached x (xs ++ ys) ≡ true
 reached_behind x [] ys h = h
 reached_behind x (y ∷ xs) ys h = or_second _ _ (reached_behind x xs ys h)
+
+reached_front : (x : Reached) (xs ys : List Reached) → is_reached x xs ≡ true → is_reached x (xs ++ ys) ≡ true
+reached_front x [] ys h = absurd (cc)
+reached_front x (y ∷ xs) ys h =
+    let b : Bool = x.name == y.name && same_bool x.through y.through in
+    elim (or_either b (is_reached x xs) h) [
+      | inl same ↦ or_first b (is_reached x (xs ++ ys)) same
+      | inr k ↦ or_second b (is_reached x (xs ++ ys)) (reached_front x xs ys k)
+    ]
 
 -- ---- what may still be opened
 
@@ -242,3 +251,73 @@ module _ (s : State) where
       pending_step n x y seen pending (is_reached x seen) refl (or_either _ _ h)
       (λ k. pending_reached n seen pending (omega (arith, enough)) y k)
       (λ e k. pending_reached n (x ∷ seen) (opened_at s x ++ pending) (omega (arith, enough, opened_less s x seen pending e)) y (reached_behind y (opened_at s x) pending k))
+
+  -- what the names that were seen open is seen or stands to be followed
+  abbrev Within : List Reached → List Reached → Type 0
+  Within seen pending = (y z : Reached) → is_reached y seen ≡ true → is_reached z (opened_at s y) ≡ true → (is_reached z seen ≡ true) ⊎ (is_reached z pending ≡ true)
+
+  within_old : (x : Reached) (seen pending : List Reached) → is_reached x seen ≡ true → Within seen (x ∷ pending) → Within seen pending
+  within_old x seen pending e w y z h k = elim (w y z h k) [
+    | inl a ↦ inl a
+    | inr p ↦ elim (or_either _ _ p) [
+      | inl same ↦ inl (subst (λ (v : Reached). is_reached v seen ≡ true) (sym (reached_is z x same)) e)
+      | inr q ↦ inr q
+    ]
+  ]
+
+  within_new : (x : Reached) (seen pending : List Reached) → Within seen (x ∷ pending) → Within (x ∷ seen) (opened_at s x ++ pending)
+  within_new x seen pending w y z h k = elim (or_either _ _ h) [
+    | inl same ↦ inr (reached_front z (opened_at s x) pending (subst (λ (v : Reached). is_reached z (opened_at s v) ≡ true) (reached_is y x same) k))
+    | inr old ↦ elim (w y z old k) [
+      | inl a ↦ inl (or_second _ _ a)
+      | inr p ↦ elim (or_either _ _ p) [
+        | inl same ↦ inl (or_first _ _ same)
+        | inr q ↦ inr (reached_behind z (opened_at s x) pending q)
+      ]
+    ]
+  ]
+
+  closed_end : (seen : List Reached) (y z : Reached) → Within seen [] → is_reached y seen ≡ true → is_reached z (opened_at s y) ≡ true → is_reached z seen ≡ true
+  closed_end seen y z w h k = elim (w y z h k) [
+    | inl a ↦ a
+    | inr p ↦ absurd (none p)
+  ]
+    where
+      none : false ≡ true → ⊥
+      none e = absurd (cc)
+
+  closed_step : (n : ℕ) (x y z : Reached) (seen pending : List Reached) (b : Bool) → is_reached x seen ≡ b
+      → (is_reached x seen ≡ true → is_reached y (reach_within n s seen pending) ≡ true → is_reached z (reach_within n s seen pending) ≡ true)
+      → (is_reached x seen ≡ false → is_reached y (reach_within n s (x ∷ seen) (opened_at s x ++ pending)) ≡ true → is_reached z (reach_within n s (x ∷ seen) (opened_at s x ++ pending)) ≡ true)
+      → is_reached y (if b then reach_within n s seen pending else reach_within n s (x ∷ seen) (opened_at s x ++ pending)) ≡ true
+      → is_reached z (if b then reach_within n s seen pending else reach_within n s (x ∷ seen) (opened_at s x ++ pending)) ≡ true
+  closed_step n x y z seen pending true e old new h = old e h
+  closed_step n x y z seen pending false e old new h = new e h
+
+  -- what the names that are reached open is reached
+  closed_reached : (n : ℕ) (seen pending : List Reached) → Enough n seen pending → Within seen pending → (y z : Reached) → is_reached z (opened_at s y) ≡ true → is_reached y (reach_within n s seen pending) ≡ true → is_reached z (reach_within n s seen pending) ≡ true
+  closed_reached zero seen [] enough w y z k h = closed_end seen y z w h k
+  closed_reached (suc n) seen [] enough w y z k h = closed_end seen y z w h k
+  closed_reached zero seen (x ∷ pending) enough w y z k h = absurd (omega (arith, enough))
+  closed_reached (suc n) seen (x ∷ pending) enough w y z k h =
+      closed_step n x y z seen pending (is_reached x seen) refl
+      (λ e h. closed_reached n seen pending (omega (arith, enough)) (within_old x seen pending e w) y z k h)
+      (λ e h. closed_reached n (x ∷ seen) (opened_at s x ++ pending) (omega (arith, enough, opened_less s x seen pending e)) (within_new x seen pending w) y z k h)
+      h
+
+  -- ---- the reach of a function
+
+  abbrev firsts : Function → List Reached
+  firsts f = all_through false (t_id ∷ body_mentions s f)
+
+  bound_enough : (f : Function) → Enough (reach_bound s (length (firsts f))) [] (firsts f)
+  bound_enough f = grind (arith, left_first (size_of_bodies s) (length s.symbols))
+
+  pub reach_first : (f : Function) (y : Reached) → is_reached y (all_through false (t_id ∷ body_mentions s f)) ≡ true → is_reached y (reach_of s f) ≡ true
+  reach_first f y h = pending_reached (reach_bound s (length (firsts f))) [] (firsts f) (bound_enough f) y h
+
+  pub reach_opened : (f : Function) (y z : Reached) → is_reached y (reach_of s f) ≡ true → is_reached z (opened_names s y (symbol_at s y.name).definition) ≡ true → is_reached z (reach_of s f) ≡ true
+  reach_opened f y z h k = closed_reached (reach_bound s (length (firsts f))) [] (firsts f) (bound_enough f) (λ y z h k. absurd (nothing h)) y z k h
+    where
+      nothing : false ≡ true → ⊥
+      nothing e = absurd (cc)

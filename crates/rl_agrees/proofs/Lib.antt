@@ -43,6 +43,8 @@ mod OneRunLaws
 mod OneRunWalking
 mod OneRunMarks
 mod HeadsReach
+mod HeadsStays
+mod OneRunHeads
 mod PlainWays
 mod PlainObjects
 mod PlainNatives

@@ -1,0 +1,1 @@
+-- Where no code runs and nothing turns, what running bodies rest on stays: an instance of the law on one run.
