@@ -128,3 +128,124 @@ at_pointer t p q r e h = subst (λ x. same_function x r (function_at t x) (funct
 
 behind_pointer : (t : State) (p q r : Pointer) → q ≡ r → same_function p q (function_at t p) (function_at t q) ≡ true → same_function p r (function_at t p) (function_at t r) ≡ true
 behind_pointer t p q r e h = subst (λ x. same_function p x (function_at t p) (function_at t x) ≡ true) e h
+
+function_or : (p q r : Pointer) (f g h : Function) → same_function p q f g ≡ true → same_function q r g h ≡ true → (same_function p r f h ≡ true) ⊎ ((p ≡ q) ⊎ (q ≡ r))
+function_or p q r (HeldFunction a) (HeldFunction b) (HeldFunction c) x y = inl (held_then a b c x y)
+function_or p q r (HeldFunction a) (HeldFunction b) (SpecialForm form) x y = inr (inr (pointer_is q r y))
+function_or p q r (HeldFunction a) (HeldFunction b) (NativeFunction native) x y = inr (inr (pointer_is q r y))
+function_or p q r (HeldFunction a) (SpecialForm form) h x y = inr (inl (pointer_is p q x))
+function_or p q r (HeldFunction a) (NativeFunction native) h x y = inr (inl (pointer_is p q x))
+function_or p q r (SpecialForm form) g h x y = inr (inl (pointer_is p q x))
+function_or p q r (NativeFunction native) g h x y = inr (inl (pointer_is p q x))
+
+function_then : (t : State) (p q r : Pointer) → same_function p q (function_at t p) (function_at t q) ≡ true → same_function q r (function_at t q) (function_at t r) ≡ true → same_function p r (function_at t p) (function_at t r) ≡ true
+function_then t p q r x y = elim (function_or p q r (function_at t p) (function_at t q) (function_at t r) x y) [
+  | inl z ↦ z
+  | inr pointers ↦ elim pointers [
+    | inl e ↦ at_pointer t p q r e y
+    | inr e ↦ behind_pointer t p q r e x
+  ]
+]
+
+-- ---- definitions
+
+definition_same : (t : State) (o : Option Definition) → same_definition t o o ≡ true
+definition_same t None = refl
+definition_same t (Some d) = and_both _ _ (kind_same d.kind) (function_same d.function (function_at t d.function))
+
+definition_then : (t : State) (o p q : Option Definition) → same_definition t o p ≡ true → same_definition t p q ≡ true → same_definition t o q ≡ true
+definition_then t None None q h k = k
+definition_then t (Some d) (Some e) (Some f) h k = and_both _ _
+    (subst (λ x. same_kind x f.kind ≡ true) (sym (kind_is d.kind e.kind (and_first _ _ h))) (and_first _ _ k))
+    (function_then t d.function e.function f.function (and_second (same_kind d.kind e.kind) _ h) (and_second (same_kind e.kind f.kind) _ k))
+definition_then t (Some d) (Some e) None h k = absurd (cc)
+definition_then t None (Some e) q h k = absurd (cc)
+definition_then t (Some d) None q h k = absurd (cc)
+
+-- equal definitions both expand, or neither does
+same_expands : (t : State) (o p : Option Definition) → same_definition t o p ≡ true → expands o ≡ expands p
+same_expands t None None h = refl
+same_expands t (Some d) (Some e) h = ap (λ k. not (same_kind k Expr)) (kind_is d.kind e.kind (and_first _ _ h))
+same_expands t None (Some e) h = absurd (cc)
+same_expands t (Some d) None h = absurd (cc)
+
+-- ---- what stays
+
+pub stays_same : (t : State) (through : Bool) (o p : Option Definition) → p ≡ o → Stays t through o p
+stays_same t true o p e = subst (λ x. same_definition t o x ≡ true) (sym e) (definition_same t o)
+stays_same t false o p e = inl (subst (λ x. same_definition t o x ≡ true) (sym e) (definition_same t o))
+
+pub stays_then : (t u : State) → IsMore t.functions u.functions → (through : Bool) (o p q : Option Definition) → Stays t through o p → Stays u through p q → Stays u through o q
+stays_then t u more true o p q h k = definition_then u o p q (same_definition_more t u more o p h) k
+stays_then t u more false o p q (inl h) (inl k) = inl (definition_then u o p q (same_definition_more t u more o p h) k)
+stays_then t u more false o p q (inl h) (inr k) = inr (same_expands t o p h ∙ k.0, k.1)
+stays_then t u more false o p q (inr h) (inl k) = inr (h.0, sym (same_expands u p q k) ∙ h.1)
+stays_then t u more false o p q (inr h) (inr k) = inr (h.0, k.1)
+
+-- ---- what a body rests on
+
+names_or : (p q : Pointer) (f g : Function) → same_function p q f g ≡ true → (names_of f ≡ names_of g) ⊎ (p ≡ q)
+names_or p q (HeldFunction a) (HeldFunction b) h = inl (tree_names a.body b.body (held_parts a b h).body)
+names_or p q (HeldFunction a) (SpecialForm form) h = inr (pointer_is p q h)
+names_or p q (HeldFunction a) (NativeFunction native) h = inr (pointer_is p q h)
+names_or p q (SpecialForm form) g h = inr (pointer_is p q h)
+names_or p q (NativeFunction native) g h = inr (pointer_is p q h)
+
+function_names : (t : State) (p q : Pointer) → same_function p q (function_at t p) (function_at t q) ≡ true → names_of (function_at t p) ≡ names_of (function_at t q)
+function_names t p q h = elim (names_or p q (function_at t p) (function_at t q) h) [
+  | inl e ↦ e
+  | inr e ↦ ap (λ x. names_of (function_at t x)) e
+]
+
+no_name : (j : ℕ) → IsIn j [] → ⊥
+no_name j h = elim h [ ]
+
+names_more : (s t : State) → IsMore s.functions t.functions → (p : Pointer) (j : ℕ) → IsIn j (names_of (function_at s p)) → IsIn j (names_of (function_at t p))
+names_more s t more p j h = elim (function_more s t more p) [
+  | inl e ↦ subst (λ (f : Function). IsIn j (names_of f)) (sym e) h
+  | inr e ↦ absurd (no_name j (subst (λ (f : Function). IsIn j (names_of f)) e h))
+]
+
+-- an opened name is opened still, and has the same names in its body
+record StillOpened (t : State) (through : Bool) (d : Definition) (o : Option Definition) : Type 0 where
+  pub new : Definition
+  pub is : o ≡ Some new
+  pub opens : is_opened new.kind through ≡ true
+  pub same : same_function d.function new.function (function_at t d.function) (function_at t new.function) ≡ true
+
+opened_expands : (k : Kind) → is_opened k false ≡ true → not (same_kind k Expr) ≡ false → ⊥
+opened_expands Expr h e = absurd (cc)
+opened_expands Fexpr h e = absurd (cc)
+opened_expands Macro h e = absurd (cc)
+
+same_opened : (t : State) (through : Bool) (d : Definition) (o : Option Definition) → is_opened d.kind through ≡ true → same_definition t (Some d) o ≡ true → StillOpened t through d o
+same_opened t through d (Some e) h k = record {
+  new = e;
+  is = refl;
+  opens = subst (λ x. is_opened x through ≡ true) (kind_is d.kind e.kind (and_first _ _ k)) h;
+  same = and_second (same_kind d.kind e.kind) _ k;
+}
+same_opened t through d None h k = absurd (cc)
+
+still_opened : (t : State) (through : Bool) (d : Definition) (o : Option Definition) → is_opened d.kind through ≡ true → Stays t through (Some d) o → StillOpened t through d o
+still_opened t true d o h k = same_opened t true d o h k
+still_opened t false d o h (inl k) = same_opened t false d o h k
+still_opened t false d o h (inr k) = absurd (opened_expands d.kind h k.0)
+
+-- where what a body rests on stays, it rests on the same
+pub rests_on : (s t : State) → IsMore s.functions t.functions → (f : Function) → ((i : ℕ) (through : Bool) → RestsOn s f i through → Stays t through (symbol_at s i).definition (symbol_at t i).definition) → (i : ℕ) (through : Bool) → RestsOn s f i through → RestsOn t f i through
+rests_on s t more f stay _ _ on_truth = on_truth
+rests_on s t more f stay _ _ (on_name i h) = on_name i h
+rests_on s t more f stay _ _ (on_opened i j through d r e o h) =
+    let still : StillOpened t through d (symbol_at t i).definition = still_opened t through d (symbol_at t i).definition o (subst (λ x. Stays t through x (symbol_at t i).definition) e (stay i through r)) in
+    on_opened i j through still.new (rests_on s t more f stay i through r) still.is still.opens
+    (subst (λ xs. IsIn j xs) (function_names t d.function still.new.function still.same) (names_more s t more d.function j h))
+
+-- a body rests on no less than one with no names does
+rests_less : (t : State) (f g : Function) → ((j : ℕ) → IsIn j (names_of f) → IsIn j (names_of g)) → (i : ℕ) (through : Bool) → RestsOn t f i through → RestsOn t g i through
+rests_less t f g names _ _ on_truth = on_truth
+rests_less t f g names _ _ (on_name i h) = on_name i (names i h)
+rests_less t f g names _ _ (on_opened i j through d r e o h) = on_opened i j through d (rests_less t f g names i through r) e o h
+
+pub rests_more : (s t : State) → IsMore s.functions t.functions → (p : Pointer) → ((i : ℕ) (through : Bool) → RestsOn s (function_at s p) i through → Stays t through (symbol_at s i).definition (symbol_at t i).definition) → (i : ℕ) (through : Bool) → RestsOn s (function_at s p) i through → RestsOn t (function_at t p) i through
+rests_more s t more p stay i through r = rests_less t (function_at s p) (function_at t p) (names_more s t more p) i through (rests_on s t more (function_at s p) stay i through r)
