@@ -1,29 +1,28 @@
 -- Reaching comes to its end: all that stands to be followed is reached, since its steps are more than all that can be opened.
-use Rattle.std.proofs.Common.{◌≡◌, ◌≢◌, ◌≤◌, ◌<◌, ◌⊎◌, inl, inr, ◌+◌, ◌*◌, ◌-◌, ◌==◌, ◌&&◌, ◌||◌, if◌then◌else◌, not, ℕ, zero, suc, Bool, true, false, List, [], ◌∷◌, ◌++◌, length, Option, Some, None, refl, sym, ap, ◌∙◌, subst, arith, length-append}
-use Rattle.std.specs.Prelude.{slice_index_or, sum_by, map, nat_lt, filter_map, flat_map, slice_get}
+use Rattle.std.proofs.Common.{◌≡◌, ◌≤◌, ◌<◌, ◌⊎◌, inl, inr, ◌+◌, ◌*◌, ◌-◌, ◌==◌, ◌&&◌, ◌||◌, if◌then◌else◌, ℕ, zero, suc, Bool, true, false, List, [], ◌∷◌, ◌++◌, length, Option, Some, None, refl, sym, ap, ◌∙◌, subst, arith, length-append}
+use Rattle.std.specs.Prelude.{slice_index_or, sum_by, nat_lt, filter_map, flat_map, slice_get}
 use Rattle.std.proofs.lemmas.List.{length-map}
 use Rattle.std.proofs.lemmas.List.Sums.{get_or-le-sum_by}
 use Rattle.std.proofs.lemmas.Bool.{eqb-true, eq-eqb}
 use Rattle.std.proofs.lemmas.Bool.Decides.{eqb_tells}
 use Rattle.rl_tree.specs.Value.{Store, Id}
-use Rattle.rl_tree.specs.declared.held.Kind.{Kind}
-use Rattle.rl_meaning.specs.State.{State, Symbol, Tree, Atom, Quoted, Pair, Literal, Kept, Held, Pointer, Definition, Function, SpecialForm, NativeFunction, HeldFunction}
+use Rattle.rl_meaning.specs.State.{State, Symbol, Tree, Atom, Quoted, Pair, Literal, Kept, Pointer, Definition, Function, SpecialForm, NativeFunction, HeldFunction}
 use Rattle.rl_meaning.specs.Symbols.{t_id, nil, nil_id, progn_id, new_symbol, symbol_at}
 use Rattle.rl_meaning.specs.Constants.{values_in, size_of, objects_within}
-use Rattle.rl_meaning.specs.Holding.{when, function_id, nodes_in, either_part, part_of_literal, part_at, body_of, forms_of, function_part, no_function, function_in, function_at}
+use Rattle.rl_meaning.specs.Holding.{when, function_id, nodes_in, either_part, part_at, body_of, forms_of, function_part, no_function, function_in, function_at}
 use Rattle.rl_meaning.specs.Reach.{identifier_in, value_identifiers, tree_mentions, Reached, same_bool, is_reached, all_through, body_mentions, is_opened, opened_names, reach_within, body_size, reach_bound, reach_of}
 
 -- ---- tests
 
-or_first : (a b : Bool) → a ≡ true → (a || b) ≡ true
+pub or_first : (a b : Bool) → a ≡ true → (a || b) ≡ true
 or_first true b h = refl
 or_first false b h = absurd (cc)
 
-or_second : (a b : Bool) → b ≡ true → (a || b) ≡ true
+pub or_second : (a b : Bool) → b ≡ true → (a || b) ≡ true
 or_second true b h = refl
 or_second false b h = h
 
-or_either : (a b : Bool) → (a || b) ≡ true → (a ≡ true) ⊎ (b ≡ true)
+pub or_either : (a b : Bool) → (a || b) ≡ true → (a ≡ true) ⊎ (b ≡ true)
 or_either true b h = inl refl
 or_either false b h = inr h
 

@@ -1,20 +1,18 @@
 -- What a body rests on stays, a change at a time: equal definitions, and what rests on them.
-use Rattle.std.proofs.Common.{◌≡◌, ◌⊎◌, inl, inr, ℕ, ℤ, pos, negsuc, ◌==◌, ◌&&◌, ◌||◌, not, zero, suc, Bool, true, false, List, [], ◌∷◌, ◌++◌, Option, Some, None, refl, sym, ap, ◌∙◌, subst}
-use Rattle.std.specs.Str.{bytes_eq}
+use Rattle.std.proofs.Common.{◌≡◌, ◌⊎◌, inl, inr, ℕ, ℤ, pos, negsuc, ◌==◌, ◌&&◌, not, Bool, true, false, List, [], ◌∷◌, ◌++◌, Option, Some, None, refl, sym, ap, ◌∙◌, subst}
 use Rattle.std.proofs.lemmas.Slice.Eq.{bytes_eq-Decides}
-use Rattle.std.specs.Prelude.{slice_index_or}
 use Rattle.rl_tree.specs.Value.{Value, Int, Id, Str, Ref, Fun}
 use Rattle.rl_tree.specs.declared.held.Kind.{Kind}
 use Rattle.rl_tree.specs.declared.held.Kind.TheVariants.{Expr, Fexpr, Macro}
 use Rattle.rl_tree.specs.declared.held.VarKind.{VarKind}
 use Rattle.rl_tree.specs.declared.held.VarKind.TheVariants as variable
 use Rattle.rl_meaning.specs.State.{State, Tree, Atom, Quoted, Pair, Literal, Kept, Held, Pointer, Definition, Function, SpecialForm, NativeFunction, HeldFunction}
-use Rattle.rl_meaning.specs.Symbols.{t_id, same_integer, same, symbol_at}
-use Rattle.rl_meaning.specs.Holding.{function_id, with_identifier, with_identifiers, kept_kind, same_pointer, no_function, function_at}
+use Rattle.rl_meaning.specs.Symbols.{same_integer, same, symbol_at}
+use Rattle.rl_meaning.specs.Holding.{function_id, with_identifier, with_identifiers, kept_kind, function_at}
 use Rattle.rl_meaning.specs.Reach.{is_opened, same_kind, same_var_kind, same_tree, same_names, same_kept, same_held, same_function, same_definition, expands}
-use Rattle.rl_agrees.specs.Later.{IsMore, IsIn, first, further}
+use Rattle.rl_agrees.specs.Later.{IsMore, IsIn}
 use Rattle.rl_agrees.specs.Heads.{name_in, names_in, names_of, RestsOn, on_truth, on_name, on_opened, Stays}
-use Rattle.rl_agrees.proofs.LaterStands.{and_first, and_second, and_both, nat_is, function_same, pointer_is, none_second, same_definition_more, var_kind_same, function_more}
+use Rattle.rl_agrees.proofs.LaterStands.{and_first, and_second, and_both, nat_is, function_same, pointer_is, same_definition_more, function_more}
 
 -- ---- what passes the tests is the same
 

@@ -44,6 +44,7 @@ mod OneRunWalking
 mod OneRunMarks
 mod HeadsReach
 mod HeadsStays
+mod HeadsRests
 mod OneRunHeads
 mod PlainWays
 mod PlainObjects

@@ -146,7 +146,7 @@ marks_prints = record {
   note_ = λ line s. untold s _ (later_prints.note_ line s) refl refl;
 }
 
-marks_idle : Idles Marks
+pub marks_idle : Idles Marks
 marks_idle = record { idle = λ s t e l. record { objects = l.objects; walked = λ w. absurd (both (sym e ∙ w)) } }
   where
     both : true ≡ false → ⊥
