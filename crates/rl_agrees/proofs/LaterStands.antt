@@ -33,7 +33,7 @@ and_both false b h k = absurd (cc)
 nat_same : (n : ℕ) → (n == n) ≡ true
 nat_same n = eq-eqb n n refl
 
-nat_is : (m n : ℕ) → (m == n) ≡ true → m ≡ n
+pub nat_is : (m n : ℕ) → (m == n) ≡ true → m ≡ n
 nat_is m n h = eqb-true m n h
 
 -- ---- each thing is the same as itself
@@ -62,7 +62,7 @@ names_same : (xs : List ℕ) → same_names xs xs ≡ true
 names_same [] = refl
 names_same (x ∷ xs) = and_both _ _ (nat_same x) (names_same xs)
 
-var_kind_same : (k : VarKind) → same_var_kind k k ≡ true
+pub var_kind_same : (k : VarKind) → same_var_kind k k ≡ true
 var_kind_same Plain = refl
 var_kind_same Fluid = refl
 var_kind_same Global = refl
@@ -77,7 +77,7 @@ held_same h = and_both _ _ (and_both _ _ (names_same h.parameters) (tree_same h.
 pointer_same : (p : Pointer) → same_pointer p p ≡ true
 pointer_same p = and_both _ _ (nat_same p.function) (nat_same p.place)
 
-function_same : (p : Pointer) (f : Function) → same_function p p f f ≡ true
+pub function_same : (p : Pointer) (f : Function) → same_function p p f f ≡ true
 function_same p (SpecialForm form) = pointer_same p
 function_same p (NativeFunction native) = pointer_same p
 function_same p (HeldFunction held) = held_same held
@@ -95,7 +95,7 @@ function_more s t more p = elim (index_appended s.functions more.rest p.function
     none zero = refl
     none (suc i) = refl
 
-pointer_is : (p q : Pointer) → same_pointer p q ≡ true → p ≡ q
+pub pointer_is : (p q : Pointer) → same_pointer p q ≡ true → p ≡ q
 pointer_is p q h =
     let e : p.function ≡ q.function = nat_is p.function q.function (and_first (p.function == q.function) (p.place == q.place) h) in
     let k : p.place ≡ q.place = nat_is p.place q.place (and_second (p.function == q.function) (p.place == q.place) h) in
@@ -104,7 +104,7 @@ pointer_is p q h =
 none_first : (p q : Pointer) (g : Function) → same_function p q no_function g ≡ same_pointer p q
 none_first p q g = refl
 
-none_second : (p q : Pointer) (f : Function) → same_function p q f no_function ≡ same_pointer p q
+pub none_second : (p q : Pointer) (f : Function) → same_function p q f no_function ≡ same_pointer p q
 none_second p q (SpecialForm form) = refl
 none_second p q (NativeFunction native) = refl
 none_second p q (HeldFunction held) = refl
@@ -121,7 +121,7 @@ same_function_more s t more p q h = elim (function_more s t more p) [
   ]
 ]
 
-same_definition_more : (s t : State) → IsMore s.functions t.functions → (o p : Option Definition) → same_definition s o p ≡ true → same_definition t o p ≡ true
+pub same_definition_more : (s t : State) → IsMore s.functions t.functions → (o p : Option Definition) → same_definition s o p ≡ true → same_definition t o p ≡ true
 same_definition_more s t more None None h = refl
 same_definition_more s t more (Some d) (Some e) h = and_both _ _ (and_first _ _ h) (same_function_more s t more d.function e.function (and_second _ _ h))
 same_definition_more s t more None (Some e) h = h

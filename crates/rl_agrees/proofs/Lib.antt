@@ -40,6 +40,12 @@ mod OneRunLater
 mod OneRunQuiet
 mod OneRunGoes
 mod OneRunLaws
+mod OneRunWalking
+mod OneRunMarks
+mod HeadsReach
+mod HeadsStays
+mod HeadsRests
+mod OneRunHeads
 mod PlainWays
 mod PlainObjects
 mod PlainNatives

@@ -9,6 +9,7 @@ use Rattle.rl_meaning.specs.Symbols.{new_symbol, symbol_at, with_symbol}
 use Rattle.rl_meaning.specs.Events.{with_event}
 use Rattle.rl_meaning.specs.Constants.{changing}
 use Rattle.rl_meaning.specs.Holding.{with_function}
+use Rattle.rl_meaning.specs.Variables.{with_nearest, with_oldest}
 use Rattle.rl_meaning.specs.Copying.{with_object}
 use Rattle.rl_meaning.specs.Definitions.{with_definition}
 use Rattle.rl_meaning.specs.Printing.{with_page, turns_taken, note}
@@ -20,8 +21,13 @@ use Rattle.rl_agrees.specs.Leaving.{IsPlain}
 
 -- ---- steps
 
+-- whether bindings may be left in any way, as c-macros do
+abbrev pub Frees : Bool → Type 0
+Frees true = Unit {0}
+Frees false = ⊥
+
 -- what is asked of a preorder: that it has each change that the definitions make, but for what goes out
-pub record Steps (P : State → State → Type 0) : Type 0 where
+pub record StepsAt (freely : Bool) (P : State → State → Type 0) : Type 0 where
   pub same : (s : State) → P s s
   pub and_then : (s t u : State) → P s t → P t u → P s u
   -- turns that are taken, of the run or of the open expansion; cells of each; and an expansion that opens, and is over
@@ -41,12 +47,20 @@ pub record Steps (P : State → State → Type 0) : Type 0 where
   pub symbol : (i : ℕ) (symbol : Symbol) (s : State) → symbol.definition ≡ (symbol_at s i).definition → P s (with_symbol i symbol s)
   pub definition : (i : ℕ) (d : Option Definition) (s : State) → P s (with_definition i d s)
   pub function : (f : Function) (s : State) → P s (with_function f s)
-  pub bindings : (entries : List Entry) (s : State) → P s (record s { bindings = entries })
+  -- a new binding or mark, the value of a binding, and going back to as many entries as a state had; and, for c-macros, any bindings
+  pub pushed : (e : Entry) (s : State) → P s (record s { bindings = e ∷ s.bindings })
+  pub valued : (x : ℕ) (v : Value) (s : State) → P s (record s { bindings = with_nearest x v s.bindings })
+  pub oldest : (r s t : State) → P r s → P r t → P r (with_oldest (length s.bindings) t)
+  pub freed : Frees freely → (entries : List Entry) (s : State) → P s (record s { bindings = entries })
   pub gensyms : (n : ℕ) (s : State) → P s (record s { gensyms = n })
   pub event : (e : Event) (s : State) → P s (with_event e s)
   -- what comes in, and how long a line may be
   pub input : (rest : List ℕ) (s : State) → P s (with_input rest s)
   pub line_length : (n : ℕ) (s : State) → P s (record s { outside = record s.outside { line_length = n } })
+
+-- with c-macros
+abbrev pub Steps : (State → State → Type 0) → Type 0
+Steps P = StepsAt true P
 
 -- and what goes out
 pub record Prints (P : State → State → Type 0) : Type 0 where
@@ -108,7 +122,7 @@ plain_returned : (A B : Type 0) (position : Position) (v : Value) (t u : State) 
 plain_returned A B Statement v t u h = tt
 plain_returned A B Inside v t u h = absurd h
 
-module _ {P : State → State → Type 0} (steps : Steps P) where
+module _ {freely : Bool} {P : State → State → Type 0} (steps : StepsAt freely P) where
   -- ---- states
 
   pub follows_same : (s : State) → Follows P s s
@@ -184,7 +198,7 @@ anywhere Inside o h = h
 
 -- ---- turns, levels and cells
 
-module _ {P : State → State → Type 0} (steps : Steps P) {r : State} where
+module _ {freely : Bool} {P : State → State → Type 0} (steps : StepsAt freely P) {r : State} where
   -- for any claim on outcomes: that it holds where a turn is wanting, and of what comes behind the turn
   pub turn_claims : {A : Type 0} (Claim : Outcome A → Type 0) (s : State) (next : State → Outcome A) → Follows P r s → ((why : Stop) → Claim (Stopped why s)) → ((t : State) → Follows P r t → Claim (next t)) → Claim (turn s next)
   turn_claims Claim s next h stops k = at s.counts.expansion refl
@@ -221,7 +235,7 @@ module _ {P : State → State → Type 0} (steps : Steps P) {r : State} where
       at None e = more _ s refl h
       at (Some x) e = within (nat_le cost x.cells) x e
 
-module _ {P : State → State → Type 0} (steps : Steps P) {position : Position} {r : State} where
+module _ {freely : Bool} {P : State → State → Type 0} (steps : StepsAt freely P) {position : Position} {r : State} where
   pub turn_leads : {A : Type 0} (s : State) (next : State → Outcome A) → Follows P r s → ((t : State) → Follows P r t → LeadsAt P position r (next t)) → LeadsAt P position r (turn s next)
   turn_leads s next h k = turn_claims steps (λ o. LeadsAt P position r o) s next h (λ why. stopped_leads why s h) k
 

@@ -15,7 +15,8 @@ use Rattle.rl_meaning.specs.Atoms.{proper}
 use Rattle.rl_meaning.specs.Natives.{argument}
 use Rattle.rl_meaning.specs.Evaluation.{Position, Statement, Inside, Here, Job, Run, Onward, Call_, From, In, Rec, longest_chain, bad_form, misplaced_at, deeper_here, kind_of_definition, with_expansion, closed, print_unless_nil, caught, Target, Function_, Lambda, Undefined, WrongType, target_of, with_arguments, held_applied, form_evaluated, evaluated, errorset, list_applied, applied_to, apply_target, apply, native_applied, counted, called_as, function_applied, applied, name_applied, called, fexpr_called, expansion_of, expanded_body, macro_called, in_chain, jumped, in_prog, function_defined, define_function, going, quoted, function_named}
 use Rattle.rl_meaning.specs.Compiling.{Compiler, no_compiler}
-use Rattle.rl_agrees.proofs.OneRun.{Steps, Prints, Follows, LeadsAt, Moves, Leads, follows_same, follows_then, leads_from, anywhere, done_leads, failed_leads, went_leads, returned_leads, stopped_leads, then_leads, turn_leads, deeper_leads}
+use Rattle.rl_agrees.specs.Heads.{IsWalk}
+use Rattle.rl_agrees.proofs.OneRun.{StepsAt, Prints, Follows, LeadsAt, Moves, Leads, follows_same, follows_then, leads_from, anywhere, done_leads, failed_leads, went_leads, returned_leads, stopped_leads, then_leads, turn_leads, deeper_leads}
 use Rattle.rl_agrees.proofs.OneRunObjects.{leading, fail_leads, reading_follows, reading_pair_follows}
 use Rattle.rl_agrees.proofs.OneRunHolding.{hold_form_leads, hold_expansion_leads, elements_lead, copied_leads, hold_part_leads}
 use Rattle.rl_agrees.proofs.OneRunVariables.{mark_follows, restored_leads}
@@ -39,13 +40,26 @@ position_of (Onward f m code) = Inside
 position_of (Call_ name levels f vs) = Inside
 position_of (From here whole rest) = Inside
 
-pub record RecLeads (P : State → State → Type 0) (rec : Rec) : Type 0 where
-  pub steps : Steps P
+-- the jobs that are asked for lead: all, or where no code runs those of a walk
+abbrev pub AsksLead : Bool → (State → State → Type 0) → Rec → Type 0
+AsksLead true P rec = (j : Job) (s : State) → LeadsAt P (position_of j) s (rec.ask j s)
+AsksLead false P rec = (j : Job) (s : State) → IsWalk j → LeadsAt P (position_of j) s (rec.ask j s)
+
+pub record RecLeadsAt (freely : Bool) (P : State → State → Type 0) (rec : Rec) : Type 0 where
+  pub steps : StepsAt freely P
   pub prints : Prints P
   pub compiler : CompilerLeads P rec.compiler
-  pub asks : (j : Job) (s : State) → LeadsAt P (position_of j) s (rec.ask j s)
+  pub asks : AsksLead freely P rec
 
-pub no_compiler_leads : {P : State → State → Type 0} → Steps P → CompilerLeads P no_compiler
+-- with c-macros
+abbrev pub RecLeads : (State → State → Type 0) → Rec → Type 0
+RecLeads P rec = RecLeadsAt true P rec
+
+pub walk_asked : {P : State → State → Type 0} (rec : Rec) (freely : Bool) → AsksLead freely P rec → (j : Job) (s : State) → IsWalk j → LeadsAt P (position_of j) s (rec.ask j s)
+walk_asked rec true h j s w = h j s
+walk_asked rec false h j s w = h j s w
+
+pub no_compiler_leads : {freely : Bool} {P : State → State → Type 0} → StepsAt freely P → CompilerLeads P no_compiler
 no_compiler_leads steps = record {
   taken = λ name s. steps.same s;
   behind = λ v s. steps.same s;
@@ -56,12 +70,12 @@ no_compiler_leads steps = record {
 
 -- ---- what asks for no job
 
-module _ {P : State → State → Type 0} (steps : Steps P) {position : Position} {r : State} where
+module _ {freely : Bool} {P : State → State → Type 0} (steps : StepsAt freely P) {position : Position} {r : State} where
   pub with_arguments_leads : {A : Type 0} (o : Option (List Value)) (l : Value) (s : State) (next : List Value → State → Outcome A) → Follows P r s → ((vs : List Value) (t : State) → Follows P r t → LeadsAt P position r (next vs t)) → LeadsAt P position r (with_arguments o l s next)
   with_arguments_leads (Some vs) l s next h k = k vs s h
   with_arguments_leads None l s next h k = search leading
 
-module _ {P : State → State → Type 0} (steps : Steps P) (prints : Prints P) {position : Position} {r : State} where
+module _ {freely : Bool} {P : State → State → Type 0} (steps : StepsAt freely P) (prints : Prints P) {position : Position} {r : State} where
   pub print_unless_nil_leads : (levels : Levels) (msgp message : Value) (s : State) → Follows P r s → LeadsAt P position r (print_unless_nil levels msgp message s)
   print_unless_nil_leads levels msgp message s h = search (leading, print_error_leads)
 
@@ -72,7 +86,7 @@ module _ {P : State → State → Type 0} (steps : Steps P) (prints : Prints P) 
   caught_leads levels msgp (Returned v s) h = h
   caught_leads levels msgp (Stopped why s) h = h
 
-module _ {P : State → State → Type 0} (steps : Steps P) {position : Position} {r : State} where
+module _ {freely : Bool} {P : State → State → Type 0} (steps : StepsAt freely P) {position : Position} {r : State} where
   pub deeper_here_leads : {A : Type 0} (n : ℕ) (here : Here) (s : State) (next : Here → Outcome A) → Follows P r s → ((l : Levels) → LeadsAt P position r (next (record here { levels = l }))) → LeadsAt P position r (deeper_here n here s next)
   deeper_here_leads n here s next h k = deeper_leads steps n here.levels s _ h k
 
@@ -86,9 +100,9 @@ module _ {P : State → State → Type 0} (steps : Steps P) {position : Position
 
 -- ---- application
 
-module _ {P : State → State → Type 0} {rec : Rec} (keeps : RecLeads P rec) {r : State} where
-  pub asked_leads : (j : Job) (s : State) → Follows P r s → LeadsAt P (position_of j) r (rec.ask j s)
-  asked_leads j s h = leads_from keeps.steps r s _ h (keeps.asks j s)
+module _ {freely : Bool} {P : State → State → Type 0} {rec : Rec} (keeps : RecLeadsAt freely P rec) {r : State} where
+  pub asked_leads : (j : Job) (s : State) → IsWalk j → Follows P r s → LeadsAt P (position_of j) r (rec.ask j s)
+  asked_leads j s w h = leads_from keeps.steps r s _ h (walk_asked rec freely keeps.asks j s w)
 
   pub taken_follows : (name : Option ℕ) (s : State) → Follows P r s → Follows P r (rec.compiler.requests_taken name s)
   taken_follows name s h = follows_then keeps.steps r s _ h (keeps.compiler.taken name s)
@@ -102,11 +116,11 @@ module _ {P : State → State → Type 0} {rec : Rec} (keeps : RecLeads P rec) {
 
   pub held_applied_leads : (name : Option ℕ) (levels : Levels) (holder : ℕ) (f : Option Pointer) (held : Held) (vs : List Value) (s : State) → Follows P r s → Leads P r (held_applied rec name levels holder f held vs s)
   held_applied_leads name levels holder f held vs s h =
-      turn_leads keeps.steps s _ h (λ t h. let k = taken_follows name t h in deeper_leads keeps.steps 1 levels _ _ k (λ l. asked_leads (Run name l holder f held vs) (rec.compiler.requests_taken name t) k))
+      turn_leads keeps.steps s _ h (λ t h. let k = taken_follows name t h in deeper_leads keeps.steps 1 levels _ _ k (λ l. asked_leads (Run name l holder f held vs) (rec.compiler.requests_taken name t) tt k))
 
   pub form_evaluated_leads : (levels : Levels) (f : ℕ) (function : Function) (s : State) → Follows P r s → Leads P r (form_evaluated rec levels f function s)
   form_evaluated_leads levels f (HeldFunction held) s h =
-      restored_leads keeps.steps (length s.bindings) _ (asked_leads (In (record { levels = levels; chain = longest_chain; kept = held.kept; holder = f }) Inside held.body) (with_mark None s) (mark_follows keeps.steps None s h))
+      restored_leads keeps.steps s _ h (asked_leads (In (record { levels = levels; chain = longest_chain; kept = held.kept; holder = f }) Inside held.body) (with_mark None s) tt (mark_follows keeps.steps None s h))
   form_evaluated_leads levels f (SpecialForm form) s h = done_leads nil s h
   form_evaluated_leads levels f (NativeFunction native) s h = done_leads nil s h
 
@@ -123,7 +137,7 @@ module _ {P : State → State → Type 0} {rec : Rec} (keeps : RecLeads P rec) {
   list_applied_leads levels f (NativeFunction native) vs s h = done_leads nil s h
 
   pub applied_to_leads : (levels : Levels) (target : Target) (vs : List Value) (s : State) → Follows P r s → Leads P r (applied_to rec levels target vs s)
-  applied_to_leads levels (Function_ name f) vs s h = asked_leads (Call_ name levels f vs) s h
+  applied_to_leads levels (Function_ name f) vs s h = asked_leads (Call_ name levels f vs) s tt h
   applied_to_leads levels (Lambda rest) vs s h = then_leads _ _ (hold_lambda_leads keeps.steps Expr levels (pair_at s rest) (reading rest s) (reading_follows keeps.steps rest s h)) (λ f t h. list_applied_leads levels f (function_at t (pointer_to f)) vs t h)
   applied_to_leads levels Undefined vs s h = done_leads nil s h
   applied_to_leads levels WrongType vs s h = done_leads nil s h
@@ -164,7 +178,7 @@ module _ {P : State → State → Type 0} {rec : Rec} (keeps : RecLeads P rec) {
   pub called_leads : (i : ℕ) (levels : Levels) (vs : List Value) (s : State) → Follows P r s → Leads P r (called rec i levels vs s)
   called_leads i levels vs s h = name_applied_leads i levels (symbol_at s i).definition vs s h
 
-module _ {P : State → State → Type 0} {rec : Rec} (keeps : RecLeads P rec) {r : State} where
+module _ {freely : Bool} {P : State → State → Type 0} {rec : Rec} (keeps : RecLeadsAt freely P rec) {r : State} where
   -- ---- FEXPRs and macros
 
   pub fexpr_called_leads : (i : ℕ) (here : Here) (args : Tree) (s : State) → Follows P r s → Leads P r (fexpr_called rec i here args s)
@@ -176,7 +190,7 @@ module _ {P : State → State → Type 0} {rec : Rec} (keeps : RecLeads P rec) {
       then_leads _ _ (called_leads keeps i here.levels (list ∷ []) t h) (λ v t h. hold_expansion_leads keeps.steps here.levels here.kept v t h)))
 
   pub expanded_body_leads : (here : Here) (position : Position) (f : ℕ) (function : Function) (s : State) → Follows P r s → LeadsAt P position r (expanded_body rec here position f function s)
-  expanded_body_leads here position f (HeldFunction held) s h = asked_leads keeps (In (record here { holder = f }) position held.body) s h
+  expanded_body_leads here position f (HeldFunction held) s h = asked_leads keeps (In (record here { holder = f }) position held.body) s tt h
   expanded_body_leads here position f (SpecialForm form) s h = done_leads nil s h
   expanded_body_leads here position f (NativeFunction native) s h = done_leads nil s h
 
@@ -190,7 +204,7 @@ module _ {P : State → State → Type 0} {rec : Rec} (keeps : RecLeads P rec) {
   -- ---- PROG
 
   pub jumped_leads : (here : Here) (whole : Tree) (l : ℕ) (o : Option Tree) (s : State) → Follows P r s → Leads P r (jumped rec here whole l o s)
-  jumped_leads here whole l (Some rest) s h = turn_leads keeps.steps s _ h (λ t h. asked_leads keeps (From here whole rest) t h)
+  jumped_leads here whole l (Some rest) s h = turn_leads keeps.steps s _ h (λ t h. asked_leads keeps (From here whole rest) t tt h)
   jumped_leads here whole l None s h = fail_leads keeps.steps misplaced (Id l) s h
 
   pub in_prog_leads : (here : Here) (whole : Tree) (next : State → Outcome Value) (o : Outcome Value) → Moves P r o → ((t : State) → Follows P r t → Leads P r (next t)) → Leads P r (in_prog rec here whole next o)

@@ -1,5 +1,5 @@
 -- Each form keeps a law on one run, and only a statement of a PROG leaves by GO or RETURN.
-use Rattle.std.proofs.Common.{ℕ, suc, true, List, [], ◌∷◌, ◌++◌, length, Option, Some}
+use Rattle.std.proofs.Common.{ℕ, suc, true, Bool, List, [], ◌∷◌, ◌++◌, Option, Some}
 use Rattle.rl_tree.specs.Value.{Value, Id, Fun}
 use Rattle.rl_tree.specs.declared.held.Kind.TheVariants.{Expr, Fexpr, Macro}
 use Rattle.rl_meaning.specs.Names.{Special, Quote, Cond, Progn, And, Or, Setq, Prog, Go, Return, List_, Plus, Times, Max, Min, De, Df, Dm}
@@ -16,9 +16,9 @@ use Rattle.rl_agrees.proofs.Heads.{lambda_form, call_form, special_form, list_fo
 use Rattle.rl_agrees.proofs.OneRun.{Follows, LeadsAt, Leads, anywhere, done_leads, then_leads, choose_leads, deeper_leads}
 use Rattle.rl_agrees.proofs.OneRunObjects.{fail_leads, pair_leads}
 use Rattle.rl_agrees.proofs.OneRunVariables.{mark_follows, variable_leads, assigned_leads, operated_leads, restored_leads, binding_leads}
-use Rattle.rl_agrees.proofs.OneRunEvaluation.{RecLeads, called_leads, fexpr_called_leads, macro_called_leads, in_chain_leads, in_prog_leads, misplaced_leads, going_leads, quoted_leads, function_named_leads, define_function_leads, bad_leads}
+use Rattle.rl_agrees.proofs.OneRunEvaluation.{RecLeadsAt, called_leads, fexpr_called_leads, macro_called_leads, in_chain_leads, in_prog_leads, misplaced_leads, going_leads, quoted_leads, function_named_leads, define_function_leads, bad_leads}
 
-module _ {P : State → State → Type 0} {rec : Rec} (keeps : RecLeads P rec) {r : State} where
+module _ {freely : Bool} {P : State → State → Type 0} {rec : Rec} (keeps : RecLeadsAt freely P rec) {r : State} where
   mutual
     pub eval_leads : (here : Here) (position : Position) (e : Tree) (s : State) → Follows P r s → LeadsAt P position r (eval rec here position e s)
     eval_leads here position (Atom (Id x)) s h = variable_leads keeps.steps x s h
@@ -161,5 +161,5 @@ module _ {P : State → State → Type 0} {rec : Rec} (keeps : RecLeads P rec) {
 
   pub walked_leads : (levels : Levels) (holder : ℕ) (f : Option Pointer) (held : Held) (vs : List Value) (s : State) → Follows P r s → Leads P r (walked rec levels holder f held vs s)
   walked_leads levels holder f held vs s h =
-      restored_leads keeps.steps (length s.bindings) _ (binding_leads keeps.steps levels held.kept held.parameters vs (with_mark f s) _ (mark_follows keeps.steps f s h) (λ l t h.
+      restored_leads keeps.steps s _ h (binding_leads keeps.steps levels held.kept held.parameters vs (with_mark f s) _ (mark_follows keeps.steps f s h) (λ l t h.
       eval_leads (record { levels = l; chain = longest_chain; kept = held.kept; holder = holder }) Inside held.body t h))

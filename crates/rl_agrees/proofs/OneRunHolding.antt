@@ -12,7 +12,7 @@ use Rattle.rl_meaning.specs.Holding.{function_id, Reader, quote_tree, read_quote
 use Rattle.rl_meaning.specs.Copying.{with_object, copied_parts, copied_pair, copied_at, copied}
 use Rattle.rl_meaning.specs.Forms.{visited, visited_spine, visited_forms, hold_part}
 use Rattle.rl_meaning.specs.Evaluation.{Position}
-use Rattle.rl_agrees.proofs.OneRun.{Steps, Follows, LeadsAt, follows_then, done_leads, then_leads, then_with, choose_leads, turn_leads, pair_turn_leads}
+use Rattle.rl_agrees.proofs.OneRun.{StepsAt, Follows, LeadsAt, follows_then, done_leads, then_leads, then_with, choose_leads, turn_leads, pair_turn_leads}
 use Rattle.rl_agrees.proofs.OneRunObjects.{leading, fail_leads, IsNew, pair_makes, fresh_follows, reading_follows, objects_read_follows}
 use Rattle.rl_agrees.proofs.OneRunWalks.{walk_leads}
 
@@ -27,10 +27,10 @@ Acts P position r act = (s : State) → Follows P r s → LeadsAt P position r (
 abbrev pub ActsAt : (State → State → Type 0) → Position → State → (Levels → State → Outcome Value) → Type 0
 ActsAt P position r act = (l : Levels) → Acts P position r (λ s. act l s)
 
-pub function_follows : {P : State → State → Type 0} (steps : Steps P) {r : State} (f : Function) (s : State) → Follows P r s → Follows P r (with_function f s)
+pub function_follows : {freely : Bool} {P : State → State → Type 0} (steps : StepsAt freely P) {r : State} (f : Function) (s : State) → Follows P r s → Follows P r (with_function f s)
 function_follows steps {r} f s h = follows_then steps r s _ h (steps.function f s)
 
-module _ {P : State → State → Type 0} (steps : Steps P) {position : Position} {r : State} where
+module _ {freely : Bool} {P : State → State → Type 0} (steps : StepsAt freely P) {position : Position} {r : State} where
   -- ---- reading a form
 
   pub read_quoted_leads : (o : Option Value) (list : Reader) → Reads P position r list → Reads P position r (read_quoted o list)

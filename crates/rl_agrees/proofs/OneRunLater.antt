@@ -307,7 +307,10 @@ later_steps = record {
   symbol = λ i symbol s e. symbols_later _ s (record { at = λ j. set_definition s.symbols i j symbol (new_symbol [] false) e });
   definition = definition_later;
   function = function_later;
-  bindings = λ entries s. untold_later s _ refl refl refl refl refl refl refl;
+  pushed = λ e s. untold_later s _ refl refl refl refl refl refl refl;
+  valued = λ x v s. untold_later s _ refl refl refl refl refl refl refl;
+  oldest = λ r s t h k. later_then r t _ k (untold_later t _ refl refl refl refl refl refl refl);
+  freed = λ may entries s. untold_later s _ refl refl refl refl refl refl refl;
   gensyms = λ n s. untold_later s _ refl refl refl refl refl refl refl;
   event = event_later;
   input = λ rest s. untold_later s _ refl refl refl refl refl refl refl;

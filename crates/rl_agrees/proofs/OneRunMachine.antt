@@ -16,22 +16,25 @@ use Rattle.rl_meaning.specs.Machine as machine
 use Rattle.rl_meaning.specs.Machine.{as_list, proper_elements, register, with_register, after_link, with_slot, allocated, deallocated, content, bound, freed, undone, one_more, ended, at_entry, is_same, behind, behind_entry, part_linked, list_linked, definition_linked, form_linked, function_linked, linked_to, linked, again, run, seek, run_code}
 use Rattle.rl_meaning.specs.Compiling.{Compiler}
 use Rattle.rl_meaning.specs.Jobs.{run_held, code_of, job_done, rank, job_at, job, jobs, the_compiler}
-use Rattle.rl_agrees.proofs.OneRun.{Steps, Prints, Follows, LeadsAt, Leads, follows_same, stopped_leads, done_leads, then_leads, choose_leads, turn_leads, deeper_leads}
+use Rattle.rl_agrees.proofs.OneRun.{Steps, Prints, Follows, LeadsAt, Leads, follows_same, follows_then, leads_from, stopped_leads, done_leads, then_leads, choose_leads, turn_leads, deeper_leads}
 use Rattle.rl_agrees.proofs.OneRunObjects.{leading, fail_leads}
 use Rattle.rl_agrees.proofs.OneRunHolding.{hold_function_leads, copied_leads}
-use Rattle.rl_agrees.proofs.OneRunVariables.{bindings_follow, mark_follows, oldest_follows, variable_leads, assigned_leads, bind_all_leads, restored_leads}
+use Rattle.rl_agrees.proofs.OneRunVariables.{mark_follows, variable_leads, assigned_leads, bind_all_leads, restored_leads}
 use Rattle.rl_agrees.proofs.OneRunNatives.{own_name_leads}
-use Rattle.rl_agrees.proofs.OneRunEvaluation.{CompilerLeads, RecLeads, position_of, no_compiler_leads, asked_leads, taken_follows, called_leads, function_defined_leads, define_function_leads, applied_leads}
+use Rattle.rl_agrees.proofs.OneRunEvaluation.{CompilerLeads, RecLeads, position_of, no_compiler_leads, taken_follows, called_leads, function_defined_leads, define_function_leads, applied_leads}
 use Rattle.rl_agrees.proofs.OneRunForms.{eval_leads, statements_lead, walked_leads}
 
 -- ---- what asks for no job
 
 module _ {P : State → State → Type 0} (steps : Steps P) {r : State} where
+  pub bindings_follow : (entries : List state.Entry) (s : State) → Follows P r s → Follows P r (record s { bindings = entries })
+  bindings_follow entries s h = follows_then steps r s _ h (steps.freed tt entries s)
+
   pub ended_follows : (f : Frame) (s : State) → Follows P r s → Follows P r (ended f s)
-  ended_follows f s h = oldest_follows steps f.depth s h
+  ended_follows f s h = bindings_follow _ s h
 
   pub undone_follows : (n : ℕ) (s : State) → Follows P r s → Follows P r (undone n s)
-  undone_follows n s h = bindings_follow steps _ s h
+  undone_follows n s h = bindings_follow _ s h
 
   pub content_leads : (m : Machine) (o : Operand) (s : State) → Follows P r s → Leads P r (content m o s)
   content_leads m (Slot k) s h = search leading
@@ -76,10 +79,13 @@ module _ {P : State → State → Type 0} {rec : Rec} (keeps : RecLeads P rec) {
   pub linked_leads : (i : ℕ) (levels : Levels) (vs : List Value) (s : State) → Follows P r s → Leads P r (linked rec i levels vs s)
   linked_leads i levels vs s h = linked_to_leads (symbol_at s i).definition i levels vs s h
 
+  pub onward_leads : (f : Frame) (m : Machine) (code : Code) (s : State) → Follows P r s → Leads P r (rec.ask (Onward f m code) s)
+  onward_leads f m code s h = leads_from keeps.steps r s _ h (keeps.asks (Onward f m code) s)
+
   pub again_leads : (f : Frame) (vs : List Value) (s : State) → Follows P r s → Leads P r (again rec f vs s)
   again_leads f vs s h =
       turn_leads keeps.steps s _ h (λ t h. let u : State = rec.compiler.requests_taken (Some f.name) t in let k = taken_follows keeps (Some f.name) t h in
-      deeper_leads keeps.steps 1 f.outside u _ k (λ l. asked_leads keeps (Onward f (at_entry vs l) (behind_entry f.code)) (with_mark f.function u) (mark_follows keeps.steps f.function u k)))
+      deeper_leads keeps.steps 1 f.outside u _ k (λ l. onward_leads f (at_entry vs l) (behind_entry f.code) (with_mark f.function u) (mark_follows keeps.steps f.function u k)))
 
   -- ---- code
 
@@ -104,7 +110,7 @@ module _ {P : State → State → Type 0} {rec : Rec} (keeps : RecLeads P rec) {
     run_leads f (JumpEq l o ∷ rest) m s h = then_leads _ _ (content_leads keeps.steps m o s h) (λ v t h. choose_leads (same (register m 1) v) t _ _ (seek_leads f l rest m t h) (run_leads f rest m t h))
     run_leads f (JumpNe l o ∷ rest) m s h = then_leads _ _ (content_leads keeps.steps m o s h) (λ v t h. choose_leads (same (register m 1) v) t _ _ (run_leads f rest m t h) (seek_leads f l rest m t h))
     run_leads f (Label l ∷ rest) m s h = run_leads f rest m s h
-    run_leads f (GoTo l ∷ rest) m s h = turn_leads keeps.steps s _ h (λ t h. asked_leads keeps (Onward f m (behind l f.code)) t h)
+    run_leads f (GoTo l ∷ rest) m s h = turn_leads keeps.steps s _ h (λ t h. onward_leads f m (behind l f.code) t h)
     run_leads f (Bind pairs ∷ rest) m s h = bound_leads keeps.steps f.held _ _ m s _ h (λ m t h. run_leads f rest m t h)
     run_leads f (ProgBind xs ∷ rest) m s h = bound_leads keeps.steps f.held xs [] m s _ h (λ m t h. run_leads f rest m t h)
     run_leads f (Free n ∷ rest) m s h = run_leads f rest (freed n m) (undone n s) (undone_follows keeps.steps n s h)
@@ -118,7 +124,7 @@ module _ {P : State → State → Type 0} {rec : Rec} (keeps : RecLeads P rec) {
     seek_leads f l [] m s h = done_leads nil s h
 
   pub run_code_leads : (levels : Levels) (f : Option Pointer) (held : Held) (code : Code) (vs : List Value) (s : State) → Follows P r s → Leads P r (run_code rec levels f held code vs s)
-  run_code_leads levels f held (Entry i n ∷ rest) vs s h = restored_leads keeps.steps (length s.bindings) _ (run_leads _ rest (at_entry vs levels) (with_mark f s) (mark_follows keeps.steps f s h))
+  run_code_leads levels f held (Entry i n ∷ rest) vs s h = restored_leads keeps.steps s _ h (run_leads _ rest (at_entry vs levels) (with_mark f s) (mark_follows keeps.steps f s h))
   run_code_leads levels f held other vs s h = done_leads nil s h
 
   -- ---- jobs

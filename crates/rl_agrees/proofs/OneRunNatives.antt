@@ -14,7 +14,7 @@ use Rattle.rl_meaning.specs.Properties.{Place, look_for, with_properties, of_ide
 use Rattle.rl_meaning.specs.Definitions.{with_definition, define, definition_pair, getd, Body, Given, Lambda, kind_of, with_kind, body_in, with_body, own_name, hold_lambda, function_of, putd, remd, declared, declare, fluid, global, undeclare, unfluid, set}
 use Rattle.rl_meaning.specs.Natives.{argument, native}
 use Rattle.rl_meaning.specs.Evaluation.{Position}
-use Rattle.rl_agrees.proofs.OneRun.{Steps, Prints, Follows, LeadsAt, follows_then, then_leads}
+use Rattle.rl_agrees.proofs.OneRun.{StepsAt, Prints, Follows, LeadsAt, follows_then, then_leads}
 use Rattle.rl_agrees.proofs.OneRunObjects.{leading, pair_leads, chained_none, made_list_leads, made_follows, changed_follows, cdr_changed_follows, reading_pair_follows}
 use Rattle.rl_agrees.proofs.OneRunWalks.{walk_leads, equal_leads}
 use Rattle.rl_agrees.proofs.OneRunHolding.{hold_function_leads}
@@ -39,7 +39,7 @@ any_prints P Print p = p
 any_prints P Terpri p = p
 any_prints P other p = tt
 
-module _ {P : State → State → Type 0} (steps : Steps P) {r : State} where
+module _ {freely : Bool} {P : State → State → Type 0} (steps : StepsAt freely P) {r : State} where
   pub gensyms_follow : (n : ℕ) (s : State) → Follows P r s → Follows P r (record s { gensyms = n })
   gensyms_follow n s h = follows_then steps r s _ h (steps.gensyms n s)
 
@@ -65,7 +65,7 @@ module _ {P : State → State → Type 0} (steps : Steps P) {r : State} where
   pub define_follows : (i : ℕ) (kind : Kind) (p : Pointer) (s : State) → Follows P r s → Follows P r (define i kind p s)
   define_follows i kind p s h = definition_follows i _ s h
 
-module _ {P : State → State → Type 0} (steps : Steps P) {position : Position} {r : State} where
+module _ {freely : Bool} {P : State → State → Type 0} (steps : StepsAt freely P) {position : Position} {r : State} where
   -- ---- vectors
 
   pub places_lead : (n : ℕ) (s : State) → Follows P r s → LeadsAt P position r (made_places n s)

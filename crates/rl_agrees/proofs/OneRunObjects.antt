@@ -13,9 +13,9 @@ use Rattle.rl_meaning.specs.Constants.{changing, met, event_read, objects_read, 
 use Rattle.rl_meaning.specs.Copying.{with_object}
 use Rattle.rl_meaning.specs.Lists.{cdr_set, Chain, hung, extended, ended, made_list}
 use Rattle.rl_meaning.specs.Evaluation.{Position}
-use Rattle.rl_agrees.proofs.OneRun.{Steps, Follows, LeadsAt, Makes, then_makes, then_with, room_makes, follows_then, done_leads, failed_leads, stopped_leads, then_leads, choose_leads, turn_leads, deeper_leads, descends_leads, pair_turn_leads, room_leads}
+use Rattle.rl_agrees.proofs.OneRun.{StepsAt, Follows, LeadsAt, Makes, then_makes, then_with, room_makes, follows_then, done_leads, failed_leads, stopped_leads, then_leads, choose_leads, turn_leads, deeper_leads, descends_leads, pair_turn_leads, room_leads}
 
-module _ {P : State → State → Type 0} (steps : Steps P) {r : State} where
+module _ {freely : Bool} {P : State → State → Type 0} (steps : StepsAt freely P) {r : State} where
   pub made_follows : (o : Object) (s : State) → Follows P r s → Follows P r (record s { store = s.store ++ o ∷ [] })
   made_follows o s h = follows_then steps r s _ h (steps.made o s)
 
@@ -57,7 +57,7 @@ module _ {P : State → State → Type 0} (steps : Steps P) {r : State} where
 -- what outcomes are made of
 pub ruleset ways = (done_leads, failed_leads, stopped_leads, then_leads, choose_leads, turn_leads, deeper_leads, descends_leads, pair_turn_leads, room_leads)
 
-module _ {P : State → State → Type 0} (steps : Steps P) {position : Position} {r : State} where
+module _ {freely : Bool} {P : State → State → Type 0} (steps : StepsAt freely P) {position : Position} {r : State} where
   pub pair_leads : (a d : Value) (s : State) → Follows P r s → LeadsAt P position r (made_pair a d s)
   pair_leads a d s h = search (ways, made_follows)
 
@@ -110,7 +110,7 @@ pub record Chained (r : State) (chain : Chain) : Type 0 where
 pub chained_none : (r : State) → Chained r None
 chained_none r = record { last = tt }
 
-module _ {P : State → State → Type 0} (steps : Steps P) {r : State} where
+module _ {freely : Bool} {P : State → State → Type 0} (steps : StepsAt freely P) {r : State} where
   pub fresh_follows : (v : Value) (o : Object) (s : State) → IsNew r v → Follows P r s → Follows P r (with_object v o s)
   fresh_follows (Ref k) o s new h = record { is = steps.fresh k o r s h.is new.is }
   fresh_follows (Int z) o s new h = h
@@ -131,7 +131,7 @@ module _ {P : State → State → Type 0} (steps : Steps P) {r : State} where
     | Some parts ↦ changed_follows steps p _ s h
   ]
 
-module _ {P : State → State → Type 0} (steps : Steps P) {position : Position} {r : State} where
+module _ {freely : Bool} {P : State → State → Type 0} (steps : StepsAt freely P) {position : Position} {r : State} where
   pub pair_makes : (a d : Value) (s : State) → Follows P r s → Makes P position r (λ p t. IsNew r p) (made_pair a d s)
   pair_makes a d s h = room_makes steps _ 1 s _ h (λ t f. record { leads = done_leads _ _ (made_follows steps _ t f); good = record { is = steps.grows r t f.is } })
 

@@ -11,7 +11,7 @@ use Rattle.rl_meaning.specs.Printing.{page_of, setting_in, progress_in, levels_i
 use Rattle.rl_meaning.specs.Printing as text
 use Rattle.rl_meaning.specs.Evaluation.{Position}
 use Rattle.rl_agrees.specs.Later.{IsMore}
-use Rattle.rl_agrees.proofs.OneRun.{Steps, Prints, Follows, LeadsAt, follows_then}
+use Rattle.rl_agrees.proofs.OneRun.{StepsAt, Prints, Follows, LeadsAt, follows_then}
 use Rattle.rl_agrees.proofs.OneRunObjects.{leading, reading_whole_follows}
 
 -- ---- lists that begin alike
@@ -152,7 +152,7 @@ module _ (old : List ℕ) where
 
 -- ---- in a state
 
-module _ {P : State → State → Type 0} (steps : Steps P) (prints : Prints P) {r : State} where
+module _ {freely : Bool} {P : State → State → Type 0} (steps : StepsAt freely P) (prints : Prints P) {r : State} where
   pub page_follows : (page : Page) (s : State) → IsMore s.outside.output page.text → Follows P r s → Follows P r (with_page page s)
   page_follows page s more h = follows_then steps r s _ h (prints.printed page s more)
 
@@ -172,11 +172,11 @@ module _ {P : State → State → Type 0} (steps : Steps P) (prints : Prints P) 
   pub note_follows : (line : List ℕ) (s : State) → Follows P r s → Follows P r (note line s)
   note_follows line s h = follows_then steps r s _ h (prints.note_ line s)
 
-module _ {P : State → State → Type 0} (steps : Steps P) {r : State} where
+module _ {freely : Bool} {P : State → State → Type 0} (steps : StepsAt freely P) {r : State} where
   pub length_follows : (n : ℕ) (s : State) → Follows P r s → Follows P r (record s { outside = record s.outside { line_length = n } })
   length_follows n s h = follows_then steps r s _ h (steps.line_length n s)
 
-module _ {P : State → State → Type 0} (steps : Steps P) (prints : Prints P) {position : Position} {r : State} where
+module _ {freely : Bool} {P : State → State → Type 0} (steps : StepsAt freely P) (prints : Prints P) {position : Position} {r : State} where
   pub ended_printing_leads : (e : Ending) (s : State) → Follows P r s → LeadsAt P position r (ended_printing e s)
   ended_printing_leads Whole s h = search leading
   ended_printing_leads NoTurn s h = search leading
@@ -204,7 +204,7 @@ module _ {P : State → State → Type 0} (steps : Steps P) (prints : Prints P) 
   pub print_leads : (levels : Levels) (v : Value) (s : State) → Follows P r s → LeadsAt P position r (print levels v s)
   print_leads levels v s h = search (leading, print_value_leads, end_of_line_follows)
 
-module _ {P : State → State → Type 0} (steps : Steps P) {position : Position} {r : State} where
+module _ {freely : Bool} {P : State → State → Type 0} (steps : StepsAt freely P) {position : Position} {r : State} where
   pub linelength_leads : (v : Value) (s : State) → Follows P r s → LeadsAt P position r (linelength v s)
   linelength_leads (Int (pos (suc n))) s h = search (leading, length_follows)
   linelength_leads (Int z) s h = search leading

@@ -71,7 +71,10 @@ quiet_steps = record {
   symbol = λ i symbol s e. untold s _ refl refl;
   definition = definition_quiet;
   function = λ f s. untold s _ refl refl;
-  bindings = λ entries s. untold s _ refl refl;
+  pushed = λ e s. untold s _ refl refl;
+  valued = λ x v s. untold s _ refl refl;
+  oldest = λ r s t h k. quiet_then r t _ k (untold t _ refl refl);
+  freed = λ may entries s. untold s _ refl refl;
   gensyms = λ n s. untold s _ refl refl;
   event = λ e s. untold s (with_event e s) refl refl;
   input = λ rest s. record { output = refl; notes = refl; objects = omega arith };

@@ -10,14 +10,14 @@ use Rattle.rl_meaning.specs.Lists.{Chain}
 use Rattle.rl_meaning.specs.Errors.{unreadable}
 use Rattle.rl_meaning.specs.Input.{with_input, byte_number, Place, made_in, made_atom, byte_turn, entered_from, enter, ended_chain, vector_of, quoted, in_state, Reading, Form, End, Unreadable, reading_of, read_bytes, read_ended, read, readch_of, readch}
 use Rattle.rl_meaning.specs.Evaluation.{Position, Inside}
-use Rattle.rl_agrees.proofs.OneRun.{Steps, Follows, LeadsAt, Leads, Makes, follows_then, done_leads, stopped_leads, makes_any, deeper_leads}
+use Rattle.rl_agrees.proofs.OneRun.{StepsAt, Follows, LeadsAt, Leads, Makes, follows_then, done_leads, stopped_leads, makes_any, deeper_leads}
 use Rattle.rl_agrees.proofs.OneRunObjects.{leading, fail_leads, Chained, chained_none, cdr_set_follows, extended_makes}
 use Rattle.rl_agrees.proofs.OneRunReader.{Gives, IsKept, Reads, reads}
 
-pub input_follows : {P : State → State → Type 0} (steps : Steps P) {r : State} (rest : List ℕ) (s : State) → Follows P r s → Follows P r (with_input rest s)
+pub input_follows : {freely : Bool} {P : State → State → Type 0} (steps : StepsAt freely P) {r : State} (rest : List ℕ) (s : State) → Follows P r s → Follows P r (with_input rest s)
 input_follows steps {r} rest s h = follows_then steps r s _ h (steps.input rest s)
 
-module _ {P : State → State → Type 0} (steps : Steps P) {position : Position} {r : State} where
+module _ {freely : Bool} {P : State → State → Type 0} (steps : StepsAt freely P) {position : Position} {r : State} where
   pub atom_leads : (a : word.Atom) (s : State) → Follows P r s → LeadsAt P position r (made_atom a s)
   atom_leads (word.Integer z) s h = search leading
   atom_leads (word.Identifier name) s h = search leading
@@ -66,7 +66,7 @@ module _ (P : State → State → Type 0) (r : State) where
   reading_leads bytes (reader.Refused place from) h = done_leads _ _ h.is
   reading_leads bytes (reader.Stopped why place rest) h = stopped_leads _ _ h.is
 
-module _ {P : State → State → Type 0} (steps : Steps P) (r : State) where
+module _ {freely : Bool} {P : State → State → Type 0} (steps : StepsAt freely P) (r : State) where
   pub enter_gives : (place : Place) → Follows P r place.state → Gives (Kept P r) (Good P r) (λ (u : Unit {0}). Unit {0}) (enter place)
   enter_gives place h = entered_gives P r place.levels (deeper 1 place.levels place.state (λ levels. Done levels place.state)) (deeper_leads steps 1 place.levels place.state _ h (λ l. search leading))
 
@@ -83,7 +83,7 @@ module _ {P : State → State → Type 0} (steps : Steps P) (r : State) where
     quoted = λ v place h. made_gives P r _ place.levels _ (makes_any _ (quoted_leads steps v place.state h));
   }
 
-module _ {P : State → State → Type 0} (steps : Steps P) {position : Position} {r : State} where
+module _ {freely : Bool} {P : State → State → Type 0} (steps : StepsAt freely P) {position : Position} {r : State} where
   pub read_bytes_leads : (turns : Bool) (levels : Levels) (bytes : List ℕ) (s : State) → Follows P r s → LeadsAt P position r (read_bytes turns levels bytes s)
   read_bytes_leads turns levels bytes s h = reading_leads P r bytes _ (reads (Kept P r) (Good P r) (in_state turns) (in_state_kept steps r turns) (record { state = s; levels = levels }) bytes h)
 

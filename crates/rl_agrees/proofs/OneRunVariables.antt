@@ -6,7 +6,7 @@ use Rattle.rl_tree.specs.declared.held.VarKind.TheVariants as kind
 use Rattle.rl_meaning.specs.Names.{Operation}
 use Rattle.rl_meaning.specs.Constants.{reading}
 use Rattle.rl_meaning.specs.Names as names
-use Rattle.rl_meaning.specs.State.{State, Kept, Scope, Pointer, Entry}
+use Rattle.rl_meaning.specs.State.{State, Kept, Scope, Pointer, Binding, Mark}
 use Rattle.rl_meaning.specs.Outcome.{Outcome, Done, Failed, Went, Returned, Stopped, Levels}
 use Rattle.rl_meaning.specs.Symbols.{nil, pair_at}
 use Rattle.rl_meaning.specs.Variables.{Nearest, strays, top_value, used, nearest, variable, with_value, set_by, assigned, assigned_by_name, with_binding, with_mark, bound_as, bind, bind_all, binding_levels, with_oldest, restored, binding}
@@ -14,24 +14,22 @@ use Rattle.rl_meaning.specs.Numbers.{integer, power, raised_to, of_two, of_one, 
 use Rattle.rl_meaning.specs.Lists.{with_pair, part, with_car, with_cdr, Chain, append, reversed, list_length, first_pair, member, memq, associated, assoc, joined, nconc, and_goes}
 use Rattle.rl_meaning.specs.Walks.{Goes, Walked}
 use Rattle.rl_meaning.specs.Evaluation.{Position}
-use Rattle.rl_agrees.proofs.OneRun.{Steps, Follows, LeadsAt, Makes, follows_then, done_leads, failed_leads, went_leads, returned_leads, done_makes, then_leads, then_makes, then_with, deeper_leads}
+use Rattle.rl_agrees.proofs.OneRun.{StepsAt, Follows, LeadsAt, Makes, follows_then, done_leads, failed_leads, went_leads, returned_leads, done_makes, then_leads, then_makes, then_with, deeper_leads}
 use Rattle.rl_agrees.proofs.OneRunObjects.{leading, Chained, chained_none, extended_makes, ended_leads, top_follows, event_follows, changed_follows, cdr_changed_follows, reading_follows}
 use Rattle.rl_agrees.proofs.OneRunWalks.{FurtherIs, walk_makes, walk_leads, equal_leads}
 
 -- ---- variables and bindings
 
-module _ {P : State → State → Type 0} (steps : Steps P) {r : State} where
-  pub bindings_follow : (entries : List Entry) (s : State) → Follows P r s → Follows P r (record s { bindings = entries })
-  bindings_follow entries s h = follows_then steps r s _ h (steps.bindings entries s)
-
+module _ {freely : Bool} {P : State → State → Type 0} (steps : StepsAt freely P) {r : State} where
   pub binding_follows : (x : ℕ) (scope : Scope) (v : Value) (s : State) → Follows P r s → Follows P r (with_binding x scope v s)
-  binding_follows x scope v s h = bindings_follow _ s h
+  binding_follows x scope v s h = follows_then steps r s _ h (steps.pushed (Binding x scope v) s)
 
   pub mark_follows : (f : Option Pointer) (s : State) → Follows P r s → Follows P r (with_mark f s)
-  mark_follows f s h = bindings_follow _ s h
+  mark_follows f s h = follows_then steps r s _ h (steps.pushed (Mark f) s)
 
-  pub oldest_follows : (n : ℕ) (s : State) → Follows P r s → Follows P r (with_oldest n s)
-  oldest_follows n s h = bindings_follow _ s h
+  -- back to as many entries as there were
+  pub oldest_follows : (s t : State) → Follows P r s → Follows P r t → Follows P r (with_oldest (length s.bindings) t)
+  oldest_follows s t h k = record { is = steps.oldest r s t h.is k.is }
 
   pub strays_follows : (b : Bool) (x : ℕ) (s : State) → Follows P r s → Follows P r (strays b x s)
   strays_follows true x s h = event_follows steps _ s h
@@ -39,9 +37,9 @@ module _ {P : State → State → Type 0} (steps : Steps P) {r : State} where
 
   pub with_value_follows : (o : Option Nearest) (x : ℕ) (v : Value) (s : State) → Follows P r s → Follows P r (with_value o x v s)
   with_value_follows None x v s h = top_follows steps x v s h
-  with_value_follows (Some b) x v s h = bindings_follow _ s h
+  with_value_follows (Some b) x v s h = follows_then steps r s _ h (steps.valued x v s)
 
-module _ {P : State → State → Type 0} (steps : Steps P) {position : Position} {r : State} where
+module _ {freely : Bool} {P : State → State → Type 0} (steps : StepsAt freely P) {position : Position} {r : State} where
   pub top_value_leads : (o : Option Value) (x : ℕ) (s : State) → Follows P r s → LeadsAt P position r (top_value o x s)
   top_value_leads (Some v) x s h = search leading
   top_value_leads None x s h = search leading
@@ -75,16 +73,16 @@ module _ {P : State → State → Type 0} (steps : Steps P) {position : Position
   bind_all_leads kept (x ∷ xs) (v ∷ vs) s h = then_leads _ _ (bind_leads kept x v s h) (λ done t f. bind_all_leads kept xs vs t f)
   bind_all_leads kept (x ∷ xs) [] s h = then_leads _ _ (bind_leads kept x nil s h) (λ done t f. bind_all_leads kept xs [] t f)
 
-  pub restored_leads : {A : Type 0} (n : ℕ) (o : Outcome A) → LeadsAt P position r o → LeadsAt P position r (restored n o)
-  restored_leads n (Done a s) h = done_leads a _ (oldest_follows steps n s (record { is = h.moves }))
-  restored_leads n (Failed e m s) h = failed_leads e m _ (oldest_follows steps n s (record { is = h.moves }))
-  restored_leads n (Went l s) h = went_leads l s _ h (oldest_follows steps n s (record { is = h.moves }))
-  restored_leads n (Returned v s) h = returned_leads v s _ h (oldest_follows steps n s (record { is = h.moves }))
-  restored_leads n (Stopped why s) h = h
+  pub restored_leads : {A : Type 0} (s : State) (o : Outcome A) → Follows P r s → LeadsAt P position r o → LeadsAt P position r (restored (length s.bindings) o)
+  restored_leads s (Done a t) f h = done_leads a _ (oldest_follows steps s t f (record { is = h.moves }))
+  restored_leads s (Failed e m t) f h = failed_leads e m _ (oldest_follows steps s t f (record { is = h.moves }))
+  restored_leads s (Went l t) f h = went_leads l t _ h (oldest_follows steps s t f (record { is = h.moves }))
+  restored_leads s (Returned v t) f h = returned_leads v t _ h (oldest_follows steps s t f (record { is = h.moves }))
+  restored_leads s (Stopped why t) f h = h
 
   pub binding_leads : {A : Type 0} (levels : Levels) (kept : List Kept) (xs : List ℕ) (vs : List Value) (s : State) (next : Levels → State → Outcome A) → Follows P r s → ((l : Levels) (t : State) → Follows P r t → LeadsAt P position r (next l t)) → LeadsAt P position r (binding levels kept xs vs s next)
   binding_leads levels kept xs vs s next h k =
-      deeper_leads steps (binding_levels (length xs)) levels s _ h (λ l. restored_leads _ _ (then_leads _ _ (bind_all_leads kept xs vs s h) (λ done t f. k l t f)))
+      deeper_leads steps (binding_levels (length xs)) levels s _ h (λ l. restored_leads s _ h (then_leads _ _ (bind_all_leads kept xs vs s h) (λ done t f. k l t f)))
 
   -- ---- numbers
 

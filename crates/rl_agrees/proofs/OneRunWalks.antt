@@ -7,7 +7,7 @@ use Rattle.rl_meaning.specs.Symbols.{pair_at, vector_at}
 use Rattle.rl_meaning.specs.Walks.{Further, Goes, Ends, Walked, walk_on, walk_pair, walk_within, walk, Comparison, both, reading_both, places_equal, vectors_equal, objects_equal, equal_at, equal_within, equal}
 use Rattle.rl_meaning.specs.Constants.{reading}
 use Rattle.rl_meaning.specs.Evaluation.{Position}
-use Rattle.rl_agrees.proofs.OneRun.{Steps, Follows, LeadsAt, Makes, done_makes, then_makes, turn_makes, then_leads, choose_leads, turn_leads, descends_leads, pair_turn_leads}
+use Rattle.rl_agrees.proofs.OneRun.{StepsAt, Follows, LeadsAt, Makes, done_makes, then_makes, turn_makes, then_leads, choose_leads, turn_leads, descends_leads, pair_turn_leads}
 use Rattle.rl_agrees.proofs.OneRunObjects.{leading, reading_follows}
 
 -- ---- along a list
@@ -17,7 +17,7 @@ abbrev pub FurtherIs : {A : Type 0} → (A → Type 0) → Further A → State �
 FurtherIs Good (Goes a) s = Good a
 FurtherIs Good (Ends a) s = Good a
 
-module _ {P : State → State → Type 0} (steps : Steps P) {position : Position} {r : State} {A : Type 0} (Good : A → Type 0) (visit : A → Value → Value → State → Outcome (Further A))
+module _ {freely : Bool} {P : State → State → Type 0} (steps : StepsAt freely P) {position : Position} {r : State} {A : Type 0} (Good : A → Type 0) (visit : A → Value → Value → State → Outcome (Further A))
     (visits : (a : A) (v x : Value) (s : State) → Follows P r s → Good a → Makes P position r (FurtherIs Good) (visit a v x s)) where
   abbrev pub Comes : Outcome (Walked A) → Type 0
   Comes o = Makes P position r (λ w t. Good w.result) o
@@ -39,7 +39,7 @@ module _ {P : State → State → Type 0} (steps : Steps P) {position : Position
   pub walk_makes : (a : A) (v : Value) (s : State) → Follows P r s → Good a → Comes (walk visit a v s)
   walk_makes a v s h good = walk_within_makes (suc (turns_left s)) a v s h good
 
-module _ {P : State → State → Type 0} (steps : Steps P) {position : Position} {r : State} {A : Type 0} (visit : A → Value → Value → State → Outcome (Further A))
+module _ {freely : Bool} {P : State → State → Type 0} (steps : StepsAt freely P) {position : Position} {r : State} {A : Type 0} (visit : A → Value → Value → State → Outcome (Further A))
     (visits : (a : A) (v x : Value) (s : State) → Follows P r s → LeadsAt P position r (visit a v x s)) where
   pub any_further : (o : Outcome (Further A)) → LeadsAt P position r o → Makes P position r (FurtherIs (λ (a : A). Unit {0})) o
   any_further (Done (Goes a) s) h = record { leads = h; good = tt }
@@ -55,10 +55,10 @@ module _ {P : State → State → Type 0} (steps : Steps P) {position : Position
 
 -- ---- EQUAL
 
-pub reading_both_follows : {P : State → State → Type 0} (steps : Steps P) {r : State} (u v : Value) (s : State) → Follows P r s → Follows P r (reading_both u v s)
+pub reading_both_follows : {freely : Bool} {P : State → State → Type 0} (steps : StepsAt freely P) {r : State} (u v : Value) (s : State) → Follows P r s → Follows P r (reading_both u v s)
 reading_both_follows steps u v s h = search reading_follows
 
-module _ {P : State → State → Type 0} (steps : Steps P) {position : Position} {r : State} where
+module _ {freely : Bool} {P : State → State → Type 0} (steps : StepsAt freely P) {position : Position} {r : State} where
   pub both_leads : (first : Outcome Bool) (second : State → Outcome Bool) → LeadsAt P position r first → ((t : State) → Follows P r t → LeadsAt P position r (second t)) → LeadsAt P position r (both first second)
   both_leads first second h k = then_leads _ _ h (λ b t f. choose_leads b t _ _ (k t f) (search leading))
 

@@ -1,5 +1,5 @@
 -- Laws of one run: what was there stays, and only a statement of a PROG leaves by GO or RETURN. And the laws of two runs: one in which code runs agrees with the walk of the same program, and so do two walks, of which one may lack local bindings (this project's).
-use Rattle.std.specs.Prelude.{◌≡◌, ℕ, false, List, Option}
+use Rattle.std.specs.Prelude.{◌≡◌, ℕ, false, List, Option, None}
 use Rattle.rl_tree.specs.Name.{Name}
 use Rattle.rl_tree.specs.Value.{Value}
 use Rattle.rl_meaning.specs.State.{State}
@@ -14,6 +14,7 @@ use Rattle.rl_meaning.specs.TwoRunsEnds.{HasShown, OneBegins, Ends}
 use Rattle.rl_agrees.specs.Later.{Later}
 use Rattle.rl_agrees.specs.Leaving.{IsPlain, is_statement}
 use Rattle.rl_agrees.specs.TwoRunsJobs.{EventWithin, SameJob, Ready, MayLack}
+use Rattle.rl_agrees.specs.Heads.{IsWalk, IsBelow, HeadsStayIn}
 use Rattle.rl_agrees.specs.TwoRunsRuns.{RunsAgree, HasRoom, HasNoEvent, SameRun, printed_first, noted_first, IsSound, running, walking}
 
 -- the state behind a job, and behind a run, is later than the one before
@@ -24,6 +25,14 @@ pub record RunsGoOn : Type 0 where
 
 pub record OnlyStatementsLeave : Type 0 where
   pub plain : (j : Job) (s : State) → is_statement j ≡ false → IsPlain (job the_compiler j s)
+
+-- where all functions are walked, bindings and marks stay below what a job binds, whatever it comes to
+pub record MarksStay : Type 0 where
+  pub below : (j : Job) (s : State) → IsWalk j → s.compilation.runs_code ≡ false → IsBelow s (state_of (job the_compiler j s))
+
+-- and with no event by then, what the bodies of running functions rest on stays
+pub record HeadsStay : Type 0 where
+  pub heads : (j : Job) (s : State) → IsWalk j → s.compilation.runs_code ≡ false → (state_of (job the_compiler j s)).watched.event ≡ None → HeadsStayIn s (state_of (job the_compiler j s))
 
 pub record CodeAgrees : Type 0 where
   -- from one sound state in which each code is right and rests on what stands, over one source; where both have a bound, that of the walk is no wider

@@ -1,5 +1,6 @@
 pub mod Later
 pub mod Leaving
+pub mod Heads
 pub mod Expanding
 pub mod TwoRunsJobs
 pub mod TwoRunsRuns

@@ -1,5 +1,5 @@
 //! Laws of one run, and of two. A law is the contract of a function that does nothing.
-ghost use Rattle.rl_agrees.specs.Laws.{RunsGoOn, OnlyStatementsLeave, CodeAgrees, WalksAgree};
+ghost use Rattle.rl_agrees.specs.Laws.{RunsGoOn, OnlyStatementsLeave, MarksStay, HeadsStay, CodeAgrees, WalksAgree};
 ghost use Rattle.rl_agrees.specs.Expanding.{PlainExpandsAlone};
 ghost use Rattle.rl_agrees.specs.Identity.{ACodeIsRight};
 
@@ -11,6 +11,16 @@ pub fn runs_go_on()
 /// Only a statement of a PROG leaves by GO or RETURN.
 pub fn only_statements_leave()
     ensures { OnlyStatementsLeave }
+{}
+
+/// Where all functions are walked, the bindings and marks before a job stay below those that it leaves; only values of bindings change.
+pub fn marks_stay()
+    ensures { MarksStay }
+{}
+
+/// Where all functions are walked and nothing turned or strayed by the end of a job, the names that the body of a running function rests on have equal definitions before and after, or are no FEXPR and no MACRO and are reached through no macro.
+pub fn heads_stay()
+    ensures { HeadsStay }
 {}
 
 /// Where two runs stand side by side, an expansion of a plain macro in the right one leaves them so.

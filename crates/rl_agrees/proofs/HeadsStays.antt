@@ -1,0 +1,249 @@
+-- What a body rests on stays, a change at a time: equal definitions, and what rests on them.
+use Rattle.std.proofs.Common.{◌≡◌, ◌⊎◌, inl, inr, ℕ, ℤ, pos, negsuc, ◌==◌, ◌&&◌, not, Bool, true, false, List, [], ◌∷◌, ◌++◌, Option, Some, None, refl, sym, ap, ◌∙◌, subst}
+use Rattle.std.proofs.lemmas.Slice.Eq.{bytes_eq-Decides}
+use Rattle.rl_tree.specs.Value.{Value, Int, Id, Str, Ref, Fun}
+use Rattle.rl_tree.specs.declared.held.Kind.{Kind}
+use Rattle.rl_tree.specs.declared.held.Kind.TheVariants.{Expr, Fexpr, Macro}
+use Rattle.rl_tree.specs.declared.held.VarKind.{VarKind}
+use Rattle.rl_tree.specs.declared.held.VarKind.TheVariants as variable
+use Rattle.rl_meaning.specs.State.{State, Tree, Atom, Quoted, Pair, Literal, Kept, Held, Pointer, Definition, Function, SpecialForm, NativeFunction, HeldFunction}
+use Rattle.rl_meaning.specs.Symbols.{same_integer, same, symbol_at}
+use Rattle.rl_meaning.specs.Holding.{function_id, with_identifier, with_identifiers, kept_kind, function_at}
+use Rattle.rl_meaning.specs.Reach.{is_opened, same_kind, same_var_kind, same_tree, same_names, same_kept, same_held, same_function, same_definition, expands}
+use Rattle.rl_agrees.specs.Later.{IsMore, IsIn}
+use Rattle.rl_agrees.specs.Heads.{name_in, names_in, names_of, RestsOn, on_truth, on_name, on_opened, Stays}
+use Rattle.rl_agrees.proofs.LaterStands.{and_first, and_second, and_both, nat_is, function_same, pointer_is, same_definition_more, function_more}
+
+-- ---- what passes the tests is the same
+
+kind_is : (k l : Kind) → same_kind k l ≡ true → k ≡ l
+kind_is Expr Expr h = refl
+kind_is Fexpr Fexpr h = refl
+kind_is Macro Macro h = refl
+kind_is Expr Fexpr h = absurd (cc)
+kind_is Expr Macro h = absurd (cc)
+kind_is Fexpr Expr h = absurd (cc)
+kind_is Fexpr Macro h = absurd (cc)
+kind_is Macro Expr h = absurd (cc)
+kind_is Macro Fexpr h = absurd (cc)
+
+kind_same : (k : Kind) → same_kind k k ≡ true
+kind_same Expr = refl
+kind_same Fexpr = refl
+kind_same Macro = refl
+
+var_kind_is : (k l : VarKind) → same_var_kind k l ≡ true → k ≡ l
+var_kind_is variable.Plain variable.Plain h = refl
+var_kind_is variable.Fluid variable.Fluid h = refl
+var_kind_is variable.Global variable.Global h = refl
+var_kind_is variable.Plain variable.Fluid h = absurd (cc)
+var_kind_is variable.Plain variable.Global h = absurd (cc)
+var_kind_is variable.Fluid variable.Plain h = absurd (cc)
+var_kind_is variable.Fluid variable.Global h = absurd (cc)
+var_kind_is variable.Global variable.Plain h = absurd (cc)
+var_kind_is variable.Global variable.Fluid h = absurd (cc)
+
+integer_is : (z w : ℤ) → same_integer z w ≡ true → z ≡ w
+integer_is (pos n) (pos m) h = ap pos (nat_is n m h)
+integer_is (negsuc n) (negsuc m) h = ap negsuc (nat_is n m h)
+integer_is (pos n) (negsuc m) h = absurd (cc)
+integer_is (negsuc n) (pos m) h = absurd (cc)
+
+value_is : (v w : Value) → same v w ≡ true → v ≡ w
+value_is (Int z) (Int w) h = ap Int (integer_is z w h)
+value_is (Id i) (Id j) h = ap Id (nat_is i j h)
+value_is (Str a) (Str b) h = ap Str ((bytes_eq-Decides a b).0 h)
+value_is (Ref r) (Ref q) h = ap Ref (nat_is r q h)
+value_is (Fun f i) (Fun g j) h = ap (λ x. Fun x i) (nat_is f g (and_first _ _ h)) ∙ ap (λ y. Fun g y) (nat_is i j (and_second (f == g) _ h))
+value_is v w h = absurd (cc)
+
+names_is : (xs ys : List ℕ) → same_names xs ys ≡ true → xs ≡ ys
+names_is [] [] h = refl
+names_is (x ∷ xs) (y ∷ ys) h = ap (λ z. z ∷ xs) (nat_is x y (and_first _ _ h)) ∙ ap (λ zs. y ∷ zs) (names_is xs ys (and_second (x == y) _ h))
+names_is [] (y ∷ ys) h = absurd (cc)
+names_is (x ∷ xs) [] h = absurd (cc)
+
+-- ---- trees with the same leaves
+
+tree_names : (t u : Tree) → same_tree t u ≡ true → names_in t ≡ names_in u
+tree_names (Atom v) (Atom w) h = ap name_in (value_is v w h)
+tree_names (Quoted v) (Quoted w) h = ap name_in (value_is v w h)
+tree_names (Pair a d) (Pair b e) h = ap (λ xs. xs ++ names_in d) (tree_names a b (and_first _ _ h)) ∙ ap (λ ys. names_in b ++ ys) (tree_names d e (and_second (same_tree a b) _ h))
+tree_names (Literal n e) (Literal m f) h = ap (λ xs. function_id ∷ xs) (tree_names e f h)
+tree_names t u h = absurd (cc)
+
+tree_identifiers : (xs : List ℕ) (t u : Tree) → same_tree t u ≡ true → with_identifiers xs t ≡ with_identifiers xs u
+tree_identifiers xs (Atom v) (Atom w) h = ap (λ x. with_identifiers xs (Atom x)) (value_is v w h)
+tree_identifiers xs (Quoted v) (Quoted w) h = refl
+tree_identifiers xs (Pair a d) (Pair b e) h = ap (λ ys. with_identifiers ys d) (tree_identifiers xs a b (and_first _ _ h)) ∙ tree_identifiers (with_identifiers xs b) d e (and_second (same_tree a b) _ h)
+tree_identifiers xs (Literal n e) (Literal m f) h = tree_identifiers (with_identifier xs function_id) e f h
+tree_identifiers xs t u h = absurd (cc)
+
+tree_then : (t u v : Tree) → same_tree t u ≡ true → same_tree u v ≡ true → same_tree t v ≡ true
+tree_then (Atom a) (Atom b) v h k = subst (λ x. same_tree (Atom x) v ≡ true) (sym (value_is a b h)) k
+tree_then (Quoted a) (Quoted b) v h k = subst (λ x. same_tree (Quoted x) v ≡ true) (sym (value_is a b h)) k
+tree_then (Pair a d) (Pair b e) (Pair c f) h k = and_both _ _ (tree_then a b c (and_first _ _ h) (and_first _ _ k)) (tree_then d e f (and_second (same_tree a b) _ h) (and_second (same_tree b c) _ k))
+tree_then (Literal n e) (Literal m f) (Literal l g) h k = tree_then e f g h k
+tree_then (Pair a d) (Pair b e) v h k = absurd (cc)
+tree_then (Literal n e) (Literal m f) v h k = absurd (cc)
+tree_then t u v h k = absurd (cc)
+
+kept_then : (xs : List ℕ) (ks ls ms : List Kept) → same_kept xs ks ls ≡ true → same_kept xs ls ms ≡ true → same_kept xs ks ms ≡ true
+kept_then [] ks ls ms h k = refl
+kept_then (x ∷ xs) ks ls ms h k = and_both _ _
+    (subst (λ y. same_var_kind y (kept_kind ms x) ≡ true) (sym (var_kind_is (kept_kind ks x) (kept_kind ls x) (and_first _ _ h))) (and_first _ _ k))
+    (kept_then xs ks ls ms (and_second (same_var_kind (kept_kind ks x) (kept_kind ls x)) _ h) (and_second (same_var_kind (kept_kind ls x) (kept_kind ms x)) _ k))
+
+-- ---- functions
+
+-- what two equal forms have in common
+record HeldSame (f g : Held) : Type 0 where
+  pub parameters : f.parameters ≡ g.parameters
+  pub body : same_tree f.body g.body ≡ true
+  pub kept : same_kept (with_identifiers f.parameters f.body) f.kept g.kept ≡ true
+
+held_parts : (f g : Held) → same_held f g ≡ true → HeldSame f g
+held_parts f g h =
+    let p : (same_names f.parameters g.parameters && same_tree f.body g.body) ≡ true = and_first _ _ h in
+    record {
+      parameters = names_is f.parameters g.parameters (and_first _ _ p);
+      body = and_second (same_names f.parameters g.parameters) _ p;
+      kept = and_second (same_names f.parameters g.parameters && same_tree f.body g.body) _ h;
+    }
+
+held_then : (f g h : Held) → same_held f g ≡ true → same_held g h ≡ true → same_held f h ≡ true
+held_then f g h a b =
+    let x : HeldSame f g = held_parts f g a in
+    let y : HeldSame g h = held_parts g h b in
+    let names : same_names f.parameters h.parameters ≡ true = subst (λ xs. same_names xs h.parameters ≡ true) (sym x.parameters) (and_first (same_names g.parameters h.parameters) (same_tree g.body h.body) (and_first _ _ b)) in
+    let identifiers : with_identifiers f.parameters f.body ≡ with_identifiers g.parameters g.body = ap (λ xs. with_identifiers xs f.body) x.parameters ∙ tree_identifiers g.parameters f.body g.body x.body in
+    and_both _ _ (and_both _ _ names (tree_then f.body g.body h.body x.body y.body))
+    (kept_then (with_identifiers f.parameters f.body) f.kept g.kept h.kept x.kept (subst (λ xs. same_kept xs g.kept h.kept ≡ true) (sym identifiers) y.kept))
+
+-- where one of two functions is not held, they are equal only by their pointers
+at_pointer : (t : State) (p q r : Pointer) → p ≡ q → same_function q r (function_at t q) (function_at t r) ≡ true → same_function p r (function_at t p) (function_at t r) ≡ true
+at_pointer t p q r e h = subst (λ x. same_function x r (function_at t x) (function_at t r) ≡ true) (sym e) h
+
+behind_pointer : (t : State) (p q r : Pointer) → q ≡ r → same_function p q (function_at t p) (function_at t q) ≡ true → same_function p r (function_at t p) (function_at t r) ≡ true
+behind_pointer t p q r e h = subst (λ x. same_function p x (function_at t p) (function_at t x) ≡ true) e h
+
+function_or : (p q r : Pointer) (f g h : Function) → same_function p q f g ≡ true → same_function q r g h ≡ true → (same_function p r f h ≡ true) ⊎ ((p ≡ q) ⊎ (q ≡ r))
+function_or p q r (HeldFunction a) (HeldFunction b) (HeldFunction c) x y = inl (held_then a b c x y)
+function_or p q r (HeldFunction a) (HeldFunction b) (SpecialForm form) x y = inr (inr (pointer_is q r y))
+function_or p q r (HeldFunction a) (HeldFunction b) (NativeFunction native) x y = inr (inr (pointer_is q r y))
+function_or p q r (HeldFunction a) (SpecialForm form) h x y = inr (inl (pointer_is p q x))
+function_or p q r (HeldFunction a) (NativeFunction native) h x y = inr (inl (pointer_is p q x))
+function_or p q r (SpecialForm form) g h x y = inr (inl (pointer_is p q x))
+function_or p q r (NativeFunction native) g h x y = inr (inl (pointer_is p q x))
+
+function_then : (t : State) (p q r : Pointer) → same_function p q (function_at t p) (function_at t q) ≡ true → same_function q r (function_at t q) (function_at t r) ≡ true → same_function p r (function_at t p) (function_at t r) ≡ true
+function_then t p q r x y = elim (function_or p q r (function_at t p) (function_at t q) (function_at t r) x y) [
+  | inl z ↦ z
+  | inr pointers ↦ elim pointers [
+    | inl e ↦ at_pointer t p q r e y
+    | inr e ↦ behind_pointer t p q r e x
+  ]
+]
+
+-- ---- definitions
+
+definition_same : (t : State) (o : Option Definition) → same_definition t o o ≡ true
+definition_same t None = refl
+definition_same t (Some d) = and_both _ _ (kind_same d.kind) (function_same d.function (function_at t d.function))
+
+definition_then : (t : State) (o p q : Option Definition) → same_definition t o p ≡ true → same_definition t p q ≡ true → same_definition t o q ≡ true
+definition_then t None None q h k = k
+definition_then t (Some d) (Some e) (Some f) h k = and_both _ _
+    (subst (λ x. same_kind x f.kind ≡ true) (sym (kind_is d.kind e.kind (and_first _ _ h))) (and_first _ _ k))
+    (function_then t d.function e.function f.function (and_second (same_kind d.kind e.kind) _ h) (and_second (same_kind e.kind f.kind) _ k))
+definition_then t (Some d) (Some e) None h k = absurd (cc)
+definition_then t None (Some e) q h k = absurd (cc)
+definition_then t (Some d) None q h k = absurd (cc)
+
+-- equal definitions both expand, or neither does
+same_expands : (t : State) (o p : Option Definition) → same_definition t o p ≡ true → expands o ≡ expands p
+same_expands t None None h = refl
+same_expands t (Some d) (Some e) h = ap (λ k. not (same_kind k Expr)) (kind_is d.kind e.kind (and_first _ _ h))
+same_expands t None (Some e) h = absurd (cc)
+same_expands t (Some d) None h = absurd (cc)
+
+-- ---- what stays
+
+pub stays_same : (t : State) (through : Bool) (o p : Option Definition) → p ≡ o → Stays t through o p
+stays_same t true o p e = subst (λ x. same_definition t o x ≡ true) (sym e) (definition_same t o)
+stays_same t false o p e = inl (subst (λ x. same_definition t o x ≡ true) (sym e) (definition_same t o))
+
+pub stays_then : (t u : State) → IsMore t.functions u.functions → (through : Bool) (o p q : Option Definition) → Stays t through o p → Stays u through p q → Stays u through o q
+stays_then t u more true o p q h k = definition_then u o p q (same_definition_more t u more o p h) k
+stays_then t u more false o p q (inl h) (inl k) = inl (definition_then u o p q (same_definition_more t u more o p h) k)
+stays_then t u more false o p q (inl h) (inr k) = inr (same_expands t o p h ∙ k.0, k.1)
+stays_then t u more false o p q (inr h) (inl k) = inr (h.0, sym (same_expands u p q k) ∙ h.1)
+stays_then t u more false o p q (inr h) (inr k) = inr (h.0, k.1)
+
+-- ---- what a body rests on
+
+names_or : (p q : Pointer) (f g : Function) → same_function p q f g ≡ true → (names_of f ≡ names_of g) ⊎ (p ≡ q)
+names_or p q (HeldFunction a) (HeldFunction b) h = inl (tree_names a.body b.body (held_parts a b h).body)
+names_or p q (HeldFunction a) (SpecialForm form) h = inr (pointer_is p q h)
+names_or p q (HeldFunction a) (NativeFunction native) h = inr (pointer_is p q h)
+names_or p q (SpecialForm form) g h = inr (pointer_is p q h)
+names_or p q (NativeFunction native) g h = inr (pointer_is p q h)
+
+function_names : (t : State) (p q : Pointer) → same_function p q (function_at t p) (function_at t q) ≡ true → names_of (function_at t p) ≡ names_of (function_at t q)
+function_names t p q h = elim (names_or p q (function_at t p) (function_at t q) h) [
+  | inl e ↦ e
+  | inr e ↦ ap (λ x. names_of (function_at t x)) e
+]
+
+no_name : (j : ℕ) → IsIn j [] → ⊥
+no_name j h = elim h [ ]
+
+names_more : (s t : State) → IsMore s.functions t.functions → (p : Pointer) (j : ℕ) → IsIn j (names_of (function_at s p)) → IsIn j (names_of (function_at t p))
+names_more s t more p j h = elim (function_more s t more p) [
+  | inl e ↦ subst (λ (f : Function). IsIn j (names_of f)) (sym e) h
+  | inr e ↦ absurd (no_name j (subst (λ (f : Function). IsIn j (names_of f)) e h))
+]
+
+-- an opened name is opened still, and has the same names in its body
+record StillOpened (t : State) (through : Bool) (d : Definition) (o : Option Definition) : Type 0 where
+  pub new : Definition
+  pub is : o ≡ Some new
+  pub opens : is_opened new.kind through ≡ true
+  pub same : same_function d.function new.function (function_at t d.function) (function_at t new.function) ≡ true
+
+opened_expands : (k : Kind) → is_opened k false ≡ true → not (same_kind k Expr) ≡ false → ⊥
+opened_expands Expr h e = absurd (cc)
+opened_expands Fexpr h e = absurd (cc)
+opened_expands Macro h e = absurd (cc)
+
+same_opened : (t : State) (through : Bool) (d : Definition) (o : Option Definition) → is_opened d.kind through ≡ true → same_definition t (Some d) o ≡ true → StillOpened t through d o
+same_opened t through d (Some e) h k = record {
+  new = e;
+  is = refl;
+  opens = subst (λ x. is_opened x through ≡ true) (kind_is d.kind e.kind (and_first _ _ k)) h;
+  same = and_second (same_kind d.kind e.kind) _ k;
+}
+same_opened t through d None h k = absurd (cc)
+
+still_opened : (t : State) (through : Bool) (d : Definition) (o : Option Definition) → is_opened d.kind through ≡ true → Stays t through (Some d) o → StillOpened t through d o
+still_opened t true d o h k = same_opened t true d o h k
+still_opened t false d o h (inl k) = same_opened t false d o h k
+still_opened t false d o h (inr k) = absurd (opened_expands d.kind h k.0)
+
+-- where what a body rests on stays, it rests on the same
+pub rests_on : (s t : State) → IsMore s.functions t.functions → (f : Function) → ((i : ℕ) (through : Bool) → RestsOn s f i through → Stays t through (symbol_at s i).definition (symbol_at t i).definition) → (i : ℕ) (through : Bool) → RestsOn s f i through → RestsOn t f i through
+rests_on s t more f stay _ _ on_truth = on_truth
+rests_on s t more f stay _ _ (on_name i h) = on_name i h
+rests_on s t more f stay _ _ (on_opened i j through d r e o h) =
+    let still : StillOpened t through d (symbol_at t i).definition = still_opened t through d (symbol_at t i).definition o (subst (λ x. Stays t through x (symbol_at t i).definition) e (stay i through r)) in
+    on_opened i j through still.new (rests_on s t more f stay i through r) still.is still.opens
+    (subst (λ xs. IsIn j xs) (function_names t d.function still.new.function still.same) (names_more s t more d.function j h))
+
+-- a body rests on no less than one with no names does
+rests_less : (t : State) (f g : Function) → ((j : ℕ) → IsIn j (names_of f) → IsIn j (names_of g)) → (i : ℕ) (through : Bool) → RestsOn t f i through → RestsOn t g i through
+rests_less t f g names _ _ on_truth = on_truth
+rests_less t f g names _ _ (on_name i h) = on_name i (names i h)
+rests_less t f g names _ _ (on_opened i j through d r e o h) = on_opened i j through d (rests_less t f g names i through r) e o h
+
+pub rests_more : (s t : State) → IsMore s.functions t.functions → (p : Pointer) → ((i : ℕ) (through : Bool) → RestsOn s (function_at s p) i through → Stays t through (symbol_at s i).definition (symbol_at t i).definition) → (i : ℕ) (through : Bool) → RestsOn s (function_at s p) i through → RestsOn t (function_at t p) i through
+rests_more s t more p stay i through r = rests_less t (function_at s p) (function_at t p) (names_more s t more p) i through (rests_on s t more (function_at s p) stay i through r)
