@@ -14,7 +14,7 @@ use Rattle.rl_meaning.specs.Reach.{is_opened, same_kind, same_var_kind, same_tre
 use Rattle.rl_meaning.specs.Forms.{Head, Form, Call, head_in}
 use Rattle.rl_agrees.specs.Later.{IsMore, IsIn}
 use Rattle.rl_agrees.specs.Heads.{name_in, names_in, names_of, RestsOn, on_truth, on_name, on_opened, Stays, kind_of, IsThere}
-use Rattle.rl_agrees.proofs.LaterStands.{and_first, and_second, and_both, nat_is, function_same, pointer_is, same_definition_more, function_more}
+use Rattle.rl_agrees.proofs.LaterStands.{in_none, and_first, and_second, and_both, nat_is, function_same, pointer_is, same_definition_more, function_more}
 
 -- ---- what passes the tests is the same
 
@@ -197,13 +197,10 @@ function_names t p q h = elim (names_or p q (function_at t p) (function_at t q) 
   | inr e ↦ ap (λ x. names_of (function_at t x)) e
 ]
 
-no_name : (j : ℕ) → IsIn j [] → ⊥
-no_name j h = elim h [ ]
-
 names_more : (s t : State) → IsMore s.functions t.functions → (p : Pointer) (j : ℕ) → IsIn j (names_of (function_at s p)) → IsIn j (names_of (function_at t p))
 names_more s t more p j h = elim (function_more s t more p) [
   | inl e ↦ subst (λ (f : Function). IsIn j (names_of f)) (sym e) h
-  | inr e ↦ absurd (no_name j (subst (λ (f : Function). IsIn j (names_of f)) e h))
+  | inr e ↦ absurd (in_none j (subst (λ (f : Function). IsIn j (names_of f)) e h))
 ]
 
 -- an opened name is opened still, and has the same names in its body
