@@ -11,6 +11,7 @@ use Rattle.rl_meaning.specs.Symbols.{t_id, nil, nil_id, progn_id, new_symbol, sy
 use Rattle.rl_meaning.specs.Constants.{values_in, size_of, objects_within}
 use Rattle.rl_meaning.specs.Holding.{when, function_id, nodes_in, either_part, part_at, body_of, forms_of, function_part, no_function, function_in, function_at}
 use Rattle.rl_meaning.specs.Reach.{identifier_in, value_identifiers, tree_mentions, Reached, same_bool, is_reached, all_through, body_mentions, is_opened, opened_names, reach_within, body_size, reach_bound, reach_of}
+use Rattle.rl_agrees.proofs.LaterStands.{and_first, and_second}
 
 -- ---- tests
 
@@ -36,19 +37,11 @@ bool_is true false h = absurd (cc)
 bool_is false true h = absurd (cc)
 bool_is false false h = refl
 
-first_true : (a b : Bool) → (a && b) ≡ true → a ≡ true
-first_true true b h = refl
-first_true false b h = absurd (cc)
-
-second_true : (a b : Bool) → (a && b) ≡ true → b ≡ true
-second_true true b h = h
-second_true false b h = absurd (cc)
-
 -- what passes the test is the same
 reached_is : (x y : Reached) → (x.name == y.name && same_bool x.through y.through) ≡ true → x ≡ y
 reached_is x y h =
-    let e : x.name ≡ y.name = eqb-true x.name y.name (first_true _ _ h) in
-    let k : x.through ≡ y.through = bool_is x.through y.through (second_true (x.name == y.name) _ h) in
+    let e : x.name ≡ y.name = eqb-true x.name y.name (and_first _ _ h) in
+    let k : x.through ≡ y.through = bool_is x.through y.through (and_second (x.name == y.name) _ h) in
     λ i. record { name = e i; through = k i }
 
 pub reached_self : (x : Reached) (xs : List Reached) → is_reached x (x ∷ xs) ≡ true

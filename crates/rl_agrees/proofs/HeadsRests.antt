@@ -7,21 +7,14 @@ use Rattle.rl_meaning.specs.Holding.{function_id, function_at}
 use Rattle.rl_meaning.specs.Reach.{tree_mentions, Reached, is_reached, all_through, body_mentions, opened_names, reach_of, same_definition, running, expands, is_turned_by, turns_any, turns}
 use Rattle.rl_agrees.specs.Later.{IsMore, IsIn, first, further}
 use Rattle.rl_agrees.specs.Heads.{name_in, names_in, names_of, RestsOn, on_truth, on_name, on_opened, Stays}
-use Rattle.rl_agrees.proofs.LaterStands.{same_definition_more}
+use Rattle.rl_agrees.proofs.LaterStands.{in_none, in_list, same_definition_more}
 use Rattle.rl_agrees.proofs.HeadsReach.{or_second, reached_self, alone, reach_first, reach_opened}
 
 -- ---- what a body rests on is reached
 
-in_none : {A : Type 0} (a : A) → IsIn a [] → ⊥
-in_none a h = elim h [ ]
-
-in_next : {A : Type 0} (a b : A) (bs : List A) → IsIn a (b ∷ bs) → (b ≡ a) ⊎ IsIn a bs
-in_next a b bs (first rest) = inl refl
-in_next a b bs (further c rest h) = inr h
-
 in_front : {A : Type 0} (a : A) (xs ys : List A) → IsIn a xs → IsIn a (xs ++ ys)
 in_front a [] ys h = absurd (in_none a h)
-in_front a (x ∷ xs) ys h = elim (in_next a x xs h) [
+in_front a (x ∷ xs) ys h = elim (in_list a x xs h) [
   | inl e ↦ subst (λ y. IsIn a (y ∷ (xs ++ ys))) (sym e) (first (xs ++ ys))
   | inr k ↦ further x (xs ++ ys) (in_front a xs ys k)
 ]
@@ -32,7 +25,7 @@ in_behind a (x ∷ xs) ys h = further x (xs ++ ys) (in_behind a xs ys h)
 
 in_either : {A : Type 0} (a : A) (xs ys : List A) → IsIn a (xs ++ ys) → IsIn a xs ⊎ IsIn a ys
 in_either a [] ys h = inr h
-in_either a (x ∷ xs) ys h = elim (in_next a x (xs ++ ys) h) [
+in_either a (x ∷ xs) ys h = elim (in_list a x (xs ++ ys) h) [
   | inl e ↦ inl (subst (λ y. IsIn a (y ∷ xs)) (sym e) (first xs))
   | inr k ↦ elim (in_either a xs ys k) [
     | inl l ↦ inl (further x xs l)
@@ -54,7 +47,7 @@ names_mentioned store (Pair a d) i h = elim (in_either i (names_in a) (names_in 
   | inl l ↦ in_front i (tree_mentions store a) (tree_mentions store d) (names_mentioned store a i l)
   | inr r ↦ in_behind i (tree_mentions store a) (tree_mentions store d) (names_mentioned store d i r)
 ]
-names_mentioned store (Literal n e) i h = elim (in_next i function_id (names_in e) h) [
+names_mentioned store (Literal n e) i h = elim (in_list i function_id (names_in e) h) [
   | inl k ↦ subst (λ y. IsIn i (y ∷ tree_mentions store e)) (sym k) (first (tree_mentions store e))
   | inr k ↦ further function_id (tree_mentions store e) (names_mentioned store e i k)
 ]
@@ -66,7 +59,7 @@ function_mentions s (NativeFunction native) i h = absurd (in_none i h)
 
 all_reached : (through : Bool) (i : ℕ) (xs : List ℕ) → IsIn i xs → is_reached (record { name = i; through = through }) (all_through through xs) ≡ true
 all_reached through i [] h = absurd (in_none i h)
-all_reached through i (x ∷ xs) h = elim (in_next i x xs h) [
+all_reached through i (x ∷ xs) h = elim (in_list i x xs h) [
   | inl e ↦ subst (λ y. is_reached (record { name = i; through = through }) (record { name = y; through = through } ∷ all_through through xs) ≡ true) (sym e) (reached_self (record { name = i; through = through }) (all_through through xs))
   | inr k ↦ or_second _ (is_reached (record { name = i; through = through }) (all_through through xs)) (all_reached through i xs k)
 ]
@@ -99,7 +92,7 @@ none_turned : (s : State) (b : Bool) (i : ℕ) (ps : List Pointer) (p : Pointer)
 none_turned s b i [] p h k = absurd (in_none p k)
 none_turned s b i (q ∷ ps) p h k =
     let both : (is_turned_by b i (reach_of s (function_at s q)) ≡ false) × (turns_any s b i ps ≡ false) = or_none _ _ h in
-    elim (in_next p q ps k) [
+    elim (in_list p q ps k) [
       | inl e ↦ subst (λ (x : Pointer). is_turned_by b i (reach_of s (function_at s x)) ≡ false) e both.0
       | inr more ↦ none_turned s b i ps p both.1 more
     ]

@@ -1,6 +1,7 @@
 -- What a body rests on stays, a change at a time: equal definitions, and what rests on them.
-use Rattle.std.proofs.Common.{◌≡◌, ◌⊎◌, inl, inr, ℕ, ℤ, pos, negsuc, ◌==◌, ◌&&◌, not, Bool, true, false, List, [], ◌∷◌, ◌++◌, Option, Some, None, refl, sym, ap, ◌∙◌, subst}
+use Rattle.std.proofs.Common.{◌≡◌, ◌⊎◌, inl, inr, ℕ, ℤ, pos, negsuc, ◌==◌, ◌&&◌, not, Bool, true, false, List, [], ◌∷◌, ◌++◌, Option, Some, None, refl, sym, ap, ◌∙◌, subst, ◌<◌, zero, suc, length, arith}
 use Rattle.std.proofs.lemmas.Slice.Eq.{bytes_eq-Decides}
+use Rattle.std.specs.Prelude.{slice_index_or}
 use Rattle.rl_tree.specs.Value.{Value, Int, Id, Str, Ref, Fun}
 use Rattle.rl_tree.specs.declared.held.Kind.{Kind}
 use Rattle.rl_tree.specs.declared.held.Kind.TheVariants.{Expr, Fexpr, Macro}
@@ -8,11 +9,12 @@ use Rattle.rl_tree.specs.declared.held.VarKind.{VarKind}
 use Rattle.rl_tree.specs.declared.held.VarKind.TheVariants as variable
 use Rattle.rl_meaning.specs.State.{State, Tree, Atom, Quoted, Pair, Literal, Kept, Held, Pointer, Definition, Function, SpecialForm, NativeFunction, HeldFunction}
 use Rattle.rl_meaning.specs.Symbols.{same_integer, same, symbol_at}
-use Rattle.rl_meaning.specs.Holding.{function_id, with_identifier, with_identifiers, kept_kind, function_at}
+use Rattle.rl_meaning.specs.Holding.{function_id, with_identifier, with_identifiers, kept_kind, no_function, function_in, function_at}
 use Rattle.rl_meaning.specs.Reach.{is_opened, same_kind, same_var_kind, same_tree, same_names, same_kept, same_held, same_function, same_definition, expands}
+use Rattle.rl_meaning.specs.Forms.{Head, Form, Call, head_in}
 use Rattle.rl_agrees.specs.Later.{IsMore, IsIn}
-use Rattle.rl_agrees.specs.Heads.{name_in, names_in, names_of, RestsOn, on_truth, on_name, on_opened, Stays}
-use Rattle.rl_agrees.proofs.LaterStands.{and_first, and_second, and_both, nat_is, function_same, pointer_is, same_definition_more, function_more}
+use Rattle.rl_agrees.specs.Heads.{name_in, names_in, names_of, RestsOn, on_truth, on_name, on_opened, Stays, kind_of, IsThere}
+use Rattle.rl_agrees.proofs.LaterStands.{in_none, and_first, and_second, and_both, nat_is, function_same, pointer_is, same_definition_more, function_more}
 
 -- ---- what passes the tests is the same
 
@@ -195,13 +197,10 @@ function_names t p q h = elim (names_or p q (function_at t p) (function_at t q) 
   | inr e ↦ ap (λ x. names_of (function_at t x)) e
 ]
 
-no_name : (j : ℕ) → IsIn j [] → ⊥
-no_name j h = elim h [ ]
-
 names_more : (s t : State) → IsMore s.functions t.functions → (p : Pointer) (j : ℕ) → IsIn j (names_of (function_at s p)) → IsIn j (names_of (function_at t p))
 names_more s t more p j h = elim (function_more s t more p) [
   | inl e ↦ subst (λ (f : Function). IsIn j (names_of f)) (sym e) h
-  | inr e ↦ absurd (no_name j (subst (λ (f : Function). IsIn j (names_of f)) e h))
+  | inr e ↦ absurd (in_none j (subst (λ (f : Function). IsIn j (names_of f)) e h))
 ]
 
 -- an opened name is opened still, and has the same names in its body
@@ -247,3 +246,65 @@ rests_less t f g names _ _ (on_opened i j through d r e o h) = on_opened i j thr
 
 pub rests_more : (s t : State) → IsMore s.functions t.functions → (p : Pointer) → ((i : ℕ) (through : Bool) → RestsOn s (function_at s p) i through → Stays t through (symbol_at s i).definition (symbol_at t i).definition) → (i : ℕ) (through : Bool) → RestsOn s (function_at s p) i through → RestsOn t (function_at t p) i through
 rests_more s t more p stay i through r = rests_less t (function_at s p) (function_at t p) (names_more s t more p) i through (rests_on s t more (function_at s p) stay i through r)
+
+-- ---- heads
+
+same_kinds : (t : State) (o p : Option Definition) → same_definition t o p ≡ true → kind_of p ≡ kind_of o
+same_kinds t None None h = refl
+same_kinds t (Some d) (Some e) h = sym (kind_is d.kind e.kind (and_first _ _ h))
+same_kinds t None (Some e) h = absurd (cc)
+same_kinds t (Some d) None h = absurd (cc)
+
+no_expr : (k : Kind) → not (same_kind k Expr) ≡ false → k ≡ Expr
+no_expr Expr h = refl
+no_expr Fexpr h = absurd (cc)
+no_expr Macro h = absurd (cc)
+
+expr_kind : (o : Option Definition) → expands o ≡ false → kind_of o ≡ Expr
+expr_kind None h = refl
+expr_kind (Some d) h = no_expr d.kind h
+
+pub stays_kind : (t : State) (through : Bool) (o p : Option Definition) → Stays t through o p → kind_of p ≡ kind_of o
+stays_kind t true o p h = same_kinds t o p h
+stays_kind t false o p (inl h) = same_kinds t o p h
+stays_kind t false o p (inr h) = expr_kind p h.1 ∙ sym (expr_kind o h.0)
+
+-- the head that a function of this kind is
+abbrev head_by : ℕ → Kind → Function → Head
+head_by i kind f = elim f [
+  | SpecialForm form ↦ Form form
+  | NativeFunction native ↦ Call kind i
+  | HeldFunction held ↦ Call kind i
+]
+
+same_head_by : (i : ℕ) (kind : Kind) (p q : Pointer) (f g : Function) → (p ≡ q → f ≡ g) → same_function p q f g ≡ true → head_by i kind g ≡ head_by i kind f
+same_head_by i kind p q (HeldFunction a) (HeldFunction b) one h = refl
+same_head_by i kind p q (HeldFunction a) (SpecialForm form) one h = ap (λ (f : Function). head_by i kind f) (sym (one (pointer_is p q h)))
+same_head_by i kind p q (HeldFunction a) (NativeFunction native) one h = refl
+same_head_by i kind p q (SpecialForm form) g one h = ap (λ (f : Function). head_by i kind f) (sym (one (pointer_is p q h)))
+same_head_by i kind p q (NativeFunction native) g one h = ap (λ (f : Function). head_by i kind f) (sym (one (pointer_is p q h)))
+
+index_front : {A : Type 0} (xs ys : List A) (i : ℕ) (d : A) → i < length xs → slice_index_or (xs ++ ys) i d ≡ slice_index_or xs i d
+index_front [] ys i d h = absurd (omega (arith, h))
+index_front (x ∷ xs) ys zero d h = refl
+index_front (x ∷ xs) ys (suc i) d h = index_front xs ys i d (omega (arith, h))
+
+-- a function that is there stays what it is
+function_there : (s t : State) → IsMore s.functions t.functions → (p : Pointer) → p.function < length s.functions → function_at t p ≡ function_at s p
+function_there s t more p lt = ap (λ (fs : List Function). function_in (slice_index_or fs p.function no_function) p.place) more.is ∙ ap (λ (f : Function). function_in f p.place) (index_front s.functions more.rest p.function no_function lt)
+
+same_head : (s t : State) → IsMore s.functions t.functions → (i : ℕ) (o p : Option Definition) → IsThere s o → expands o ≡ true → same_definition t o p ≡ true → head_in i p t ≡ head_in i o s
+same_head s t more i None p there e h = absurd (cc)
+same_head s t more i (Some d) None there e h = absurd (cc)
+same_head s t more i (Some d) (Some f) there e h =
+    ap (λ (k : Kind). head_by i k (function_at t f.function)) (sym (kind_is d.kind f.kind (and_first _ _ h)))
+    ∙ (same_head_by i d.kind d.function f.function (function_at t d.function) (function_at t f.function) (λ e. ap (λ (p : Pointer). function_at t p) e) (and_second (same_kind d.kind f.kind) _ h)
+    ∙ ap (λ (g : Function). head_by i d.kind g) (function_there s t more d.function there))
+
+pub stays_head : (s t : State) → IsMore s.functions t.functions → (i : ℕ) (through : Bool) (o p : Option Definition) → IsThere s o → expands o ≡ true → Stays t through o p → head_in i p t ≡ head_in i o s
+stays_head s t more i true o p there e h = same_head s t more i o p there e h
+stays_head s t more i false o p there e (inl h) = same_head s t more i o p there e h
+stays_head s t more i false o p there e (inr h) = absurd (both (sym e ∙ h.0))
+  where
+    both : true ≡ false → ⊥
+    both e = absurd (cc)

@@ -146,8 +146,12 @@ all_stand_more s t same more (d ∷ ds) h = and_both _ _ (stands_more s t same m
 
 -- ---- codes
 
+-- an empty list has nothing
+pub in_none : {A : Type 0} (a : A) → IsIn a [] → ⊥
+in_none a h = elim h [ ]
+
 -- what is in a list is its first element or further
-in_list : {A : Type 0} (a b : A) (bs : List A) → IsIn a (b ∷ bs) → (b ≡ a) ⊎ IsIn a bs
+pub in_list : {A : Type 0} (a b : A) (bs : List A) → IsIn a (b ∷ bs) → (b ≡ a) ⊎ IsIn a bs
 in_list a b bs (first rest) = inl refl
 in_list a b bs (further c rest h) = inr h
 
@@ -171,6 +175,6 @@ also_stands s x c ys k true e h = elim (in_list c x ys h) [
 ]
 
 pub standing_stand : (s : State) (i : ℕ) (cs : List Coded) (c : Coded) → IsIn c (standing s i cs) → all_stand s c.dependencies ≡ true
-standing_stand s i [] c h = elim h [ ]
+standing_stand s i [] c h = absurd (in_none c h)
 standing_stand s i (x ∷ cs) c h =
     also_stands s x c (standing s i cs) (standing_stand s i cs c) (not (x.name == i) && all_stand s x.dependencies) (and_second (not (x.name == i)) (all_stand s x.dependencies)) h

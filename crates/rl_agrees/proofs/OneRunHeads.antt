@@ -24,7 +24,7 @@ use Rattle.rl_agrees.proofs.LaterLists.{set_definition, appended_definition}
 use Rattle.rl_agrees.proofs.OneRunWalking.{Idles, walk_leads}
 use Rattle.rl_agrees.proofs.OneRunMarks.{Marks, marks_steps, marks_prints, marks_idle}
 use Rattle.rl_agrees.proofs.HeadsRests.{unturned_stays}
-use Rattle.rl_agrees.proofs.HeadsStays.{stays_same, stays_then, rests_more}
+use Rattle.rl_agrees.proofs.HeadsStays.{stays_same, stays_then, rests_more, stays_kind, stays_head}
 
 -- ---- functions that run
 
@@ -207,4 +207,6 @@ job_heads j s w walks none = stay (walk_leads heads_steps heads_prints heads_idl
       stays = h.stays walks none;
       runs = runs_below s t (h.marks.walked walks).below;
       rests = λ p run i through r. rests_more s t h.later.functions p (h.stays walks none p run) i through r;
+      kinds = λ p run i through r. stays_kind t through _ _ (h.stays walks none p run i through r);
+      heads = λ p run i through r there e. stays_head s t h.later.functions i through _ _ there e (h.stays walks none p run i through r);
     }

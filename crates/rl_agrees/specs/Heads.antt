@@ -1,10 +1,13 @@
 -- What a walk leaves as it was: entries of the same shape below whatever it bound; and where nothing turned, what the body of a running function rests on (this project's).
-use Rattle.std.specs.Prelude.{◌≡◌, ◌⊎◌, ℕ, Bool, true, false, List, [], ◌∷◌, ◌++◌, map, Option, Some}
+use Rattle.std.specs.Prelude.{◌≡◌, ◌<◌, ◌⊎◌, ℕ, Bool, true, false, List, [], ◌∷◌, ◌++◌, length, map, Option, Some, None}
 use Rattle.rl_tree.specs.Value.{Value, Id}
+use Rattle.rl_tree.specs.declared.held.Kind.{Kind}
+use Rattle.rl_tree.specs.declared.held.Kind.TheVariants.{Expr}
 use Rattle.rl_meaning.specs.State.{State, Tree, Atom, Quoted, Pair, Literal, Pointer, Definition, Function, HeldFunction, Entry, Binding, Mark}
 use Rattle.rl_meaning.specs.Symbols.{t_id, nil, symbol_at}
 use Rattle.rl_meaning.specs.Holding.{function_id, function_at}
 use Rattle.rl_meaning.specs.Reach.{is_opened, same_definition, running, expands}
+use Rattle.rl_meaning.specs.Forms.{head_of}
 use Rattle.rl_meaning.specs.Evaluation.{Job, Run, Onward, Call_, From, In}
 use Rattle.rl_agrees.specs.Later.{IsIn}
 
@@ -59,9 +62,23 @@ abbrev pub Stays : State → Bool → Option Definition → Option Definition �
 Stays t true old new = same_definition t old new ≡ true
 Stays t false old new = (same_definition t old new ≡ true) ⊎ ((expands old ≡ false) × (expands new ≡ false))
 
+-- the kind that a name has as the head of a form: one without a definition counts as an EXPR
+abbrev pub kind_of : Option Definition → Kind
+kind_of None = Expr
+kind_of (Some d) = d.kind
+
+-- the function of a definition is one of the state's
+abbrev pub IsThere : State → Option Definition → Type 0
+IsThere s None = Unit {0}
+IsThere s (Some d) = d.function.function < length s.functions
+
 -- for each function that runs in the first state and each name that its body rests on there
 pub record HeadsStayIn (s t : State) : Type 0 where
   pub stays : (p : Pointer) → IsIn p (running s.bindings) → (i : ℕ) (through : Bool) → RestsOn s (function_at s p) i through → Stays t through (symbol_at s i).definition (symbol_at t i).definition
   -- the function runs still, and its body rests on the name still
   pub runs : (p : Pointer) → IsIn p (running s.bindings) → IsIn p (running t.bindings)
   pub rests : (p : Pointer) → IsIn p (running s.bindings) → (i : ℕ) (through : Bool) → RestsOn s (function_at s p) i through → RestsOn t (function_at t p) i through
+  -- EXPRs, FEXPRs and MACROs stay what they are
+  pub kinds : (p : Pointer) → IsIn p (running s.bindings) → (i : ℕ) (through : Bool) → RestsOn s (function_at s p) i through → kind_of (symbol_at t i).definition ≡ kind_of (symbol_at s i).definition
+  -- and what is no EXPR is the same head: a special form the same one
+  pub heads : (p : Pointer) → IsIn p (running s.bindings) → (i : ℕ) (through : Bool) → RestsOn s (function_at s p) i through → IsThere s (symbol_at s i).definition → expands (symbol_at s i).definition ≡ true → head_of (Atom (Id i)) t ≡ head_of (Atom (Id i)) s
