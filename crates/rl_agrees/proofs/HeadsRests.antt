@@ -1,5 +1,5 @@
 -- What a body rests on is reached, so that a definition that turns nothing leaves it.
-use Rattle.std.proofs.Common.{◌≡◌, ◌⊎◌, inl, inr, ◌&&◌, ◌||◌, not, if◌then◌else◌, ℕ, Bool, true, false, List, [], ◌∷◌, ◌++◌, Option, refl, sym, subst}
+use Rattle.std.proofs.Common.{◌≡◌, ◌⊎◌, inl, inr, ◌&&◌, ◌||◌, not, if◌then◌else◌, ℕ, Bool, true, false, List, [], ◌∷◌, Option, refl, sym, subst}
 use Rattle.rl_tree.specs.Value.{Value, Int, Id, Str, Ref, Fun, Store}
 use Rattle.rl_meaning.specs.State.{State, Tree, Atom, Quoted, Pair, Literal, Pointer, Definition, Function, SpecialForm, NativeFunction, HeldFunction}
 use Rattle.rl_meaning.specs.Symbols.{t_id, symbol_at}
@@ -9,29 +9,9 @@ use Rattle.rl_agrees.specs.Later.{IsMore, IsIn, first, further}
 use Rattle.rl_agrees.specs.Heads.{name_in, names_in, names_of, RestsOn, on_truth, on_name, on_opened, Stays}
 use Rattle.rl_agrees.proofs.LaterStands.{in_none, in_list, same_definition_more}
 use Rattle.rl_agrees.proofs.HeadsReach.{or_second, reached_self, alone, reach_first, reach_opened}
+use Rattle.rl_agrees.proofs.HeadsObjects.{in_front, in_behind, in_either}
 
 -- ---- what a body rests on is reached
-
-in_front : {A : Type 0} (a : A) (xs ys : List A) → IsIn a xs → IsIn a (xs ++ ys)
-in_front a [] ys h = absurd (in_none a h)
-in_front a (x ∷ xs) ys h = elim (in_list a x xs h) [
-  | inl e ↦ subst (λ y. IsIn a (y ∷ (xs ++ ys))) (sym e) (first (xs ++ ys))
-  | inr k ↦ further x (xs ++ ys) (in_front a xs ys k)
-]
-
-in_behind : {A : Type 0} (a : A) (xs ys : List A) → IsIn a ys → IsIn a (xs ++ ys)
-in_behind a [] ys h = h
-in_behind a (x ∷ xs) ys h = further x (xs ++ ys) (in_behind a xs ys h)
-
-in_either : {A : Type 0} (a : A) (xs ys : List A) → IsIn a (xs ++ ys) → IsIn a xs ⊎ IsIn a ys
-in_either a [] ys h = inr h
-in_either a (x ∷ xs) ys h = elim (in_list a x (xs ++ ys) h) [
-  | inl e ↦ inl (subst (λ y. IsIn a (y ∷ xs)) (sym e) (first xs))
-  | inr k ↦ elim (in_either a xs ys k) [
-    | inl l ↦ inl (further x xs l)
-    | inr r ↦ inr r
-  ]
-]
 
 value_mentions : (store : Store) (v : Value) (i : ℕ) → IsIn i (name_in v) → IsIn i (tree_mentions store (Atom v))
 value_mentions store (Id j) i h = subst (λ (xs : List ℕ). IsIn i xs) (sym (alone store j)) h
