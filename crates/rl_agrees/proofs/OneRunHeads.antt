@@ -24,7 +24,7 @@ use Rattle.rl_agrees.proofs.LaterLists.{set_definition, appended_definition}
 use Rattle.rl_agrees.proofs.OneRunWalking.{Idles, walk_leads}
 use Rattle.rl_agrees.proofs.OneRunMarks.{Marks, marks_steps, marks_prints, marks_idle}
 use Rattle.rl_agrees.proofs.HeadsRests.{unturned_stays}
-use Rattle.rl_agrees.proofs.HeadsStays.{stays_same, stays_then, NotedStill, noted_still, rests_before, rests_more, stays_kind, stays_head}
+use Rattle.rl_agrees.proofs.HeadsStays.{AllStay, stays_same, stays_then, NotedStill, noted_still, rests_before, rests_more, stays_kind, stays_head}
 
 -- ---- functions that run
 
@@ -196,6 +196,21 @@ heads_idle = record { idle = λ s t e l. record { marks = marks_idle.idle s t e 
     both : true ≡ false → ⊥
     both e = absurd (cc)
 
+-- ---- what it says
+
+heads_in : (s t : State) → Later s t → ((p : Pointer) → IsIn p (running s.bindings) → IsIn p (running t.bindings)) → ((p : Pointer) → IsIn p (running s.bindings) → AllStay s t (function_at s p)) → HeadsStayIn s t
+heads_in s t later runs stays = record {
+  stays = stays;
+  runs = runs;
+  rests = λ p run i through r. rests_more s t t later (later_steps.same t) p (stays p run) i through r;
+  kinds = λ p run i through r. stays_kind t through _ _ (stays p run i through r);
+  heads = λ p run i through r there e. stays_head s t later.functions i through _ _ there e (stays p run i through r);
+}
+
+pub heads_on : (s t u : State) → Later s t → Later t u → HeadsStayIn s t → HeadsStayIn t u → HeadsStayIn s u
+heads_on s t u h k a b = heads_in s u (later_steps.and_then s t u h k) (λ p run. b.runs p (a.runs p run)) (λ p run i through r.
+    stays_then t u k.functions through _ _ _ (a.stays p run i through (rests_before s t u (noted_still s t u h k) (function_at s p) i through r)) (b.stays p (a.runs p run) i through (rests_more s t u h k p (a.stays p run) i through r)))
+
 pub job_heads : (j : Job) (s : State) → IsWalk j → s.compilation.runs_code ≡ false → (state_of (job the_compiler j s)).watched.event ≡ None → HeadsStayIn s (state_of (job the_compiler j s))
 job_heads j s w walks none = stay (walk_leads heads_steps heads_prints heads_idle j s w).moves
   where
@@ -203,10 +218,4 @@ job_heads j s w walks none = stay (walk_leads heads_steps heads_prints heads_idl
     t = state_of (job the_compiler j s)
 
     stay : Heads s (state_of (job the_compiler j s)) → HeadsStayIn s (state_of (job the_compiler j s))
-    stay h = record {
-      stays = h.stays walks none;
-      runs = runs_below s t (h.marks.walked walks).below;
-      rests = λ p run i through r. rests_more s t t h.later (later_steps.same t) p (h.stays walks none p run) i through r;
-      kinds = λ p run i through r. stays_kind t through _ _ (h.stays walks none p run i through r);
-      heads = λ p run i through r there e. stays_head s t h.later.functions i through _ _ there e (h.stays walks none p run i through r);
-    }
+    stay h = heads_in s t h.later (runs_below s t (h.marks.walked walks).below) (h.stays walks none)
