@@ -1,61 +1,83 @@
 -- What a body rests on is reached, so that a definition that turns nothing leaves it.
-use Rattle.std.proofs.Common.{◌≡◌, ◌⊎◌, inl, inr, ◌&&◌, ◌||◌, not, if◌then◌else◌, ℕ, Bool, true, false, List, [], ◌∷◌, ◌++◌, Option, refl, sym, subst}
+use Rattle.std.proofs.Common.{◌≡◌, ◌⊎◌, inl, inr, ◌&&◌, ◌||◌, not, if◌then◌else◌, ℕ, Bool, true, false, List, [], ◌∷◌, Option, refl, sym, subst, ◌==◌}
 use Rattle.rl_tree.specs.Value.{Value, Int, Id, Str, Ref, Fun, Store}
 use Rattle.rl_meaning.specs.State.{State, Tree, Atom, Quoted, Pair, Literal, Pointer, Definition, Function, SpecialForm, NativeFunction, HeldFunction}
 use Rattle.rl_meaning.specs.Symbols.{t_id, symbol_at}
 use Rattle.rl_meaning.specs.Holding.{function_id, function_at}
-use Rattle.rl_meaning.specs.Reach.{tree_mentions, Reached, is_reached, all_through, body_mentions, opened_names, reach_of, same_definition, running, expands, is_turned_by, turns_any, turns}
+use Rattle.rl_meaning.specs.Reach.{identifier_in, value_identifiers, tree_mentions, Reached, is_reached, all_through, body_mentions, opened_names, reach_of, same_definition, running, expands, is_turned_by, turns_any, turns}
 use Rattle.rl_agrees.specs.Later.{IsMore, IsIn, first, further}
-use Rattle.rl_agrees.specs.Heads.{name_in, names_in, names_of, RestsOn, on_truth, on_name, on_opened, Stays}
+use Rattle.rl_agrees.specs.Heads.{leaves_in, leaves_of, Inside, inside_name, inside_object, RestsOn, on_truth, on_name, on_opened, Stays}
 use Rattle.rl_agrees.proofs.LaterStands.{in_none, in_list, same_definition_more}
-use Rattle.rl_agrees.proofs.HeadsReach.{or_second, reached_self, alone, reach_first, reach_opened}
+use Rattle.rl_agrees.proofs.HeadsReach.{or_either, or_second, reached_self, alone, reach_first, reach_opened}
+use Rattle.rl_agrees.proofs.HeadsObjects.{in_front, in_behind, in_either, object_first, object_next}
+use Rattle.rl_meaning.specs.Constants.{is_among, values_in, objects_of}
+use Rattle.std.specs.Prelude.{filter_map, flat_map, slice_get}
+use Rattle.std.proofs.lemmas.Bool.{eqb-true}
 
 -- ---- what a body rests on is reached
 
-in_front : {A : Type 0} (a : A) (xs ys : List A) → IsIn a xs → IsIn a (xs ++ ys)
-in_front a [] ys h = absurd (in_none a h)
-in_front a (x ∷ xs) ys h = elim (in_list a x xs h) [
-  | inl e ↦ subst (λ y. IsIn a (y ∷ (xs ++ ys))) (sym e) (first (xs ++ ys))
-  | inr k ↦ further x (xs ++ ys) (in_front a xs ys k)
+-- ---- the identifiers in a value
+
+identifier_kept : (i : ℕ) (vs : List Value) → IsIn (Id i) vs → IsIn i (filter_map identifier_in vs)
+identifier_kept i [] h = absurd (in_none (Id i) h)
+identifier_kept i (v ∷ vs) h = elim (in_list (Id i) v vs h) [
+  | inl e ↦ subst (λ w. IsIn i (filter_map identifier_in (w ∷ vs))) (sym e) (first (filter_map identifier_in vs))
+  | inr k ↦ behind v (identifier_kept i vs k)
+]
+  where
+    behind : (v : Value) → IsIn i (filter_map identifier_in vs) → IsIn i (filter_map identifier_in (v ∷ vs))
+    behind (Id j) k = further j (filter_map identifier_in vs) k
+    behind (Int z) k = k
+    behind (Str bytes) k = k
+    behind (Ref r) k = k
+    behind (Fun f place) k = k
+
+among_flat : (store : Store) (v : Value) (r : ℕ) (rs : List ℕ) → is_among r rs ≡ true → IsIn v (values_in (slice_get store r)) → IsIn v (flat_map (λ r. values_in (slice_get store r)) rs)
+among_flat store v r [] h k = absurd (cc)
+among_flat store v r (q ∷ rs) h k = elim (or_either (r == q) (is_among r rs) h) [
+  | inl e ↦ in_front v (values_in (slice_get store q)) (flat_map (λ r. values_in (slice_get store r)) rs) (subst (λ x. IsIn v (values_in (slice_get store x))) (eqb-true r q e) k)
+  | inr more ↦ in_behind v (values_in (slice_get store q)) (flat_map (λ r. values_in (slice_get store r)) rs) (among_flat store v r rs more k)
 ]
 
-in_behind : {A : Type 0} (a : A) (xs ys : List A) → IsIn a ys → IsIn a (xs ++ ys)
-in_behind a [] ys h = h
-in_behind a (x ∷ xs) ys h = further x (xs ++ ys) (in_behind a xs ys h)
+-- a value in one of the objects of another
+record Under (store : Store) (root v : Value) : Type 0 where
+  pub object : ℕ
+  pub is : is_among object (objects_of store (root ∷ [])) ≡ true
+  pub has : IsIn v (values_in (slice_get store object))
 
-in_either : {A : Type 0} (a : A) (xs ys : List A) → IsIn a (xs ++ ys) → IsIn a xs ⊎ IsIn a ys
-in_either a [] ys h = inr h
-in_either a (x ∷ xs) ys h = elim (in_list a x (xs ++ ys) h) [
-  | inl e ↦ inl (subst (λ y. IsIn a (y ∷ xs)) (sym e) (first xs))
-  | inr k ↦ elim (in_either a xs ys k) [
-    | inl l ↦ inl (further x xs l)
-    | inr r ↦ inr r
-  ]
+inside_among : (s t : State) (root v : Value) (i : ℕ) → (v ≡ root) ⊎ Under s.store root v → Inside s t v i → IsIn (Id i) (root ∷ flat_map (λ r. values_in (slice_get s.store r)) (objects_of s.store (root ∷ [])))
+inside_among s t root _ _ (inl e) (inside_name i) = subst (λ v. IsIn (Id i) (v ∷ flat_map (λ r. values_in (slice_get s.store r)) (objects_of s.store (root ∷ [])))) e (first _)
+inside_among s t root _ _ (inr under) (inside_name i) = further root _ (among_flat s.store (Id i) under.object (objects_of s.store (root ∷ [])) under.is under.has)
+inside_among s t root _ _ (inl e) (inside_object r i v has unnoted more) = inside_among s t root v i (inr (record { object = r; is = subst (λ w. is_among r (objects_of s.store (w ∷ [])) ≡ true) e (object_first s.store r); has = has })) more
+inside_among s t root _ _ (inr under) (inside_object r i v has unnoted more) = inside_among s t root v i (inr (record { object = r; is = object_next s.store root under.object r under.is under.has; has = has })) more
+
+inside_mentioned : (s t : State) (v : Value) (i : ℕ) → Inside s t v i → IsIn i (value_identifiers s.store v)
+inside_mentioned s t v i h = identifier_kept i (v ∷ flat_map (λ r. values_in (slice_get s.store r)) (objects_of s.store (v ∷ []))) (inside_among s t v v i (inl refl) h)
+
+-- ---- those in a body
+
+one_leaf : (store : Store) (w v : Value) (i : ℕ) → IsIn v (w ∷ []) → IsIn i (value_identifiers store v) → IsIn i (value_identifiers store w)
+one_leaf store w v i h k = elim (in_list v w [] h) [
+  | inl e ↦ subst (λ x. IsIn i (value_identifiers store x)) (sym e) k
+  | inr none ↦ absurd (in_none v none)
 ]
 
-value_mentions : (store : Store) (v : Value) (i : ℕ) → IsIn i (name_in v) → IsIn i (tree_mentions store (Atom v))
-value_mentions store (Id j) i h = subst (λ (xs : List ℕ). IsIn i xs) (sym (alone store j)) h
-value_mentions store (Int z) i h = absurd (in_none i h)
-value_mentions store (Str bytes) i h = absurd (in_none i h)
-value_mentions store (Ref r) i h = absurd (in_none i h)
-value_mentions store (Fun f place) i h = absurd (in_none i h)
-
-names_mentioned : (store : Store) (t : Tree) (i : ℕ) → IsIn i (names_in t) → IsIn i (tree_mentions store t)
-names_mentioned store (Atom v) i h = value_mentions store v i h
-names_mentioned store (Quoted v) i h = value_mentions store v i h
-names_mentioned store (Pair a d) i h = elim (in_either i (names_in a) (names_in d) h) [
-  | inl l ↦ in_front i (tree_mentions store a) (tree_mentions store d) (names_mentioned store a i l)
-  | inr r ↦ in_behind i (tree_mentions store a) (tree_mentions store d) (names_mentioned store d i r)
+leaf_mentioned : (store : Store) (t : Tree) (v : Value) (i : ℕ) → IsIn v (leaves_in t) → IsIn i (value_identifiers store v) → IsIn i (tree_mentions store t)
+leaf_mentioned store (Atom w) v i h k = one_leaf store w v i h k
+leaf_mentioned store (Quoted w) v i h k = one_leaf store w v i h k
+leaf_mentioned store (Pair a d) v i h k = elim (in_either v (leaves_in a) (leaves_in d) h) [
+  | inl l ↦ in_front i (tree_mentions store a) (tree_mentions store d) (leaf_mentioned store a v i l k)
+  | inr r ↦ in_behind i (tree_mentions store a) (tree_mentions store d) (leaf_mentioned store d v i r k)
 ]
-names_mentioned store (Literal n e) i h = elim (in_list i function_id (names_in e) h) [
-  | inl k ↦ subst (λ y. IsIn i (y ∷ tree_mentions store e)) (sym k) (first (tree_mentions store e))
-  | inr k ↦ further function_id (tree_mentions store e) (names_mentioned store e i k)
+leaf_mentioned store (Literal n e) v i h k = elim (in_list v (Id function_id) (leaves_in e) h) [
+  | inl same ↦ in_front i (function_id ∷ []) (tree_mentions store e) (subst (λ (xs : List ℕ). IsIn i xs) (alone store function_id) (subst (λ x. IsIn i (value_identifiers store x)) (sym same) k))
+  | inr more ↦ further function_id (tree_mentions store e) (leaf_mentioned store e v i more k)
 ]
 
-function_mentions : (s : State) (f : Function) (i : ℕ) → IsIn i (names_of f) → IsIn i (body_mentions s f)
-function_mentions s (HeldFunction held) i h = names_mentioned s.store held.body i h
-function_mentions s (SpecialForm form) i h = absurd (in_none i h)
-function_mentions s (NativeFunction native) i h = absurd (in_none i h)
+function_mentions : (s t : State) (f : Function) (v : Value) (i : ℕ) → IsIn v (leaves_of f) → Inside s t v i → IsIn i (body_mentions s f)
+function_mentions s t (HeldFunction held) v i h k = leaf_mentioned s.store held.body v i h (inside_mentioned s t v i k)
+function_mentions s t (SpecialForm form) v i h k = absurd (in_none v h)
+function_mentions s t (NativeFunction native) v i h k = absurd (in_none v h)
 
 all_reached : (through : Bool) (i : ℕ) (xs : List ℕ) → IsIn i xs → is_reached (record { name = i; through = through }) (all_through through xs) ≡ true
 all_reached through i [] h = absurd (in_none i h)
@@ -64,15 +86,15 @@ all_reached through i (x ∷ xs) h = elim (in_list i x xs h) [
   | inr k ↦ or_second _ (is_reached (record { name = i; through = through }) (all_through through xs)) (all_reached through i xs k)
 ]
 
-pub rests_reached : (s : State) (f : Function) (i : ℕ) (through : Bool) → RestsOn s f i through → is_reached (record { name = i; through = through }) (reach_of s f) ≡ true
-rests_reached s f _ _ on_truth = reach_first s f (record { name = t_id; through = false }) (reached_self (record { name = t_id; through = false }) (all_through false (body_mentions s f)))
-rests_reached s f _ _ (on_name i h) = reach_first s f (record { name = i; through = false }) (all_reached false i (t_id ∷ body_mentions s f) (further t_id (body_mentions s f) (function_mentions s f i h)))
-rests_reached s f _ _ (on_opened i j through d r e o h) =
+pub rests_reached : (s t : State) (f : Function) (i : ℕ) (through : Bool) → RestsOn s t f i through → is_reached (record { name = i; through = through }) (reach_of s f) ≡ true
+rests_reached s t f _ _ on_truth = reach_first s f (record { name = t_id; through = false }) (reached_self (record { name = t_id; through = false }) (all_through false (body_mentions s f)))
+rests_reached s t f _ _ (on_name v i h inside) = reach_first s f (record { name = i; through = false }) (all_reached false i (t_id ∷ body_mentions s f) (further t_id (body_mentions s f) (function_mentions s t f v i h inside)))
+rests_reached s t f _ _ (on_opened i j through d v r e o h inside) =
     let z : Reached = record { name = j; through = true } in
     let all : List Reached = all_through true (body_mentions s (function_at s d.function)) in
-    reach_opened s f (record { name = i; through = through }) z (rests_reached s f i through r)
+    reach_opened s f (record { name = i; through = through }) z (rests_reached s t f i through r)
     (subst (λ (x : Option Definition). is_reached z (opened_names s (record { name = i; through = through }) x) ≡ true) (sym e)
-    (subst (λ (b : Bool). is_reached z (if b then all else []) ≡ true) (sym o) (all_reached true j (body_mentions s (function_at s d.function)) (function_mentions s (function_at s d.function) j h))))
+    (subst (λ (b : Bool). is_reached z (if b then all else []) ≡ true) (sym o) (all_reached true j (body_mentions s (function_at s d.function)) (function_mentions s t (function_at s d.function) v j h inside))))
 
 -- ---- a definition that turns nothing
 
@@ -109,10 +131,10 @@ same_stays u true old new h = h
 same_stays u false old new h = inl h
 
 -- the definition of a name changes and turns nothing
-pub unturned_stays : (s u : State) → IsMore s.functions u.functions → (i : ℕ) (d : Option Definition) → turns i d s ≡ false → (p : Pointer) → IsIn p (running s.bindings) → (through : Bool) → RestsOn s (function_at s p) i through → Stays u through (symbol_at s i).definition d
+pub unturned_stays : (s u : State) → IsMore s.functions u.functions → (i : ℕ) (d : Option Definition) → turns i d s ≡ false → (p : Pointer) → IsIn p (running s.bindings) → (through : Bool) → RestsOn s u (function_at s p) i through → Stays u through (symbol_at s i).definition d
 unturned_stays s u more i d h p run through r =
     let old : Option Definition = (symbol_at s i).definition in
     elim (neither (same_definition s old d) (turns_any s (expands old || expands d) i (running s.bindings)) h) [
       | inl same ↦ same_stays u through old d (same_definition_more s u more old d same)
-      | inr none ↦ not_turned u i old d (reach_of s (function_at s p)) through (none_turned s (expands old || expands d) i (running s.bindings) p none run) (rests_reached s (function_at s p) i through r)
+      | inr none ↦ not_turned u i old d (reach_of s (function_at s p)) through (none_turned s (expands old || expands d) i (running s.bindings) p none run) (rests_reached s u (function_at s p) i through r)
     ]

@@ -1,8 +1,8 @@
 -- What a body rests on stays, a change at a time: equal definitions, and what rests on them.
-use Rattle.std.proofs.Common.{◌≡◌, ◌⊎◌, inl, inr, ℕ, ℤ, pos, negsuc, ◌==◌, ◌&&◌, not, Bool, true, false, List, [], ◌∷◌, ◌++◌, Option, Some, None, refl, sym, ap, ◌∙◌, subst, ◌<◌, zero, suc, length, arith}
+use Rattle.std.proofs.Common.{◌≡◌, ◌⊎◌, inl, inr, ℕ, ℤ, pos, negsuc, ◌==◌, ◌&&◌, not, Bool, true, false, List, [], ◌∷◌, ◌++◌, Option, Some, None, refl, sym, ap, ◌∙◌, subst, ◌<◌, zero, suc, length, arith, slice_get}
 use Rattle.std.proofs.lemmas.Slice.Eq.{bytes_eq-Decides}
 use Rattle.std.specs.Prelude.{slice_index_or}
-use Rattle.rl_tree.specs.Value.{Value, Int, Id, Str, Ref, Fun}
+use Rattle.rl_tree.specs.Value.{Value, Object, Int, Id, Str, Ref, Fun}
 use Rattle.rl_tree.specs.declared.held.Kind.{Kind}
 use Rattle.rl_tree.specs.declared.held.Kind.TheVariants.{Expr, Fexpr, Macro}
 use Rattle.rl_tree.specs.declared.held.VarKind.{VarKind}
@@ -12,9 +12,11 @@ use Rattle.rl_meaning.specs.Symbols.{same_integer, same, symbol_at}
 use Rattle.rl_meaning.specs.Holding.{function_id, with_identifier, with_identifiers, kept_kind, no_function, function_in, function_at}
 use Rattle.rl_meaning.specs.Reach.{is_opened, same_kind, same_var_kind, same_tree, same_names, same_kept, same_held, same_function, same_definition, expands}
 use Rattle.rl_meaning.specs.Forms.{Head, Form, Call, head_in}
-use Rattle.rl_agrees.specs.Later.{IsMore, IsIn}
-use Rattle.rl_agrees.specs.Heads.{name_in, names_in, names_of, RestsOn, on_truth, on_name, on_opened, Stays, kind_of, IsThere}
+use Rattle.rl_agrees.specs.Later.{IsMore, IsNoted, IsIn, Later}
+use Rattle.rl_agrees.specs.Heads.{leaves_in, leaves_of, Inside, inside_name, inside_object, RestsOn, on_truth, on_name, on_opened, Stays, kind_of, IsThere}
 use Rattle.rl_agrees.proofs.LaterStands.{in_none, and_first, and_second, and_both, nat_is, function_same, pointer_is, same_definition_more, function_more}
+use Rattle.rl_agrees.proofs.OneRunLater.{more_length, noted_on}
+use Rattle.rl_meaning.specs.Constants.{values_in}
 
 -- ---- what passes the tests is the same
 
@@ -67,12 +69,12 @@ names_is (x ∷ xs) [] h = absurd (cc)
 
 -- ---- trees with the same leaves
 
-tree_names : (t u : Tree) → same_tree t u ≡ true → names_in t ≡ names_in u
-tree_names (Atom v) (Atom w) h = ap name_in (value_is v w h)
-tree_names (Quoted v) (Quoted w) h = ap name_in (value_is v w h)
-tree_names (Pair a d) (Pair b e) h = ap (λ xs. xs ++ names_in d) (tree_names a b (and_first _ _ h)) ∙ ap (λ ys. names_in b ++ ys) (tree_names d e (and_second (same_tree a b) _ h))
-tree_names (Literal n e) (Literal m f) h = ap (λ xs. function_id ∷ xs) (tree_names e f h)
-tree_names t u h = absurd (cc)
+tree_leaves : (t u : Tree) → same_tree t u ≡ true → leaves_in t ≡ leaves_in u
+tree_leaves (Atom v) (Atom w) h = ap (λ x. x ∷ []) (value_is v w h)
+tree_leaves (Quoted v) (Quoted w) h = ap (λ x. x ∷ []) (value_is v w h)
+tree_leaves (Pair a d) (Pair b e) h = ap (λ xs. xs ++ leaves_in d) (tree_leaves a b (and_first _ _ h)) ∙ ap (λ ys. leaves_in b ++ ys) (tree_leaves d e (and_second (same_tree a b) _ h))
+tree_leaves (Literal n e) (Literal m f) h = ap (λ xs. Id function_id ∷ xs) (tree_leaves e f h)
+tree_leaves t u h = absurd (cc)
 
 tree_identifiers : (xs : List ℕ) (t u : Tree) → same_tree t u ≡ true → with_identifiers xs t ≡ with_identifiers xs u
 tree_identifiers xs (Atom v) (Atom w) h = ap (λ x. with_identifiers xs (Atom x)) (value_is v w h)
@@ -184,24 +186,62 @@ stays_then t u more false o p q (inr h) (inr k) = inr (h.0, k.1)
 
 -- ---- what a body rests on
 
-names_or : (p q : Pointer) (f g : Function) → same_function p q f g ≡ true → (names_of f ≡ names_of g) ⊎ (p ≡ q)
-names_or p q (HeldFunction a) (HeldFunction b) h = inl (tree_names a.body b.body (held_parts a b h).body)
-names_or p q (HeldFunction a) (SpecialForm form) h = inr (pointer_is p q h)
-names_or p q (HeldFunction a) (NativeFunction native) h = inr (pointer_is p q h)
-names_or p q (SpecialForm form) g h = inr (pointer_is p q h)
-names_or p q (NativeFunction native) g h = inr (pointer_is p q h)
+leaves_or : (p q : Pointer) (f g : Function) → same_function p q f g ≡ true → (leaves_of f ≡ leaves_of g) ⊎ (p ≡ q)
+leaves_or p q (HeldFunction a) (HeldFunction b) h = inl (tree_leaves a.body b.body (held_parts a b h).body)
+leaves_or p q (HeldFunction a) (SpecialForm form) h = inr (pointer_is p q h)
+leaves_or p q (HeldFunction a) (NativeFunction native) h = inr (pointer_is p q h)
+leaves_or p q (SpecialForm form) g h = inr (pointer_is p q h)
+leaves_or p q (NativeFunction native) g h = inr (pointer_is p q h)
 
-function_names : (t : State) (p q : Pointer) → same_function p q (function_at t p) (function_at t q) ≡ true → names_of (function_at t p) ≡ names_of (function_at t q)
-function_names t p q h = elim (names_or p q (function_at t p) (function_at t q) h) [
+function_leaves : (t : State) (p q : Pointer) → same_function p q (function_at t p) (function_at t q) ≡ true → leaves_of (function_at t p) ≡ leaves_of (function_at t q)
+function_leaves t p q h = elim (leaves_or p q (function_at t p) (function_at t q) h) [
   | inl e ↦ e
-  | inr e ↦ ap (λ x. names_of (function_at t x)) e
+  | inr e ↦ ap (λ x. leaves_of (function_at t x)) e
 ]
 
-names_more : (s t : State) → IsMore s.functions t.functions → (p : Pointer) (j : ℕ) → IsIn j (names_of (function_at s p)) → IsIn j (names_of (function_at t p))
-names_more s t more p j h = elim (function_more s t more p) [
-  | inl e ↦ subst (λ (f : Function). IsIn j (names_of f)) (sym e) h
-  | inr e ↦ absurd (in_none j (subst (λ (f : Function). IsIn j (names_of f)) e h))
+leaves_more : (s t : State) → IsMore s.functions t.functions → (p : Pointer) (v : Value) → IsIn v (leaves_of (function_at s p)) → IsIn v (leaves_of (function_at t p))
+leaves_more s t more p v h = elim (function_more s t more p) [
+  | inl e ↦ subst (λ (f : Function). IsIn v (leaves_of f)) (sym e) h
+  | inr e ↦ absurd (in_none v (subst (λ (f : Function). IsIn v (leaves_of f)) e h))
 ]
+
+-- ---- constants
+
+-- what is noted since a state is noted still
+pub noted_still : (s t u : State) → Later s t → Later t u → (r : ℕ) → IsNoted t r (length s.functions) → IsNoted u r (length s.functions)
+noted_still s t u h k r noted = noted_on s t u r (k.noted r) (more_length s.functions t.functions h.functions) noted
+
+abbrev pub NotedStill : State → State → State → Type 0
+NotedStill s t u = (r : ℕ) → IsNoted t r (length s.functions) → IsNoted u r (length s.functions)
+
+inside_before : (s t u : State) → NotedStill s t u → (v : Value) (i : ℕ) → Inside s u v i → Inside s t v i
+inside_before s t u still _ _ (inside_name i) = inside_name i
+inside_before s t u still _ _ (inside_object r i v has unnoted more) = inside_object r i v has (λ noted. unnoted (still r noted)) (inside_before s t u still v i more)
+
+there_or : (xs : List Object) (r : ℕ) → (r < length xs) ⊎ (slice_get xs r ≡ None)
+there_or [] r = inr refl
+there_or (x ∷ xs) zero = inl (omega arith)
+there_or (x ∷ xs) (suc r) = elim (there_or xs r) [
+  | inl lt ↦ inl (omega (arith, lt))
+  | inr e ↦ inr e
+]
+
+-- an object that is not noted has what it had
+has_still : (s t : State) → Later s t → (r : ℕ) (v : Value) → (IsNoted t r (length s.functions) → ⊥) → IsIn v (values_in (slice_get s.store r)) → IsIn v (values_in (slice_get t.store r))
+has_still s t h r v unnoted has = elim (there_or s.store r) [
+  | inr e ↦ absurd (in_none v (subst (λ (o : Option Object). IsIn v (values_in o)) e has))
+  | inl lt ↦ elim (h.stay r lt) [
+    | inl same ↦ subst (λ (o : Option Object). IsIn v (values_in o)) (sym same) has
+    | inr noted ↦ absurd (unnoted noted)
+  ]
+]
+
+inside_later : (s t u : State) → Later s t → Later t u → (v : Value) (i : ℕ) → Inside s u v i → Inside t u v i
+inside_later s t u h k _ _ (inside_name i) = inside_name i
+inside_later s t u h k _ _ (inside_object r i v has unnoted more) =
+    inside_object r i v (has_still s t h r v (λ noted. unnoted (noted_still s t u h k r noted)) has)
+    (λ noted. unnoted (record { functions = noted.functions; last = noted.last; late = omega (arith, noted.late, more_length s.functions t.functions h.functions) }))
+    (inside_later s t u h k v i more)
 
 -- an opened name is opened still, and has the same names in its body
 record StillOpened (t : State) (through : Bool) (d : Definition) (o : Option Definition) : Type 0 where
@@ -229,23 +269,33 @@ still_opened t true d o h k = same_opened t true d o h k
 still_opened t false d o h (inl k) = same_opened t false d o h k
 still_opened t false d o h (inr k) = absurd (opened_expands d.kind h k.0)
 
+pub rests_before : (s t u : State) → NotedStill s t u → (f : Function) (i : ℕ) (through : Bool) → RestsOn s u f i through → RestsOn s t f i through
+rests_before s t u still f _ _ on_truth = on_truth
+rests_before s t u still f _ _ (on_name v i has inside) = on_name v i has (inside_before s t u still v i inside)
+rests_before s t u still f _ _ (on_opened i j through d v r e o has inside) = on_opened i j through d v (rests_before s t u still f i through r) e o has (inside_before s t u still v j inside)
+
+-- what the definitions are that a body rests on, by a later state
+abbrev pub AllStay : State → State → Function → Type 0
+AllStay s t f = (i : ℕ) (through : Bool) → RestsOn s t f i through → Stays t through (symbol_at s i).definition (symbol_at t i).definition
+
 -- where what a body rests on stays, it rests on the same
-pub rests_on : (s t : State) → IsMore s.functions t.functions → (f : Function) → ((i : ℕ) (through : Bool) → RestsOn s f i through → Stays t through (symbol_at s i).definition (symbol_at t i).definition) → (i : ℕ) (through : Bool) → RestsOn s f i through → RestsOn t f i through
-rests_on s t more f stay _ _ on_truth = on_truth
-rests_on s t more f stay _ _ (on_name i h) = on_name i h
-rests_on s t more f stay _ _ (on_opened i j through d r e o h) =
-    let still : StillOpened t through d (symbol_at t i).definition = still_opened t through d (symbol_at t i).definition o (subst (λ x. Stays t through x (symbol_at t i).definition) e (stay i through r)) in
-    on_opened i j through still.new (rests_on s t more f stay i through r) still.is still.opens
-    (subst (λ xs. IsIn j xs) (function_names t d.function still.new.function still.same) (names_more s t more d.function j h))
+rests_on : (s t u : State) → Later s t → Later t u → (f : Function) → AllStay s t f → (i : ℕ) (through : Bool) → RestsOn s u f i through → RestsOn t u f i through
+rests_on s t u h k f stay _ _ on_truth = on_truth
+rests_on s t u h k f stay _ _ (on_name v i has inside) = on_name v i has (inside_later s t u h k v i inside)
+rests_on s t u h k f stay _ _ (on_opened i j through d v r e o has inside) =
+    let still : StillOpened t through d (symbol_at t i).definition = still_opened t through d (symbol_at t i).definition o (subst (λ x. Stays t through x (symbol_at t i).definition) e (stay i through (rests_before s t u (noted_still s t u h k) f i through r))) in
+    on_opened i j through still.new v (rests_on s t u h k f stay i through r) still.is still.opens
+    (subst (λ xs. IsIn v xs) (function_leaves t d.function still.new.function still.same) (leaves_more s t h.functions d.function v has))
+    (inside_later s t u h k v j inside)
 
--- a body rests on no less than one with no names does
-rests_less : (t : State) (f g : Function) → ((j : ℕ) → IsIn j (names_of f) → IsIn j (names_of g)) → (i : ℕ) (through : Bool) → RestsOn t f i through → RestsOn t g i through
-rests_less t f g names _ _ on_truth = on_truth
-rests_less t f g names _ _ (on_name i h) = on_name i (names i h)
-rests_less t f g names _ _ (on_opened i j through d r e o h) = on_opened i j through d (rests_less t f g names i through r) e o h
+-- a body rests on no less than one with fewer leaves does
+rests_less : (t u : State) (f g : Function) → ((v : Value) → IsIn v (leaves_of f) → IsIn v (leaves_of g)) → (i : ℕ) (through : Bool) → RestsOn t u f i through → RestsOn t u g i through
+rests_less t u f g leaves _ _ on_truth = on_truth
+rests_less t u f g leaves _ _ (on_name v i has inside) = on_name v i (leaves v has) inside
+rests_less t u f g leaves _ _ (on_opened i j through d v r e o has inside) = on_opened i j through d v (rests_less t u f g leaves i through r) e o has inside
 
-pub rests_more : (s t : State) → IsMore s.functions t.functions → (p : Pointer) → ((i : ℕ) (through : Bool) → RestsOn s (function_at s p) i through → Stays t through (symbol_at s i).definition (symbol_at t i).definition) → (i : ℕ) (through : Bool) → RestsOn s (function_at s p) i through → RestsOn t (function_at t p) i through
-rests_more s t more p stay i through r = rests_less t (function_at s p) (function_at t p) (names_more s t more p) i through (rests_on s t more (function_at s p) stay i through r)
+pub rests_more : (s t u : State) → Later s t → Later t u → (p : Pointer) → AllStay s t (function_at s p) → (i : ℕ) (through : Bool) → RestsOn s u (function_at s p) i through → RestsOn t u (function_at t p) i through
+rests_more s t u h k p stay i through r = rests_less t u (function_at s p) (function_at t p) (leaves_more s t h.functions p) i through (rests_on s t u h k (function_at s p) stay i through r)
 
 -- ---- heads
 

@@ -43,6 +43,7 @@ mod OneRunLaws
 mod OneRunWalking
 mod OneRunMarks
 mod HeadsReach
+mod HeadsObjects
 mod HeadsStays
 mod HeadsRests
 mod OneRunHeads

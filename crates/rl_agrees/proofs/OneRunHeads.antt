@@ -24,7 +24,7 @@ use Rattle.rl_agrees.proofs.LaterLists.{set_definition, appended_definition}
 use Rattle.rl_agrees.proofs.OneRunWalking.{Idles, walk_leads}
 use Rattle.rl_agrees.proofs.OneRunMarks.{Marks, marks_steps, marks_prints, marks_idle}
 use Rattle.rl_agrees.proofs.HeadsRests.{unturned_stays}
-use Rattle.rl_agrees.proofs.HeadsStays.{stays_same, stays_then, rests_more, stays_kind, stays_head}
+use Rattle.rl_agrees.proofs.HeadsStays.{AllStay, stays_same, stays_then, NotedStill, noted_still, rests_before, rests_more, stays_kind, stays_head}
 
 -- ---- functions that run
 
@@ -51,7 +51,7 @@ runs_below s t below p h =
 record Heads (s t : State) : Type 0 where
   pub marks : Marks s t
   pub later : Later s t
-  pub stays : s.compilation.runs_code ≡ false → t.watched.event ≡ None → (p : Pointer) → IsIn p (running s.bindings) → (i : ℕ) (through : Bool) → RestsOn s (function_at s p) i through → Stays t through (symbol_at s i).definition (symbol_at t i).definition
+  pub stays : s.compilation.runs_code ≡ false → t.watched.event ≡ None → (p : Pointer) → IsIn p (running s.bindings) → (i : ℕ) (through : Bool) → RestsOn s t (function_at s p) i through → Stays t through (symbol_at s i).definition (symbol_at t i).definition
 
 -- where definitions are as they were
 untold : (s t : State) → Marks s t → Later s t → ((i : ℕ) → (symbol_at t i).definition ≡ (symbol_at s i).definition) → Heads s t
@@ -72,8 +72,8 @@ heads_then s t u h k = record {
   stays = λ walks none p run i through r.
       let before : t.watched.event ≡ None = none_before t u k.later none in
       let walked = h.marks.walked walks in
-      let rests : RestsOn t (function_at t p) i through = rests_more s t h.later.functions p (h.stays walks before p run) i through r in
-      stays_then t u k.later.functions through _ _ _ (h.stays walks before p run i through r) (k.stays walked.walks none p (runs_below s t walked.below p run) i through rests);
+      let rests : RestsOn t u (function_at t p) i through = rests_more s t u h.later k.later p (h.stays walks before p run) i through r in
+      stays_then t u k.later.functions through _ _ _ (h.stays walks before p run i through (rests_before s t u (noted_still s t u h.later k.later) (function_at s p) i through r)) (k.stays walked.walks none p (runs_below s t walked.below p run) i through rests);
 }
 
 -- ---- a definition
@@ -118,10 +118,10 @@ definition_heads i d s = record { marks = marks_steps.definition i d s; later = 
     u : State
     u = with_definition i d s
 
-    at : (with_definition i d s).watched.event ≡ None → (p : Pointer) → IsIn p (running s.bindings) → (j : ℕ) (through : Bool) → RestsOn s (function_at s p) j through → ((symbol_at (with_definition i d s) j).definition ≡ (symbol_at s j).definition) ⊎ ((j ≡ i) × ((symbol_at (with_definition i d s) j).definition ≡ d)) → Stays (with_definition i d s) through (symbol_at s j).definition (symbol_at (with_definition i d s) j).definition
+    at : (with_definition i d s).watched.event ≡ None → (p : Pointer) → IsIn p (running s.bindings) → (j : ℕ) (through : Bool) → RestsOn s (with_definition i d s) (function_at s p) j through → ((symbol_at (with_definition i d s) j).definition ≡ (symbol_at s j).definition) ⊎ ((j ≡ i) × ((symbol_at (with_definition i d s) j).definition ≡ d)) → Stays (with_definition i d s) through (symbol_at s j).definition (symbol_at (with_definition i d s) j).definition
     at none p run j through r (inl same) = stays_same u through _ _ same
     at none p run j through r (inr here) =
-        let rests : RestsOn s (function_at s p) i through = subst (λ x. RestsOn s (function_at s p) x through) here.0 r in
+        let rests : RestsOn s u (function_at s p) i through = subst (λ x. RestsOn s u (function_at s p) x through) here.0 r in
         let stay : Stays u through (symbol_at s i).definition d = unturned_stays s u (later_steps.definition i d s).functions i d (no_turn i s (turns i d s) none) p run through rests in
         subst (λ x. Stays u through (symbol_at s j).definition x) (sym here.1) (subst (λ x. Stays u through (symbol_at s x).definition d) (sym here.0) stay)
 
@@ -146,11 +146,11 @@ changed_heads (Str bytes) o s m l = untold s _ m l (λ i. refl)
 changed_heads (Fun f place) o s m l = untold s _ m l (λ i. refl)
 
 -- a state with the same functions and definitions as one behind another is behind it too
-also_heads : (s t u : State) → Heads s t → Marks s u → Later s u → IsMore t.functions u.functions → t.watched.event ≡ u.watched.event → ((i : ℕ) → (symbol_at u i).definition ≡ (symbol_at t i).definition) → Heads s u
-also_heads s t u h m l more event same = record {
+also_heads : (s t u : State) → Heads s t → Marks s u → Later s u → NotedStill s t u → IsMore t.functions u.functions → t.watched.event ≡ u.watched.event → ((i : ℕ) → (symbol_at u i).definition ≡ (symbol_at t i).definition) → Heads s u
+also_heads s t u h m l still more event same = record {
   marks = m;
   later = l;
-  stays = λ walks none p run i through r. stays_then t u more through _ _ _ (h.stays walks (event ∙ none) p run i through r) (stays_same u through _ _ (same i));
+  stays = λ walks none p run i through r. stays_then t u more through _ _ _ (h.stays walks (event ∙ none) p run i through (rests_before s t u still (function_at s p) i through r)) (stays_same u through _ _ (same i));
 }
 
 heads_steps : StepsAt false Heads
@@ -161,9 +161,9 @@ heads_steps = record {
   cells = λ n m s h. untold s _ (marks_steps.cells n m s h) (later_steps.cells n m s h) (λ i. refl);
   expansion_cells = λ n e s h. untold s _ (marks_steps.expansion_cells n e s h) (later_steps.expansion_cells n e s h) (λ i. refl);
   opened = opened;
-  closed = λ f s t h. also_heads s t (without_expansion t) (heads_then s (with_expansion f s) t (opened f s) h) (marks_steps.closed f s t h.marks) (later_steps.closed f s t h.later) (more_same t.functions) refl (λ i. refl);
+  closed = λ f s t h. also_heads s t (without_expansion t) (heads_then s (with_expansion f s) t (opened f s) h) (marks_steps.closed f s t h.marks) (later_steps.closed f s t h.later) (λ r noted. record { functions = noted.functions; last = noted.last; late = noted.late }) (more_same t.functions) refl (λ i. refl);
   made = λ o s. untold s _ (marks_steps.made o s) (later_steps.made o s) (λ i. refl);
-  fresh = λ r o s t h le. also_heads s t (with_object (Ref r) o t) h (marks_steps.fresh r o s t h.marks le) (later_steps.fresh r o s t h.later le) (more_same t.functions) refl (λ i. refl);
+  fresh = λ r o s t h le. also_heads s t (with_object (Ref r) o t) h (marks_steps.fresh r o s t h.marks le) (later_steps.fresh r o s t h.later le) (λ r noted. record { functions = noted.functions; last = noted.last; late = noted.late }) (more_same t.functions) refl (λ i. refl);
   noted = λ v s. noted_heads v s (marks_steps.noted v s) (later_steps.noted v s);
   changed = λ v o s. changed_heads v o s (marks_steps.changed v o s) (later_steps.changed v o s);
   grows = λ s t h. h.later.objects;
@@ -173,7 +173,7 @@ heads_steps = record {
   function = λ f s. untold s _ (marks_steps.function f s) (later_steps.function f s) (λ i. refl);
   pushed = λ e s. untold s _ (marks_steps.pushed e s) (later_steps.pushed e s) (λ i. refl);
   valued = λ x v s. untold s _ (marks_steps.valued x v s) (later_steps.valued x v s) (λ i. refl);
-  oldest = λ r s t h k. also_heads r t (with_oldest (length s.bindings) t) k (marks_steps.oldest r s t h.marks k.marks) (later_steps.oldest r s t h.later k.later) (more_same t.functions) refl (λ i. refl);
+  oldest = λ r s t h k. also_heads r t (with_oldest (length s.bindings) t) k (marks_steps.oldest r s t h.marks k.marks) (later_steps.oldest r s t h.later k.later) (λ r noted. record { functions = noted.functions; last = noted.last; late = noted.late }) (more_same t.functions) refl (λ i. refl);
   freed = λ may entries s. absurd may;
   gensyms = λ n s. untold s _ (marks_steps.gensyms n s) (later_steps.gensyms n s) (λ i. refl);
   event = λ e s. untold s _ (marks_steps.event e s) (later_steps.event e s) (λ i. refl);
@@ -196,6 +196,21 @@ heads_idle = record { idle = λ s t e l. record { marks = marks_idle.idle s t e 
     both : true ≡ false → ⊥
     both e = absurd (cc)
 
+-- ---- what it says
+
+heads_in : (s t : State) → Later s t → ((p : Pointer) → IsIn p (running s.bindings) → IsIn p (running t.bindings)) → ((p : Pointer) → IsIn p (running s.bindings) → AllStay s t (function_at s p)) → HeadsStayIn s t
+heads_in s t later runs stays = record {
+  stays = stays;
+  runs = runs;
+  rests = λ p run i through r. rests_more s t t later (later_steps.same t) p (stays p run) i through r;
+  kinds = λ p run i through r. stays_kind t through _ _ (stays p run i through r);
+  heads = λ p run i through r there e. stays_head s t later.functions i through _ _ there e (stays p run i through r);
+}
+
+pub heads_on : (s t u : State) → Later s t → Later t u → HeadsStayIn s t → HeadsStayIn t u → HeadsStayIn s u
+heads_on s t u h k a b = heads_in s u (later_steps.and_then s t u h k) (λ p run. b.runs p (a.runs p run)) (λ p run i through r.
+    stays_then t u k.functions through _ _ _ (a.stays p run i through (rests_before s t u (noted_still s t u h k) (function_at s p) i through r)) (b.stays p (a.runs p run) i through (rests_more s t u h k p (a.stays p run) i through r)))
+
 pub job_heads : (j : Job) (s : State) → IsWalk j → s.compilation.runs_code ≡ false → (state_of (job the_compiler j s)).watched.event ≡ None → HeadsStayIn s (state_of (job the_compiler j s))
 job_heads j s w walks none = stay (walk_leads heads_steps heads_prints heads_idle j s w).moves
   where
@@ -203,10 +218,4 @@ job_heads j s w walks none = stay (walk_leads heads_steps heads_prints heads_idl
     t = state_of (job the_compiler j s)
 
     stay : Heads s (state_of (job the_compiler j s)) → HeadsStayIn s (state_of (job the_compiler j s))
-    stay h = record {
-      stays = h.stays walks none;
-      runs = runs_below s t (h.marks.walked walks).below;
-      rests = λ p run i through r. rests_more s t h.later.functions p (h.stays walks none p run) i through r;
-      kinds = λ p run i through r. stays_kind t through _ _ (h.stays walks none p run i through r);
-      heads = λ p run i through r there e. stays_head s t h.later.functions i through _ _ there e (h.stays walks none p run i through r);
-    }
+    stay h = heads_in s t h.later (runs_below s t (h.marks.walked walks).below) (h.stays walks none)

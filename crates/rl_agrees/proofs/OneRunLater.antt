@@ -24,7 +24,7 @@ use Rattle.rl_agrees.proofs.LaterStands.{standing_fewer, standing_stand, SameDef
 
 -- ---- what does not change, or is changed and noted
 
-more_length : {A : Type 0} (xs ys : List A) → IsMore xs ys → length xs ≤ length ys
+pub more_length : {A : Type 0} (xs ys : List A) → IsMore xs ys → length xs ≤ length ys
 more_length xs ys h = omega (arith, ap length h.is, length-append xs h.rest)
 
 codes_more : (s t : State) → SameDefinitions s t → IsMore s.functions t.functions → t.compilation.coded ≡ s.compilation.coded → CodesStand s → CodesStand t
@@ -81,7 +81,7 @@ untold_later s t store functions symbols output notes watched compilation = alik
 
 -- ---- a preorder
 
-noted_on : (s t u : State) (r : ℕ) → NotedBefore t u r → length s.functions ≤ length t.functions → IsNoted t r (length s.functions) → IsNoted u r (length s.functions)
+pub noted_on : (s t u : State) (r : ℕ) → NotedBefore t u r → length s.functions ≤ length t.functions → IsNoted t r (length s.functions) → IsNoted u r (length s.functions)
 noted_on s t u r (inl e) le k = record { functions = k.functions; last = e ∙ k.last; late = k.late }
 noted_on s t u r (inr n) le k = record { functions = n.functions; last = n.last; late = omega (arith, n.late, le) }
 

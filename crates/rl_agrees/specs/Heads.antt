@@ -1,15 +1,16 @@
 -- What a walk leaves as it was: entries of the same shape below whatever it bound; and where nothing turned, what the body of a running function rests on (this project's).
-use Rattle.std.specs.Prelude.{◌≡◌, ◌<◌, ◌⊎◌, ℕ, Bool, true, false, List, [], ◌∷◌, ◌++◌, length, map, Option, Some, None}
-use Rattle.rl_tree.specs.Value.{Value, Id}
+use Rattle.std.specs.Prelude.{◌≡◌, ◌<◌, ◌⊎◌, ℕ, Bool, true, false, List, [], ◌∷◌, ◌++◌, length, map, slice_get, Option, Some, None}
+use Rattle.rl_tree.specs.Value.{Value, Id, Ref}
 use Rattle.rl_tree.specs.declared.held.Kind.{Kind}
 use Rattle.rl_tree.specs.declared.held.Kind.TheVariants.{Expr}
 use Rattle.rl_meaning.specs.State.{State, Tree, Atom, Quoted, Pair, Literal, Pointer, Definition, Function, HeldFunction, Entry, Binding, Mark}
 use Rattle.rl_meaning.specs.Symbols.{t_id, nil, symbol_at}
+use Rattle.rl_meaning.specs.Constants.{values_in}
 use Rattle.rl_meaning.specs.Holding.{function_id, function_at}
 use Rattle.rl_meaning.specs.Reach.{is_opened, same_definition, running, expands}
 use Rattle.rl_meaning.specs.Forms.{head_of}
 use Rattle.rl_meaning.specs.Evaluation.{Job, Run, Onward, Call_, From, In}
-use Rattle.rl_agrees.specs.Later.{IsIn}
+use Rattle.rl_agrees.specs.Later.{IsNoted, IsIn}
 
 -- a job of a walk; code from a label on is none
 abbrev pub IsWalk : Job → Type 0
@@ -36,26 +37,27 @@ pub record IsBelow (s t : State) : Type 0 where
 
 -- ---- what a body rests on
 
-abbrev pub name_in : Value → List ℕ
-name_in (Id i) = i ∷ []
-name_in v = []
+-- what stands at the leaves of a tree, with FUNCTION for each function in it
+abbrev pub leaves_in : Tree → List Value
+leaves_in (Atom v) = v ∷ []
+leaves_in (Quoted v) = v ∷ []
+leaves_in (Pair a d) = leaves_in a ++ leaves_in d
+leaves_in (Literal n e) = Id function_id ∷ leaves_in e
 
--- the identifiers that stand in a tree, but for those inside the objects of its constants, which a program may change
-abbrev pub names_in : Tree → List ℕ
-names_in (Atom v) = name_in v
-names_in (Quoted v) = name_in v
-names_in (Pair a d) = names_in a ++ names_in d
-names_in (Literal n e) = function_id ∷ names_in e
+abbrev pub leaves_of : Function → List Value
+leaves_of (HeldFunction held) = leaves_in held.body
+leaves_of other = []
 
-abbrev pub names_of : Function → List ℕ
-names_of (HeldFunction held) = names_in held.body
-names_of other = []
+-- the identifiers in a value, down its objects, as far as no change of these is noted since the first state by the second
+pub data Inside (s t : State) : Value → ℕ → Type 0 where
+  inside_name : (i : ℕ) → Inside s t (Id i) i
+  inside_object : (r i : ℕ) (v : Value) → IsIn v (values_in (slice_get s.store r)) → (IsNoted t r (length s.functions) → ⊥) → Inside s t v i → Inside s t (Ref r) i
 
--- T, the identifiers in the body, those in the bodies of the macros among them, and those in the EXPRs and macros that these mention; and whether each is reached through a macro
-pub data RestsOn (s : State) (f : Function) : ℕ → Bool → Type 0 where
-  on_truth : RestsOn s f t_id false
-  on_name : (i : ℕ) → IsIn i (names_of f) → RestsOn s f i false
-  on_opened : (i j : ℕ) (through : Bool) (d : Definition) → RestsOn s f i through → (symbol_at s i).definition ≡ Some d → is_opened d.kind through ≡ true → IsIn j (names_of (function_at s d.function)) → RestsOn s f j true
+-- T, the identifiers in the body and in its constants, those in the macros among them, and those in the EXPRs and macros that these mention; and whether each is reached through a macro
+pub data RestsOn (s t : State) (f : Function) : ℕ → Bool → Type 0 where
+  on_truth : RestsOn s t f t_id false
+  on_name : (v : Value) (i : ℕ) → IsIn v (leaves_of f) → Inside s t v i → RestsOn s t f i false
+  on_opened : (i j : ℕ) (through : Bool) (d : Definition) (v : Value) → RestsOn s t f i through → (symbol_at s i).definition ≡ Some d → is_opened d.kind through ≡ true → IsIn v (leaves_of (function_at s d.function)) → Inside s t v j → RestsOn s t f j true
 
 -- what lets a body go on as it was: a name that is reached through a macro has an equal definition; any other has one too, or is an EXPR or undefined before and after
 abbrev pub Stays : State → Bool → Option Definition → Option Definition → Type 0
@@ -74,11 +76,11 @@ IsThere s (Some d) = d.function.function < length s.functions
 
 -- for each function that runs in the first state and each name that its body rests on there
 pub record HeadsStayIn (s t : State) : Type 0 where
-  pub stays : (p : Pointer) → IsIn p (running s.bindings) → (i : ℕ) (through : Bool) → RestsOn s (function_at s p) i through → Stays t through (symbol_at s i).definition (symbol_at t i).definition
+  pub stays : (p : Pointer) → IsIn p (running s.bindings) → (i : ℕ) (through : Bool) → RestsOn s t (function_at s p) i through → Stays t through (symbol_at s i).definition (symbol_at t i).definition
   -- the function runs still, and its body rests on the name still
   pub runs : (p : Pointer) → IsIn p (running s.bindings) → IsIn p (running t.bindings)
-  pub rests : (p : Pointer) → IsIn p (running s.bindings) → (i : ℕ) (through : Bool) → RestsOn s (function_at s p) i through → RestsOn t (function_at t p) i through
+  pub rests : (p : Pointer) → IsIn p (running s.bindings) → (i : ℕ) (through : Bool) → RestsOn s t (function_at s p) i through → RestsOn t t (function_at t p) i through
   -- EXPRs, FEXPRs and MACROs stay what they are
-  pub kinds : (p : Pointer) → IsIn p (running s.bindings) → (i : ℕ) (through : Bool) → RestsOn s (function_at s p) i through → kind_of (symbol_at t i).definition ≡ kind_of (symbol_at s i).definition
+  pub kinds : (p : Pointer) → IsIn p (running s.bindings) → (i : ℕ) (through : Bool) → RestsOn s t (function_at s p) i through → kind_of (symbol_at t i).definition ≡ kind_of (symbol_at s i).definition
   -- and what is no EXPR is the same head: a special form the same one
-  pub heads : (p : Pointer) → IsIn p (running s.bindings) → (i : ℕ) (through : Bool) → RestsOn s (function_at s p) i through → IsThere s (symbol_at s i).definition → expands (symbol_at s i).definition ≡ true → head_of (Atom (Id i)) t ≡ head_of (Atom (Id i)) s
+  pub heads : (p : Pointer) → IsIn p (running s.bindings) → (i : ℕ) (through : Bool) → RestsOn s t (function_at s p) i through → IsThere s (symbol_at s i).definition → expands (symbol_at s i).definition ≡ true → head_of (Atom (Id i)) t ≡ head_of (Atom (Id i)) s

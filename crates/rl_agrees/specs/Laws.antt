@@ -33,6 +33,8 @@ pub record MarksStay : Type 0 where
 -- and with no event by then, what the bodies of running functions rest on stays
 pub record HeadsStay : Type 0 where
   pub heads : (j : Job) (s : State) → IsWalk j → s.compilation.runs_code ≡ false → (state_of (job the_compiler j s)).watched.event ≡ None → HeadsStayIn s (state_of (job the_compiler j s))
+  -- so from one job to the next
+  pub and_then : (s t u : State) → Later s t → Later t u → HeadsStayIn s t → HeadsStayIn t u → HeadsStayIn s u
 
 pub record CodeAgrees : Type 0 where
   -- from one sound state in which each code is right and rests on what stands, over one source; where both have a bound, that of the walk is no wider
