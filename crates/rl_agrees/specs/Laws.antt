@@ -40,7 +40,7 @@ pub record CodeAgrees : Type 0 where
   -- beside a walk with no event, a run stops for cells or levels only where the walk has no such bound, or stops for cells or levels too: so with the same bounds a stop of the run is one of the walk
   pub bound : (bounds : Bounds) (o p : Ran) (why : Stop) → RunsAgree bounds o p → HasNoEvent p → o.ending ≡ Stops why → IsShort why → IsLacking bounds why ⊎ StopsShort p
 
--- two walks from states side by side, of which the left one may lack local bindings that code keeps in slots: they end side by side again, the same bindings lacking; or apart, where the right one has an event, or one of the two stopped for cells or levels
+-- two walks from states side by side, of which the left one may lack local bindings that code keeps in slots: they end side by side again, the same bindings lacking; or apart, where the right one has an event, or one of the two stopped for cells or levels, the left one only where the right one has no such bound
 pub record WalksAgree : Type 0 where
   pub job_ : (bounds : Bounds) (n : Names) (ps : List Place) (j : Job) (s : State) (k : Job) (t : State) → SameJob bounds n j k → Like bounds n ps s t → MayLack j ps → s.compilation.runs_code ≡ false → EventWithin t
       → Ends bounds n ps (job the_compiler j s) (job the_compiler k t)

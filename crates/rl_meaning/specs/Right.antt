@@ -123,7 +123,7 @@ pub record AgreesWith (bounds : Bounds) (known : Names) (bindings : List Entry) 
   pub ends : Related bounds Leaves SameValue known (all_both bindings) o p
   pub events : (c : Recorded) → (state_of o).watched.event ≡ Some c → IsForeseen c p
 
--- a state that comes to these objects and functions alone, and to these values
+-- a state, with a bound on cells or none, that comes to these objects and functions alone, and to these values
 pub record Knows (bounds : Bounds) (known : Names) (vs : List Value) (code : Code) (s : State) : Type 0 where
   pub identity : IsIdentity known
   pub state : Like bounds known (all_both s.bindings) s s

@@ -1,4 +1,4 @@
--- How two runs side by side end: alike; or apart, where the right one has an event, or one of the two met its bound on cells or levels, and then all that was printed and noted until that moment was so by both (this project's).
+-- How two runs side by side end: alike; or apart, where the right one has an event, or one of the two met its bound on cells or levels, the left one only where the right one has no such bound, and then all that was printed and noted until that moment was so by both (this project's).
 use Rattle.std.specs.Prelude.{◌≡◌, ◌⊎◌, ℕ, ℤ, false, List, ◌++◌, take, Some}
 use Rattle.rl_tree.specs.Value.{Value}
 use Rattle.rl_meaning.specs.State.{State, Outside, Recorded}
