@@ -12,7 +12,7 @@ use Rattle.rl_meaning.specs.Evaluation.{walked}
 use Rattle.rl_meaning.specs.Machine.{run_code}
 use Rattle.rl_meaning.specs.Jobs.{jobs}
 use Rattle.rl_meaning.specs.TwoRunsValues.{Names, Each, more, SameValue}
-use Rattle.rl_meaning.specs.TwoRunsStates.{Like, all_both}
+use Rattle.rl_meaning.specs.TwoRunsStates.{Bounds, Like, all_both}
 use Rattle.rl_meaning.specs.TwoRunsEnds.{Begins, short_of_levels, done, parted}
 use Rattle.rl_meaning.specs.Right.{at_bound, as_event, AgreesWith, Right}
 use Rattle.rl_agrees.specs.Identity.{identity_of, identity_code, identity_coded, IsFree}
@@ -98,34 +98,36 @@ module _ (c : Compiler) (i x : ℕ) (p : Pointer) (kept : List Kept) (free : IsF
   nothing_more : (xs : List ℕ) → Begins xs xs
   nothing_more xs = record { rest = []; is = sym (append-nil xs) }
 
-  agree_done : (known : Names) (v : Value) (s : State) → Like known (all_both s.bindings) s s → SameValue known v v → AgreesWith known s.bindings (Done v s) (Done v s)
-  agree_done known v s l r = record {
-    ends = done known v v s s (grows_refl known) r l;
-    events = λ e is. as_event (Done v s) e is (omega arith) (omega arith);
-  }
+  module _ {bounds : Bounds} where
+    agree_done : (known : Names) (v : Value) (s : State) → Like bounds known (all_both s.bindings) s s → SameValue known v v → AgreesWith bounds known s.bindings (Done v s) (Done v s)
+    agree_done known v s l r = record {
+      ends = done known v v s s (grows_refl known) r l;
+      events = λ e is. as_event (Done v s) e is (omega arith) (omega arith);
+    }
 
-  agree_stopped : (known : Names) (v : Value) (s : State) → AgreesWith known s.bindings (Done v s) (Stopped Depth (with_mark (Some p) s))
-  agree_stopped known v s = record {
-    ends = parted _ _ (at_bound (Done v s) Depth (with_mark (Some p) s) short_of_levels (record { output = nothing_more s.outside.output; notes = nothing_more s.outside.notes }));
-    events = λ e is. as_event (Stopped Depth (with_mark (Some p) s)) e is (omega arith) (omega arith);
-  }
+    agree_stopped : (known : Names) (v : Value) (s : State) → AgreesWith bounds known s.bindings (Done v s) (Stopped Depth (with_mark (Some p) s))
+    agree_stopped known v s = record {
+      ends = parted _ _ (at_bound (Done v s) Depth (with_mark (Some p) s) short_of_levels (record { output = nothing_more s.outside.output; notes = nothing_more s.outside.notes }));
+      events = λ e is. as_event (Stopped Depth (with_mark (Some p) s)) e is (omega arith) (omega arith);
+    }
 
-  agree_by : (known : Names) (v : Value) (s : State) (o p : Outcome Value) → Like known (all_both s.bindings) s s → SameValue known v v → o ≡ Done v s → WalkEnds v s p → AgreesWith known s.bindings o p
-  agree_by known v s o q l r e (has_level f) = subst (λ o. AgreesWith known s.bindings o q) (sym e) (subst (λ q. AgreesWith known s.bindings (Done v s) q) (sym f) (agree_done known v s l r))
-  agree_by known v s o q l r e (no_level f) = subst (λ o. AgreesWith known s.bindings o q) (sym e) (subst (λ q. AgreesWith known s.bindings (Done v s) q) (sym f) (agree_stopped known v s))
+    agree_by : (known : Names) (v : Value) (s : State) (o p : Outcome Value) → Like bounds known (all_both s.bindings) s s → SameValue known v v → o ≡ Done v s → WalkEnds v s p → AgreesWith bounds known s.bindings o p
+    agree_by known v s o q l r e (has_level f) = subst (λ o. AgreesWith bounds known s.bindings o q) (sym e) (subst (λ q. AgreesWith bounds known s.bindings (Done v s) q) (sym f) (agree_done known v s l r))
+    agree_by known v s o q l r e (no_level f) = subst (λ o. AgreesWith bounds known s.bindings o q) (sym e) (subst (λ q. AgreesWith bounds known s.bindings (Done v s) q) (sym f) (agree_stopped known v s))
 
   each_first : {A : Type 0} (R : A → A → Type 0) (a b : A) (xs ys : List A) → Each R (a ∷ xs) (b ∷ ys) → R a b
   each_first R a b xs ys (more _ _ _ _ r rs) = r
 
-  agree : (known : Names) (levels : Levels) (vs : List Value) (s : State) → Like known (all_both s.bindings) s s → Each (SameValue known) vs vs → length vs ≡ 1
-      → AgreesWith known s.bindings (run_code (jobs c) levels (Some p) held (identity_code i) vs s) (walked (jobs c) levels p.function (Some p) held vs s)
-  agree known levels [] s l r e = absurd (omega (arith, e))
-  agree known levels (v ∷ []) s l r e = agree_by known v s _ _ l (each_first _ v v [] [] r) (code_done levels v s) (walk_ends levels v s)
-  agree known levels (v ∷ w ∷ vs) s l r e = absurd (omega (arith, e))
+  module _ {bounds : Bounds} where
+    agree : (known : Names) (levels : Levels) (vs : List Value) (s : State) → Like bounds known (all_both s.bindings) s s → Each (SameValue known) vs vs → length vs ≡ 1
+        → AgreesWith bounds known s.bindings (run_code (jobs c) levels (Some p) held (identity_code i) vs s) (walked (jobs c) levels p.function (Some p) held vs s)
+    agree known levels [] s l r e = absurd (omega (arith, e))
+    agree known levels (v ∷ []) s l r e = agree_by known v s _ _ l (each_first _ v v [] [] r) (code_done levels v s) (walk_ends levels v s)
+    agree known levels (v ∷ w ∷ vs) s l r e = absurd (omega (arith, e))
 
   pub identity_right : (lowered : State) → Right c lowered (identity_coded i p) held []
   identity_right lowered = record {
-    agrees = λ known levels vs s knows count is walks none stands stood. agree known levels vs s knows.state knows.values count;
+    agrees = λ bounds known levels vs s knows count is walks none stands stood. agree known levels vs s knows.state knows.values count;
     binds = refl;
     links = refl;
     constants = refl;

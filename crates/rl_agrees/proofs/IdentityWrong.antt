@@ -12,7 +12,7 @@ use Rattle.rl_meaning.specs.Machine.{run_code}
 use Rattle.rl_meaning.specs.Jobs.{jobs}
 use Rattle.rl_meaning.specs.Opening.{bare_state, state_of}
 use Rattle.rl_meaning.specs.TwoRunsValues.{Names, end, more, SameValue, same_int, same_id, same_str, same_ref, same_fun, SameCode, same_load, same_macro, same_constant}
-use Rattle.rl_meaning.specs.TwoRunsStates.{Place, all_both}
+use Rattle.rl_meaning.specs.TwoRunsStates.{Bounds, bounds_of, Place, all_both}
 use Rattle.rl_meaning.specs.TwoRunsEnds.{Related, done, failed, went, returned, stopped, parted}
 use Rattle.rl_meaning.specs.Right.{Leaves, at_event, at_bound, AgreesWith, Knows, Right}
 use Rattle.rl_agrees.specs.TwoRunsRuns.{names_of, running, walking}
@@ -38,7 +38,7 @@ leaves_nowhere : (o p : Outcome Value) (t : State) → Leaves o p → p ≡ Done
 leaves_nowhere _ _ t (at_event o p r e h) f none = let g : (state_of p).watched.event ≡ t.watched.event = ap (λ q. (state_of q).watched.event) f in absurd (cc)
 leaves_nowhere _ _ t (at_bound o why u h k) f none = absurd (cc)
 
-ends_differ : (n : Names) (ps : List Place) (o p : Outcome Value) (s t : State) → Related Leaves SameValue n ps o p → o ≡ Done nil s → p ≡ Done truth_value t → t.watched.event ≡ None → ⊥
+ends_differ : {bounds : Bounds} (n : Names) (ps : List Place) (o p : Outcome Value) (s t : State) → Related bounds Leaves SameValue n ps o p → o ≡ Done nil s → p ≡ Done truth_value t → t.watched.event ≡ None → ⊥
 ends_differ n ps _ _ s t (done m a b u v g r l) e f none = values_differ m a b r (cc) (cc)
 ends_differ n ps _ _ s t (failed m z v w a b g r l) e f none = absurd (cc)
 ends_differ n ps _ _ s t (went m l a b g k) e f none = absurd (cc)
@@ -55,12 +55,12 @@ nil_code_same n i p = more _ _ _ _ (same_macro (Entry i 1) refl) (more _ _ _ _ (
 here : ℕ → State
 here x = walking None (before x)
 
-here_known : (x : ℕ) → Knows (names_on_right (names_of (before x))) (truth_value ∷ []) (nil_coded identity_name identity_pointer).code (here x)
+here_known : (x : ℕ) → Knows (bounds_of None None) (names_on_right (names_of (before x))) (truth_value ∷ []) (nil_coded identity_name identity_pointer).code (here x)
 unfolding here before bare_state
 here_known x =
     let n : Names = names_of (before x) in
     knows n (all_both (before x).bindings) (running (before x)) (here x) (truth_value ∷ []) (truth_value ∷ []) _ _ (all_both_whole (before x).bindings)
-    (begins_like (before x) None (before_sound x) tt) (more _ _ _ _ (same_id t_id) end) (nil_code_same n identity_name identity_pointer)
+    (begins_like (before x) None (before_sound x) tt refl) (more _ _ _ _ (same_id t_id) end) (nil_code_same n identity_name identity_pointer)
 
 here_function : (x : ℕ) → function_at (here x) identity_pointer ≡ HeldFunction (identity_of x (identity_kept x))
 unfolding here
@@ -68,10 +68,10 @@ here_function x = before_function x
 
 -- what is asked of right code there
 here_agrees : (c : Compiler) (lowered : State) (x : ℕ) → Right c lowered (nil_coded identity_name identity_pointer) (identity_of x (identity_kept x)) []
-    → AgreesWith (names_on_right (names_of (before x))) (here x).bindings (run_code (jobs c) None (Some identity_pointer) (identity_of x (identity_kept x)) (nil_coded identity_name identity_pointer).code (truth_value ∷ []) (here x))
+    → AgreesWith (bounds_of None None) (names_on_right (names_of (before x))) (here x).bindings (run_code (jobs c) None (Some identity_pointer) (identity_of x (identity_kept x)) (nil_coded identity_name identity_pointer).code (truth_value ∷ []) (here x))
     (walked (jobs c) None identity_pointer.function (Some identity_pointer) (identity_of x (identity_kept x)) (truth_value ∷ []) (here x))
 unfolding here before bare_state
-here_agrees c lowered x right = right.agrees (names_on_right (names_of (before x))) None (truth_value ∷ []) (here x) (here_known x) refl (here_function x) refl refl refl tt
+here_agrees c lowered x right = right.agrees (bounds_of None None) (names_on_right (names_of (before x))) None (truth_value ∷ []) (here x) (here_known x) refl (here_function x) refl refl refl tt
 
 pub nil_wrong : (c : Compiler) (lowered : State) (x : ℕ) → is_constant x ≡ false → Right c lowered (nil_coded identity_name identity_pointer) (identity_of x (identity_kept x)) [] → ⊥
 unfolding here before bare_state

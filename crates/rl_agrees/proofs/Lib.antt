@@ -12,6 +12,7 @@ mod TwoRunsNumbers
 mod TwoRunsAtoms
 mod TwoRunsProperties
 mod TwoRunsReading
+mod OneRunDepth
 mod TwoRunsPrinting
 mod TwoRunsNatives
 mod TwoRunsHolding

@@ -1,5 +1,5 @@
 -- An expansion of a plain macro on the right side alone leaves two runs side by side.
-use Rattle.std.proofs.Common.{◌≡◌, ◌≤◌, ◌<◌, ℕ, zero, suc, Bool, true, false, List, [], ◌∷◌, length, slice_index_or, Option, Some, None, refl, sym, ◌∙◌, ap, subst, arith, length-append}
+use Rattle.std.proofs.Common.{◌≡◌, ◌≤◌, ◌<◌, ℕ, zero, suc, Bool, true, false, is_some, List, [], ◌∷◌, length, slice_index_or, Option, Some, None, refl, sym, ◌∙◌, ap, subst, arith, length-append}
 use Rattle.rl_tree.specs.Value.{Store}
 use Rattle.rl_tree.specs.declared.held.Kind.TheVariants.{Expr, Macro}
 use Rattle.rl_meaning.specs.State.{State, Coded, Expansion, Tree, Pointer, Symbol, Definition, Function}
@@ -9,7 +9,7 @@ use Rattle.rl_meaning.specs.Evaluation.{Here, Run, From, opened_expansion, with_
 use Rattle.rl_meaning.specs.Jobs.{code_outside, code_of, run_held, job_at, job, jobs, rank, the_compiler}
 use Rattle.rl_meaning.specs.Opening.{state_of}
 use Rattle.rl_meaning.specs.TwoRunsValues.{Names, Maybe, nothing, just, Each, end, more, SameSymbol, same_symbol, SameDefinition, same_definition, same_pointer}
-use Rattle.rl_meaning.specs.TwoRunsStates.{SameStore, SameFunctions, Place, IsRoomier, Like}
+use Rattle.rl_meaning.specs.TwoRunsStates.{Bounds, SameStore, SameFunctions, Place, IsRoomier, Like}
 use Rattle.rl_meaning.specs.Plain.{have_plain, IsPlain}
 use Rattle.rl_agrees.specs.Expanding.{IsLonger, NoMore, OnlyMakes, PlainExpandsAlone}
 use Rattle.rl_agrees.proofs.TwoRunsLinked.{get_left}
@@ -123,22 +123,29 @@ roomier_alone (Some l) (Some m) (Some n) h k = let le : m ≤ l = h in let ge : 
 roomier_alone (Some l) None (Some n) h k = absurd k
 roomier_alone (Some l) (Some m) None h k = absurd k
 
-pub like_alone : (n : Names) (ps : List Place) (s t u : State) → Like n ps s t → OnlyMakes t u → Like n ps s u
-like_alone n ps s t u l o = record {
-  store = store_alone n s.store t.store u.store o.store l.store;
-  functions = functions_alone n s.functions t.functions u.functions o.functions l.functions;
-  symbols = rw o.symbols l.symbols;
-  bindings = rw o.bindings l.bindings;
-  counts = record {
-    given = l.counts.given ∙ sym o.given;
-    turns = l.counts.turns ∙ sym o.turns;
-    cells = roomier_alone s.counts.cells t.counts.cells u.counts.cells l.counts.cells o.cells;
-    expansion = rw o.expansion l.counts.expansion;
-  };
-  outside = l.outside ∙ sym o.outside;
-  gensyms = l.gensyms ∙ sym o.gensyms;
-  compilation = rw o.compilation l.compilation;
-}
+more_bounded : (l m : Option ℕ) → NoMore l m → is_some m ≡ is_some l
+more_bounded None None h = refl
+more_bounded (Some l) (Some m) h = refl
+more_bounded None (Some m) h = absurd h
+more_bounded (Some l) None h = absurd h
+
+module _ {bounds : Bounds} where
+  pub like_alone : (n : Names) (ps : List Place) (s t u : State) → Like bounds n ps s t → OnlyMakes t u → Like bounds n ps s u
+  like_alone n ps s t u l o = record {
+    store = store_alone n s.store t.store u.store o.store l.store;
+    functions = functions_alone n s.functions t.functions u.functions o.functions l.functions;
+    symbols = rw o.symbols l.symbols;
+    bindings = rw o.bindings l.bindings;
+    counts = record {
+      given = l.counts.given ∙ sym o.given;
+      turns = l.counts.turns ∙ sym o.turns;
+      cells = record { is = roomier_alone s.counts.cells t.counts.cells u.counts.cells l.counts.cells.is o.cells; bound = more_bounded t.counts.cells u.counts.cells o.cells ∙ l.counts.cells.bound };
+      expansion = rw o.expansion l.counts.expansion;
+    };
+    outside = l.outside ∙ sym o.outside;
+    gensyms = l.gensyms ∙ sym o.gensyms;
+    compilation = rw o.compilation l.compilation;
+  }
 
 -- on the right side each definition names a function that is there
 abbrev Ranged : List Function → Option Definition → Type 0
@@ -154,12 +161,13 @@ symbols_ranged n s t xs ys h end i = tt
 symbols_ranged n s t xs ys h (more _ _ as' bs (same_symbol name interned system kind x y p q d e a c l) r) zero = definition_ranged n s t d e h l
 symbols_ranged n s t xs ys h (more _ _ as' bs g r) (suc i) = symbols_ranged n s t as' bs h r i
 
-like_ranged : (n : Names) (ps : List Place) (s t : State) → Like n ps s t → InRange t
-like_ranged n ps s t l = record { is = λ i d e. subst (λ o. Ranged t.functions o) e (symbols_ranged n s.functions t.functions s.symbols t.symbols l.functions l.symbols i) }
+module _ {bounds : Bounds} where
+  like_ranged : (n : Names) (ps : List Place) (s t : State) → Like bounds n ps s t → InRange t
+  like_ranged n ps s t l = record { is = λ i d e. subst (λ o. Ranged t.functions o) e (symbols_ranged n s.functions t.functions s.symbols t.symbols l.functions l.symbols i) }
 
 pub plain_alone : PlainExpandsAlone
 plain_alone = record {
-  expands = λ n ps s t u i f here form l e p h.
+  expands = λ bounds n ps s t u i f here form l e p h.
       let o : OnlyMakes t u = expansion_makes t u i f here form (like_ranged n ps s t l) e p h in
       (o, like_alone n ps s t u l o);
 }

@@ -11,7 +11,7 @@ use Rattle.rl_meaning.specs.Holding.{kept_kind}
 use Rattle.rl_meaning.specs.Opening.{state_of}
 use Rattle.rl_meaning.specs.Variables.{with_binding, with_mark, bound_as, bind_all, binding_levels, with_oldest, restored, binding}
 use Rattle.rl_meaning.specs.TwoRunsValues.{Names, Grows, Maybe, Each, end, more, SameValue, same_id, SamePointer}
-use Rattle.rl_meaning.specs.TwoRunsStates.{Place, Both, BothMark, Hidden, HiddenMark, Aligned, bottom, both, both_mark, hidden, hidden_mark, Shown, Like, Roomier}
+use Rattle.rl_meaning.specs.TwoRunsStates.{Bounds, Place, Both, BothMark, Hidden, HiddenMark, Aligned, bottom, both, both_mark, hidden, hidden_mark, Shown, Like, Roomier}
 use Rattle.rl_meaning.specs.TwoRunsEnds.{HasShown, OneBegins, Parted, by_event, right_short, left_short, short_by_event, both_short, Related, done, failed, went, returned, stopped, parted}
 use Rattle.rl_agrees.proofs.TwoRunsGrowth.{grows_refl}
 use Rattle.rl_agrees.proofs.TwoRunsWays.{then_related}
@@ -94,27 +94,28 @@ restored_watched i (Stopped why s) = refl
 pub restored_shows : {A : Type 0} (x : Outside) (i : ℕ) (o : Outcome A) → Shows x o → Shows x (restored i o)
 restored_shows x i o h = subst (λ y. HasShown x.output x.notes y) (sym (restored_outside i o)) h
 
--- the evidence of outcomes that are apart is not touched
-pub restored_parted : {A : Type 0} (i j : ℕ) (o p : Outcome A) → Parted o p → Parted (restored i o) (restored j p)
-restored_parted i j o p (by_event _ _ r e h) =
-    by_event (restored i o) (restored j p) r (ap (λ w. w.event) (restored_watched j p) ∙ e)
-    (subst (λ y. HasShown (take r.printed y.output) (take r.noted y.notes) (state_of (restored i o)).outside) (sym (restored_outside j p))
-    (subst (λ y. HasShown (take r.printed (state_of p).outside.output) (take r.noted (state_of p).outside.notes) y) (sym (restored_outside i o)) h))
-restored_parted i j o _ (right_short _ why t e h) = right_short (restored i o) why t e (subst (λ y. HasShown t.outside.output t.outside.notes y) (sym (restored_outside i o)) h)
-restored_parted i j _ p (left_short why s _ e h) = left_short why s (restored j p) e (subst (λ y. HasShown s.outside.output s.outside.notes y) (sym (restored_outside j p)) h)
-restored_parted i j _ p (short_by_event why s _ r e f h k) =
-    short_by_event why s (restored j p) r e (ap (λ w. w.event) (restored_watched j p) ∙ f) (subst (λ y. OneBegins (take r.printed y.output) s.outside.output) (sym (restored_outside j p)) h)
-    (subst (λ y. OneBegins (take r.noted y.notes) s.outside.notes) (sym (restored_outside j p)) k)
-restored_parted i j _ _ (both_short why other s t e f h k) = both_short why other s t e f h k
+module _ {bounds : Bounds} where
+  -- the evidence of outcomes that are apart is not touched
+  pub restored_parted : {A : Type 0} (i j : ℕ) (o p : Outcome A) → Parted bounds o p → Parted bounds (restored i o) (restored j p)
+  restored_parted i j o p (by_event _ _ r e h) =
+      by_event (restored i o) (restored j p) r (ap (λ w. w.event) (restored_watched j p) ∙ e)
+      (subst (λ y. HasShown (take r.printed y.output) (take r.noted y.notes) (state_of (restored i o)).outside) (sym (restored_outside j p))
+      (subst (λ y. HasShown (take r.printed (state_of p).outside.output) (take r.noted (state_of p).outside.notes) y) (sym (restored_outside i o)) h))
+  restored_parted i j o _ (right_short _ why t e h) = right_short (restored i o) why t e (subst (λ y. HasShown t.outside.output t.outside.notes y) (sym (restored_outside i o)) h)
+  restored_parted i j _ p (left_short why s _ e h) = left_short why s (restored j p) e (subst (λ y. HasShown s.outside.output s.outside.notes y) (sym (restored_outside j p)) h)
+  restored_parted i j _ p (short_by_event why s _ r e f h k) =
+      short_by_event why s (restored j p) r e (ap (λ w. w.event) (restored_watched j p) ∙ f) (subst (λ y. OneBegins (take r.printed y.output) s.outside.output) (sym (restored_outside j p)) h)
+      (subst (λ y. OneBegins (take r.noted y.notes) s.outside.notes) (sym (restored_outside j p)) k)
+  restored_parted i j _ _ (both_short why other s t e f h k) = both_short why other s t e f h k
 
-module _ (n : Names) (ps : List Place) (s t : State) (l : Like n ps s t) where
-  oldest_like : (m : Names) (qs : List Place) (a b : State) → Above ps qs → Like m qs a b → Like m ps (with_oldest (length s.bindings) a) (with_oldest (length t.bindings) b)
+module _ {bounds : Bounds} (n : Names) (ps : List Place) (s t : State) (l : Like bounds n ps s t) where
+  oldest_like : (m : Names) (qs : List Place) (a b : State) → Above ps qs → Like bounds m qs a b → Like bounds m ps (with_oldest (length s.bindings) a) (with_oldest (length t.bindings) b)
   oldest_like m qs a b o k =
       bindings_like m qs ps a b _ _ k (oldest m ps qs _ _ o k.bindings _ _
       (omega (arith, lefts n ps _ _ l.bindings, lefts m qs _ _ k.bindings, above_left ps qs o)) (omega (arith, rights n ps _ _ l.bindings, rights m qs _ _ k.bindings, above_right ps qs o)))
 
   -- what ran behind more entries, with the former bindings again
-  pub restored_related : {A : Type 0} {R : Names → A → A → Type 0} (m : Names) (qs : List Place) (o p : Outcome A) → Above ps qs → Related Parted R m qs o p → Related Parted R m ps (restored (length s.bindings) o) (restored (length t.bindings) p)
+  pub restored_related : {A : Type 0} {R : Names → A → A → Type 0} (m : Names) (qs : List Place) (o p : Outcome A) → Above ps qs → Related bounds (Parted bounds) R m qs o p → Related bounds (Parted bounds) R m ps (restored (length s.bindings) o) (restored (length t.bindings) p)
   restored_related m qs o p i (done k a b u v g r x) = done k a b _ _ g r (oldest_like k qs u v i x)
   restored_related m qs o p i (failed k z a b u v g r x) = failed k z a b _ _ g r (oldest_like k qs u v i x)
   restored_related m qs o p i (went k x u v g y) = went k x _ _ g (oldest_like k qs u v i y)
@@ -124,8 +125,9 @@ module _ (n : Names) (ps : List Place) (s t : State) (l : Like n ps s t) where
 
 -- ---- marks
 
-pub mark_like : (n : Names) (ps : List Place) (f g : Option Pointer) (s t : State) → Maybe (SamePointer n) f g → Like n ps s t → Like n (BothMark ∷ ps) (with_mark f s) (with_mark g t)
-mark_like n ps f g s t h l = bindings_like n ps (BothMark ∷ ps) s t _ _ l (both_mark f g ps _ _ h l.bindings)
+module _ {bounds : Bounds} where
+  pub mark_like : (n : Names) (ps : List Place) (f g : Option Pointer) (s t : State) → Maybe (SamePointer n) f g → Like bounds n ps s t → Like bounds n (BothMark ∷ ps) (with_mark f s) (with_mark g t)
+  mark_like n ps f g s t h l = bindings_like n ps (BothMark ∷ ps) s t _ _ l (both_mark f g ps _ _ h l.bindings)
 
 -- ---- binding
 
@@ -138,8 +140,9 @@ bound_places (x ∷ xs) ps = bound_places xs (Both ∷ ps)
 pub record Rebound (s a : State) : Type 0 where
   pub is : a ≡ record s { bindings = a.bindings }
 
-pub bound_like : (n : Names) (ps : List Place) (x : ℕ) (scope : Scope) (v w : Value) (s t : State) → SameValue n v w → Like n ps s t → Like n (Both ∷ ps) (with_binding x scope v s) (with_binding x scope w t)
-bound_like n ps x scope v w s t r l = bindings_like n ps (Both ∷ ps) s t _ _ l (both x scope v w ps _ _ r l.bindings)
+module _ {bounds : Bounds} where
+  pub bound_like : (n : Names) (ps : List Place) (x : ℕ) (scope : Scope) (v w : Value) (s t : State) → SameValue n v w → Like bounds n ps s t → Like bounds n (Both ∷ ps) (with_binding x scope v s) (with_binding x scope w t)
+  bound_like n ps x scope v w s t r l = bindings_like n ps (Both ∷ ps) s t _ _ l (both x scope v w ps _ _ r l.bindings)
 
 -- ---- what a binding prints: nothing
 
@@ -167,10 +170,10 @@ all_show kept xs vs s f h =
 Never : Names → Unit {0} → Unit {0} → Type 0
 Never n a b = ⊥
 
-module _ {A : Type 0} {R : Names → A → A → Type 0} (n : Names) (ps : List Place) (s t : State) (l : Like n ps s t) where
+module _ {bounds : Bounds} {A : Type 0} {R : Names → A → A → Type 0} (n : Names) (ps : List Place) (s t : State) (l : Like bounds n ps s t) where
   -- the variable may not be bound: the bindings before it are undone
-  refused : (m : Names) (qs : List Place) (x : ℕ) (u v : State) (f g : Unit {0} → State → Outcome (Unit {0})) (f' g' : Unit {0} → State → Outcome A) → Above ps qs → Like m qs u v
-      → Related Parted R m ps (restored (length s.bindings) (then_do (then_do (fail not_bindable (Id x) u) f) f')) (restored (length t.bindings) (then_do (then_do (fail not_bindable (Id x) v) g) g'))
+  refused : (m : Names) (qs : List Place) (x : ℕ) (u v : State) (f g : Unit {0} → State → Outcome (Unit {0})) (f' g' : Unit {0} → State → Outcome A) → Above ps qs → Like bounds m qs u v
+      → Related bounds (Parted bounds) R m ps (restored (length s.bindings) (then_do (then_do (fail not_bindable (Id x) u) f) f')) (restored (length t.bindings) (then_do (then_do (fail not_bindable (Id x) v) g) g'))
   unfolding Never
   refused m qs x u v f g f' g' o k =
       restored_related n ps s t l m qs _ _ o
@@ -181,30 +184,31 @@ module _ {A : Type 0} {R : Names → A → A → Type 0} (n : Names) (ps : List 
       quits_then w h h' e = then_leaves u.outside (λ s. ⊥) (λ s. ⊥) _ _ (then_leaves u.outside (λ s. ⊥) (λ s. ⊥) _ _ (fail_quits (Unit {0}) not_bindable (Id x) u.outside w e) (λ a s e. absurd e)) (λ a s e. absurd e)
 
   -- a binding of both, with what goes on behind it
-  bound_step : (m : Names) (qs : List Place) (x : ℕ) (a b : Value) (u v : State) (f g : State → Outcome (Unit {0})) (f' g' : State → Outcome A) → Above ps qs → SameValue m a b → Like m qs u v
-      → ((scope : Scope) → Related Parted R m ps (restored (length s.bindings) (then_do (f (with_binding x scope a u)) (λ done s. f' s))) (restored (length t.bindings) (then_do (g (with_binding x scope b v)) (λ done s. g' s))))
+  bound_step : (m : Names) (qs : List Place) (x : ℕ) (a b : Value) (u v : State) (f g : State → Outcome (Unit {0})) (f' g' : State → Outcome A) → Above ps qs → SameValue m a b → Like bounds m qs u v
+      → ((scope : Scope) → Related bounds (Parted bounds) R m ps (restored (length s.bindings) (then_do (f (with_binding x scope a u)) (λ done s. f' s))) (restored (length t.bindings) (then_do (g (with_binding x scope b v)) (λ done s. g' s))))
       → (k : VarKind) (c : Bool)
-      → Related Parted R m ps (restored (length s.bindings) (then_do (then_do (choose c u (λ s. fail not_bindable (Id x) s) (λ s. bound_as k x a s)) (λ done s. f s)) (λ done s. f' s)))
+      → Related bounds (Parted bounds) R m ps (restored (length s.bindings) (then_do (then_do (choose c u (λ s. fail not_bindable (Id x) s) (λ s. bound_as k x a s)) (λ done s. f s)) (λ done s. f' s)))
       (restored (length t.bindings) (then_do (then_do (choose c v (λ s. fail not_bindable (Id x) s) (λ s. bound_as k x b s)) (λ done s. g s)) (λ done s. g' s)))
   bound_step m qs x a b u v f g f' g' o r k h kind true = refused m qs x u v (λ done s. f s) (λ done s. g s) (λ done s. f' s) (λ done s. g' s) o k
   bound_step m qs x a b u v f g f' g' o r k h kind.Plain false = h Local
   bound_step m qs x a b u v f g f' g' o r k h kind.Fluid false = h Fluid
   bound_step m qs x a b u v f g f' g' o r k h kind.Global false = refused m qs x u v (λ done s. f s) (λ done s. g s) (λ done s. f' s) (λ done s. g' s) o k
 
-  bound_all : (kept : List Kept) (xs : List ℕ) (vs ws : List Value) (m : Names) (qs : List Place) (u v : State) (f g : State → Outcome A) → Above ps qs → Each (SameValue m) vs ws → Like m qs u v
-      → ((k : Names) (a b : State) → Grows m k → Like k (bound_places xs qs) a b → Rebound u a → Rebound v b → (Shown qs → Shown (bound_places xs qs)) → Related Parted R k (bound_places xs qs) (f a) (g b))
-      → Related Parted R m ps (restored (length s.bindings) (then_do (bind_all kept xs vs u) (λ done s. f s))) (restored (length t.bindings) (then_do (bind_all kept xs ws v) (λ done s. g s)))
+  bound_all : (kept : List Kept) (xs : List ℕ) (vs ws : List Value) (m : Names) (qs : List Place) (u v : State) (f g : State → Outcome A) → Above ps qs → Each (SameValue m) vs ws → Like bounds m qs u v
+      → ((k : Names) (a b : State) → Grows m k → Like bounds k (bound_places xs qs) a b → Rebound u a → Rebound v b → (Shown qs → Shown (bound_places xs qs)) → Related bounds (Parted bounds) R k (bound_places xs qs) (f a) (g b))
+      → Related bounds (Parted bounds) R m ps (restored (length s.bindings) (then_do (bind_all kept xs vs u) (λ done s. f s))) (restored (length t.bindings) (then_do (bind_all kept xs ws v) (λ done s. g s)))
   bound_all kept [] vs ws m qs u v f g o e k h = restored_related n ps s t l m qs _ _ o (h m u v (grows_refl m) k (record { is = refl }) (record { is = refl }) (λ w. w))
   bound_all kept (x ∷ xs) _ _ m qs u v f g o (more a b vs ws r e) k h =
       bound_step m qs x a b u v (λ s. bind_all kept xs vs s) (λ s. bind_all kept xs ws s) f g o r k (λ scope. bound_all kept xs vs ws m (Both ∷ qs) _ _ f g (over Both qs o) e (bound_like m qs x scope a b u v r k) (λ i c d w y left right z. h i c d w y (record { is = left.is }) (record { is = right.is }) z)) (kept_kind kept x) (is_constant x)
   bound_all kept (x ∷ xs) _ _ m qs u v f g o end k h =
       bound_step m qs x nil nil u v (λ s. bind_all kept xs [] s) (λ s. bind_all kept xs [] s) f g o (same_id nil_id) k (λ scope. bound_all kept xs [] [] m (Both ∷ qs) _ _ f g (over Both qs o) end (bound_like m qs x scope nil nil u v (same_id nil_id) k) (λ i c d w y left right z. h i c d w y (record { is = left.is }) (record { is = right.is }) z)) (kept_kind kept x) (is_constant x)
 
--- what goes on behind the bindings has them in both runs, at their places, and leaves what was printed before, on either side: of a stop for lack of levels no more is known
-pub binding_related : {A : Type 0} {R : Names → A → A → Type 0} (n : Names) (ps : List Place) (l m : Levels) (kept : List Kept) (xs : List ℕ) (vs ws : List Value) (s t : State) (f g : Levels → State → Outcome A) → Roomier l m → Each (SameValue n) vs ws → Like n ps s t
-    → ((l : Levels) → Prints (λ s. f l s)) → ((m : Levels) → Prints (λ t. g m t))
-    → ((k : Names) (l m : Levels) (a b : State) → Grows n k → Roomier l m → Like k (bound_places xs ps) a b → Rebound s a → Rebound t b → (Shown ps → Shown (bound_places xs ps)) → Related Parted R k (bound_places xs ps) (f l a) (g m b))
-    → Related Parted R n ps (binding l kept xs vs s f) (binding m kept xs ws t g)
-binding_related n ps l m kept xs vs ws s t f g r e k left right h =
-    deeper_ends n ps s t _ _ k.outside (λ l. all_show kept xs vs s (λ s. f l s) (left l)) (λ m. all_show kept xs ws t (λ s. g m s) (right m)) (binding_levels (length xs)) l m r (λ l m r.
-    bound_all n ps s t k kept xs vs ws n ps s t (λ s. f l s) (λ s. g m s) level e k (λ i a b w z left right y. h i l m a b w r z left right y))
+module _ {bounds : Bounds} where
+  -- what goes on behind the bindings has them in both runs, at their places, and leaves what was printed before, on either side: of a stop for lack of levels no more is known
+  pub binding_related : {A : Type 0} {R : Names → A → A → Type 0} (n : Names) (ps : List Place) (l m : Levels) (kept : List Kept) (xs : List ℕ) (vs ws : List Value) (s t : State) (f g : Levels → State → Outcome A) → Roomier bounds l m → Each (SameValue n) vs ws → Like bounds n ps s t
+      → ((l : Levels) → Prints (λ s. f l s)) → ((m : Levels) → Prints (λ t. g m t))
+      → ((k : Names) (l m : Levels) (a b : State) → Grows n k → Roomier bounds l m → Like bounds k (bound_places xs ps) a b → Rebound s a → Rebound t b → (Shown ps → Shown (bound_places xs ps)) → Related bounds (Parted bounds) R k (bound_places xs ps) (f l a) (g m b))
+      → Related bounds (Parted bounds) R n ps (binding l kept xs vs s f) (binding m kept xs ws t g)
+  binding_related n ps l m kept xs vs ws s t f g r e k left right h =
+      deeper_ends n ps s t _ _ k.outside (λ l. all_show kept xs vs s (λ s. f l s) (left l)) (λ m. all_show kept xs ws t (λ s. g m s) (right m)) (binding_levels (length xs)) l m r (λ l m r.
+      bound_all n ps s t k kept xs vs ws n ps s t (λ s. f l s) (λ s. g m s) level e k (λ i a b w z left right y. h i l m a b w r z left right y))

@@ -4,7 +4,7 @@ use Rattle.rl_meaning.specs.State.{State}
 use Rattle.rl_meaning.specs.Evaluation.{Job, Run, Onward, Call_, From, In}
 use Rattle.rl_meaning.specs.Jobs.{the_compiler}
 use Rattle.rl_meaning.specs.TwoRunsValues.{Names}
-use Rattle.rl_meaning.specs.TwoRunsStates.{Place, Both, BothMark, Hidden, HiddenMark, Shown, Like}
+use Rattle.rl_meaning.specs.TwoRunsStates.{Bounds, Place, Both, BothMark, Hidden, HiddenMark, Shown, Like}
 use Rattle.rl_agrees.specs.TwoRunsJobs.{EventWithin, Goes, SameJob, Ready, IsOfState, IsWhole}
 use Rattle.rl_agrees.proofs.TwoRunsReady.{ready_stays}
 
@@ -34,22 +34,23 @@ pub record Comparison : Type 1 where
 -- ---- two states beside each other, and two jobs
 
 -- P: what is asked of the places
-pub record Sides (c : Comparison) (P : List Place → Type 0) (n : Names) (ps : List Place) (s t : State) : Type 0 where
-  pub like : Like n ps s t
+pub record Sides (bounds : Bounds) (c : Comparison) (P : List Place → Type 0) (n : Names) (ps : List Place) (s t : State) : Type 0 where
+  pub like : Like bounds n ps s t
   pub places : P ps
   pub ready : c.states s t
 
 -- where a function begins
-abbrev pub BelowSides : Comparison → Names → List Place → State → State → Type 0
-BelowSides c n ps s t = Sides c c.below n ps s t
+abbrev pub BelowSides : Bounds → Comparison → Names → List Place → State → State → Type 0
+BelowSides bounds c n ps s t = Sides bounds c c.below n ps s t
 
 -- where a form is walked
-abbrev pub CleanSides : Comparison → Names → List Place → State → State → Type 0
-CleanSides c n ps s t = Sides c c.clean n ps s t
+abbrev pub CleanSides : Bounds → Comparison → Names → List Place → State → State → Type 0
+CleanSides bounds c n ps s t = Sides bounds c c.clean n ps s t
 
--- so a function may begin there
-pub begun_sides : (c : Comparison) (n : Names) (ps : List Place) (s t : State) → CleanSides c n ps s t → BelowSides c n ps s t
-begun_sides c n ps s t i = record { like = i.like; places = c.begun ps i.places; ready = i.ready }
+module _ {bounds : Bounds} where
+  -- so a function may begin there
+  pub begun_sides : (c : Comparison) (n : Names) (ps : List Place) (s t : State) → CleanSides bounds c n ps s t → BelowSides bounds c n ps s t
+  begun_sides c n ps s t i = record { like = i.like; places = c.begun ps i.places; ready = i.ready }
 
 -- what a job asks of the places
 abbrev pub PlacesOf : Comparison → Job → List Place → Type 0
@@ -59,9 +60,9 @@ PlacesOf c (Call_ name l f vs) ps = c.below ps
 PlacesOf c (From here whole rest) ps = c.clean ps
 PlacesOf c (In here position body) ps = c.clean ps
 
-pub record Starts (c : Comparison) (n : Names) (ps : List Place) (j : Job) (s : State) (k : Job) (t : State) : Type 0 where
-  pub same : SameJob n j k
-  pub like : Like n ps s t
+pub record Starts (bounds : Bounds) (c : Comparison) (n : Names) (ps : List Place) (j : Job) (s : State) (k : Job) (t : State) : Type 0 where
+  pub same : SameJob bounds n j k
+  pub like : Like bounds n ps s t
   pub places : PlacesOf c j ps
   pub asked : c.asked k t
   pub ready : c.states s t

@@ -14,7 +14,7 @@ use Rattle.rl_meaning.specs.Jobs.{names_function, code_among, code_outside, code
 use Rattle.rl_meaning.specs.Laws.{below_by, below, IsFuelEnough}
 use Rattle.rl_meaning.specs.TwoRunsLinks.{OneToOne}
 use Rattle.rl_meaning.specs.TwoRunsValues.{Names, Maybe, nothing, just, Each, end, more, SameValue, SameHeld, SamePointer, same_pointer, SameCode, SameCoded, same_coded}
-use Rattle.rl_meaning.specs.TwoRunsStates.{Place, all_both, SameExpansion, same_none, same_open, Like, Roomier}
+use Rattle.rl_meaning.specs.TwoRunsStates.{Bounds, Place, all_both, SameExpansion, same_none, same_open, Like, Roomier}
 use Rattle.rl_meaning.specs.TwoRunsEnds.{stopped, Ends}
 use Rattle.rl_meaning.specs.Right.{AgreesWith, Right}
 use Rattle.rl_agrees.specs.Later.{IsIn, first, further}
@@ -29,8 +29,8 @@ use Rattle.rl_agrees.proofs.TwoRunsCompared.{Comparison, PlacesOf, Starts, code_
 abbrev by : Ask → Rec
 by ask = asked.by the_compiler ask
 
-abbrev Respects : Ask → Ask → Type 0
-Respects ask ask' = asked.Respects code_and_walk ask ask'
+abbrev Respects : Bounds → Ask → Ask → Type 0
+Respects bounds ask ask' = asked.Respects bounds code_and_walk ask ask'
 
 -- a job that walks
 abbrev pub walk_done : Rec → Job → State → Outcome Value
@@ -71,22 +71,23 @@ walks_all (In here position body) t e = refl
 
 -- ---- as much is left to do
 
-here_chain : (n : Names) (h g : Here) → SameHere n h g → h.chain ≡ g.chain
-here_chain n h g (same_here chain kept l m i j r k) = refl
+module _ {bounds : Bounds} where
+  here_chain : (n : Names) (h g : Here) → SameHere bounds n h g → h.chain ≡ g.chain
+  here_chain n h g (same_here chain kept l m i j r k) = refl
 
-chain_same : (n : Names) (j k : Job) → SameJob n j k → chain_of j ≡ chain_of k
-chain_same n j k (same_run name l m h g p q a b vs ws r i x y z) = refl
-chain_same n j k (same_onward f g m l c d x y z) = refl
-chain_same n j k (same_call name l m p q vs ws x y z) = refl
-chain_same n j k (same_from h g a b c d x y z) = here_chain n h g x
-chain_same n j k (same_in h g position a b x y) = here_chain n h g x
+  chain_same : (n : Names) (j k : Job) → SameJob bounds n j k → chain_of j ≡ chain_of k
+  chain_same n j k (same_run name l m h g p q a b vs ws r i x y z) = refl
+  chain_same n j k (same_onward f g m l c d x y z) = refl
+  chain_same n j k (same_call name l m p q vs ws x y z) = refl
+  chain_same n j k (same_from h g a b c d x y z) = here_chain n h g x
+  chain_same n j k (same_in h g position a b x y) = here_chain n h g x
 
-rank_same : (n : Names) (ps : List Place) (j k : Job) (s t : State) → SameJob n j k → Like n ps s t → rank j s ≡ rank k t
-rank_same n ps j k s t x l = at s.counts.expansion t.counts.expansion l.counts.expansion ∙ ap (λ c. rank_of c t.counts.expansion t.counts.turns) (chain_same n j k x)
-  where
-    at : (e f : Option Expansion) → SameExpansion e f → rank_of (chain_of j) e s.counts.turns ≡ rank_of (chain_of j) f t.counts.turns
-    at e f same_none = ap (λ u. rank_of (chain_of j) None u) l.counts.turns
-    at e f (same_open x) = refl
+  rank_same : (n : Names) (ps : List Place) (j k : Job) (s t : State) → SameJob bounds n j k → Like bounds n ps s t → rank j s ≡ rank k t
+  rank_same n ps j k s t x l = at s.counts.expansion t.counts.expansion l.counts.expansion ∙ ap (λ c. rank_of c t.counts.expansion t.counts.turns) (chain_same n j k x)
+    where
+      at : (e f : Option Expansion) → SameExpansion e f → rank_of (chain_of j) e s.counts.turns ≡ rank_of (chain_of j) f t.counts.turns
+      at e f same_none = ap (λ u. rank_of (chain_of j) None u) l.counts.turns
+      at e f (same_open x) = refl
 
 -- ---- the code on the left, and the entry on the right
 
@@ -160,56 +161,56 @@ held_is f a b x y = cc
 -- ---- the walk of a job, by the jobs below
 
 -- the jobs below this rank agree
-abbrev Below : Comparison → ℕ → Type 0
-Below c i = (n : Names) (ps : List Place) (j : Job) (s : State) (k : Job) (t : State) → Starts c n ps j s k t → rank j s < i → EndsOf j n ps (job the_compiler j s) (job the_compiler k t)
+abbrev Below : Bounds → Comparison → ℕ → Type 0
+Below bounds c i = (n : Names) (ps : List Place) (j : Job) (s : State) (k : Job) (t : State) → Starts bounds c n ps j s k t → rank j s < i → EndsOf bounds j n ps (job the_compiler j s) (job the_compiler k t)
 
-module _
+module _ {bounds : Bounds}
     (c : Comparison)
     (fuel : IsFuelEnough)
     (below_goes : (i : ℕ) → AskGoes (below i))
-    (walk_respects : (ask ask' : Ask) → AskGoes ask → AskGoes ask' → asked.Respects c ask ask' → (n : Names) (ps : List Place) (j : Job) (s : State) (k : Job) (t : State) → Starts c n ps j s k t → EndsOf j n ps (walk_done (by ask) j s) (walk_done (by ask') k t))
+    (walk_respects : (ask ask' : Ask) → AskGoes ask → AskGoes ask' → asked.Respects bounds c ask ask' → (n : Names) (ps : List Place) (j : Job) (s : State) (k : Job) (t : State) → Starts bounds c n ps j s k t → EndsOf bounds j n ps (walk_done (by ask) j s) (walk_done (by ask') k t))
   where
-    ends_stopped : (j : Job) (n : Names) (ps : List Place) (s t : State) → PlacesOf c j ps → Like n ps s t → EndsOf j n ps (Stopped Turns s) (Stopped Turns t)
+    ends_stopped : (j : Job) (n : Names) (ps : List Place) (s t : State) → PlacesOf c j ps → Like bounds n ps s t → EndsOf bounds j n ps (Stopped Turns s) (Stopped Turns t)
     ends_stopped (Run name levels holder f held vs) n ps s t w l = stopped Turns s t (record { outside = l.outside; turns = l.counts.turns })
     ends_stopped (Onward f m code) n ps s t w l = record { places = ps; whole = c.whole ps w; ends = stopped Turns s t (record { outside = l.outside; turns = l.counts.turns }) }
     ends_stopped (Call_ name levels f vs) n ps s t w l = stopped Turns s t (record { outside = l.outside; turns = l.counts.turns })
     ends_stopped (From here whole rest) n ps s t w l = stopped Turns s t (record { outside = l.outside; turns = l.counts.turns })
     ends_stopped (In here position body) n ps s t w l = stopped Turns s t (record { outside = l.outside; turns = l.counts.turns })
 
-    below_respects : (i : ℕ) → Below c i → asked.Respects c (below i) (below i)
-    below_respects i ih n ps j s k t st = subst (λ r. EndsOf j n ps (below i j s) (below_by (nat_lt r i) k t)) (rank_same n ps j k s t st.same st.like) (at (nat_lt (rank j s) i) refl)
+    below_respects : (i : ℕ) → Below bounds c i → asked.Respects bounds c (below i) (below i)
+    below_respects i ih n ps j s k t st = subst (λ r. EndsOf bounds j n ps (below i j s) (below_by (nat_lt r i) k t)) (rank_same n ps j k s t st.same st.like) (at (nat_lt (rank j s) i) refl)
       where
-        at : (b : Bool) → nat_lt (rank j s) i ≡ b → EndsOf j n ps (below_by b j s) (below_by b k t)
+        at : (b : Bool) → nat_lt (rank j s) i ≡ b → EndsOf bounds j n ps (below_by b j s) (below_by b k t)
         at true e = ih n ps j s k t st (grind (arith, nat_tests, e))
         at false e = ends_stopped j n ps s t st.places st.like
 
-    walk_agrees : (i : ℕ) → Below c i → (n : Names) (ps : List Place) (j : Job) (s : State) (k : Job) (t : State) → Starts c n ps j s k t → rank j s ≤ i → code_in j s ≡ None → EndsOf j n ps (job the_compiler j s) (job the_compiler k t)
+    walk_agrees : (i : ℕ) → Below bounds c i → (n : Names) (ps : List Place) (j : Job) (s : State) (k : Job) (t : State) → Starts bounds c n ps j s k t → rank j s ≤ i → code_in j s ≡ None → EndsOf bounds j n ps (job the_compiler j s) (job the_compiler k t)
     walk_agrees i ih n ps j s k t st le e =
         let le' : rank k t ≤ i = subst (λ r. r ≤ i) (rank_same n ps j k s t st.same st.like) le in
         let left : job the_compiler j s ≡ walk_done (by (below i)) j s = fuel.less i j s le ∙ walk_is (by (below i)) j s e in
         let right : job the_compiler k t ≡ walk_done (by (below i)) k t = fuel.less i k t le' ∙ walk_is (by (below i)) k t (walks_all k t st.like.compilation.walks) in
-        subst (λ o. EndsOf j n ps o (job the_compiler k t)) (sym left) (subst (λ o. EndsOf j n ps (walk_done (by (below i)) j s) o) (sym right)
+        subst (λ o. EndsOf bounds j n ps o (job the_compiler k t)) (sym left) (subst (λ o. EndsOf bounds j n ps (walk_done (by (below i)) j s) o) (sym right)
         (walk_respects (below i) (below i) (below_goes i) (below_goes i) (below_respects i ih) n ps j s k t st))
 
     -- where no code runs on the left, that is all there is
-    pub walks_composed : ((j : Job) (s : State) (t : State) → c.states s t → code_in j s ≡ None) → asked.Respects c (job the_compiler) (job the_compiler)
+    pub walks_composed : ((j : Job) (s : State) (t : State) → c.states s t → code_in j s ≡ None) → asked.Respects bounds c (job the_compiler) (job the_compiler)
     walks_composed no_code_in n ps j s k t st = agrees (suc (rank j s)) n ps j s k t st (omega arith)
       where
-        agrees : (i : ℕ) → Below c i
+        agrees : (i : ℕ) → Below bounds c i
         agrees zero n ps j s k t st lt = absurd (omega (arith, lt))
         agrees (suc i) n ps j s k t st lt = walk_agrees i (agrees i) n ps j s k t st (omega (arith, lt)) (no_code_in j s t st.ready)
 
 -- ---- composition
 
-module _
+module _ {bounds : Bounds}
     (fuel : IsFuelEnough)
     (job_goes : AskGoes (job the_compiler))
     (code_goes : (levels : Levels) (f : Option Pointer) (held : Held) (code : Code) (vs : List Value) (s : State) → GoesOn s (run_code (jobs the_compiler) levels f held code vs s))
     (below_goes : (i : ℕ) → AskGoes (below i))
-    (walk_respects : (ask ask' : Ask) → AskGoes ask → AskGoes ask' → Respects ask ask' → (n : Names) (ps : List Place) (j : Job) (s : State) (k : Job) (t : State) → Starts code_and_walk n ps j s k t → EndsOf j n ps (walk_done (by ask) j s) (walk_done (by ask') k t))
-    (code_respects : (ask ask' : Ask) → AskGoes ask → AskGoes ask' → Respects ask ask' → (n : Names) (ps : List Place) (l m : Levels) (p q : Option Pointer) (a b : Held) (c d : Code) (vs ws : List Value) (s t : State)
-    → Roomier l m → Maybe (SamePointer n) p q → SameHeld n a b → SameCode n c d → Each (SameValue n) vs ws → Like n ps s t → IsWhole ps → Ready the_compiler t
-    → EndsSomewhere n (run_code (by ask) l p a c vs s) (run_code (by ask') m q b d ws t))
+    (walk_respects : (ask ask' : Ask) → AskGoes ask → AskGoes ask' → Respects bounds ask ask' → (n : Names) (ps : List Place) (j : Job) (s : State) (k : Job) (t : State) → Starts bounds code_and_walk n ps j s k t → EndsOf bounds j n ps (walk_done (by ask) j s) (walk_done (by ask') k t))
+    (code_respects : (ask ask' : Ask) → AskGoes ask → AskGoes ask' → Respects bounds ask ask' → (n : Names) (ps : List Place) (l m : Levels) (p q : Option Pointer) (a b : Held) (c d : Code) (vs ws : List Value) (s t : State)
+    → Roomier bounds l m → Maybe (SamePointer n) p q → SameHeld n a b → SameCode n c d → Each (SameValue n) vs ws → Like bounds n ps s t → IsWhole ps → Ready the_compiler t
+    → EndsSomewhere bounds n (run_code (by ask) l p a c vs s) (run_code (by ask') m q b d ws t))
   where
     -- code from its entry on is a job that has no more to do
     code_below : (i : ℕ) (levels : Levels) (f : Option Pointer) (held : Held) (code : Code) (vs : List Value) (t : State) → rank_of longest_chain t.counts.expansion t.counts.turns ≤ i → run_code (by (below i)) levels f held code vs t ≡ run_code (jobs the_compiler) levels f held code vs t
@@ -220,12 +221,12 @@ module _
     code_below i levels f held other vs t le = refl
 
     -- its code on both sides, then its code and its walk on the right
-    code_by : (i : ℕ) → Below code_and_walk i → (n : Names) (ps : List Place) (name : Option ℕ) (l m : Levels) (h g : ℕ) (p : Option Pointer) (a b : Held) (vs ws : List Value) (s t : State) (code : Code) (entry : Coded)
+    code_by : (i : ℕ) → Below bounds code_and_walk i → (n : Names) (ps : List Place) (name : Option ℕ) (l m : Levels) (h g : ℕ) (p : Option Pointer) (a b : Held) (vs ws : List Value) (s t : State) (code : Code) (entry : Coded)
         → IsIn entry t.compilation.coded → SameCode n code entry.code → t.counts.expansion ≡ None
-        → Roomier l m → SameHeld n a b → Each (SameValue n) vs ws
+        → Roomier bounds l m → SameHeld n a b → Each (SameValue n) vs ws
         → rank (Run name l h p a vs) s ≤ i → code_of name p s ≡ Some code
-        → Starts code_and_walk n ps (Run name l h p a vs) s (Run name m g (Some entry.function) b ws) t → Maybe (SamePointer n) p (Some entry.function)
-        → Ends n ps (job the_compiler (Run name l h p a vs) s) (job the_compiler (Run name m g (Some entry.function) b ws) t)
+        → Starts bounds code_and_walk n ps (Run name l h p a vs) s (Run name m g (Some entry.function) b ws) t → Maybe (SamePointer n) p (Some entry.function)
+        → Ends bounds n ps (job the_compiler (Run name l h p a vs) s) (job the_compiler (Run name m g (Some entry.function) b ws) t)
     code_by i ih n ps name l m h g p a b vs ws s t code entry is_in same x r hh vv le e st pq =
         let j : Job = Run name l h p a vs in
         let f : Pointer = entry.function in
@@ -234,36 +235,36 @@ module _
         let of_ : (function_at t f ≡ HeldFunction b) × (g ≡ f.function) × (length ws ≡ length b.parameters) = st.asked in
         let right : Right the_compiler own.lowered entry b own.stood = subst (λ h. Right the_compiler own.lowered entry h own.stood) (held_is (function_at t f) own.held b own.is of_.0) own.right in
         let P : Outcome Value = run_code (jobs the_compiler) m (Some f) b entry.code ws t in
-        let agrees : AgreesWith (names_on_right n) t.bindings P (walked (jobs the_compiler) m f.function (Some f) b ws t) =
-        right.agrees (names_on_right n) m ws t (knows n ps s t vs ws code entry.code st.places st.like vv same) of_.2 of_.0 st.like.compilation.walks x own.stands own.constants in
+        let agrees : AgreesWith bounds (names_on_right n) t.bindings P (walked (jobs the_compiler) m f.function (Some f) b ws t) =
+        right.agrees bounds (names_on_right n) m ws t (knows n ps s t vs ws code entry.code st.places st.like vv same) of_.2 of_.0 st.like.compilation.walks x own.stands own.constants in
         let walk : job the_compiler k t ≡ walked (jobs the_compiler) m g (Some f) b ws t = fuel.done k t ∙ walk_is (jobs the_compiler) k t (walks_all k t st.like.compilation.walks) in
-        let second : AgreesWith (names_on_right n) t.bindings P (job the_compiler k t) =
-        subst (λ o. AgreesWith (names_on_right n) t.bindings P o) (sym walk) (subst (λ z. AgreesWith (names_on_right n) t.bindings P (walked (jobs the_compiler) m z (Some f) b ws t)) (sym of_.1) agrees) in
+        let second : AgreesWith bounds (names_on_right n) t.bindings P (job the_compiler k t) =
+        subst (λ o. AgreesWith bounds (names_on_right n) t.bindings P o) (sym walk) (subst (λ z. AgreesWith bounds (names_on_right n) t.bindings P (walked (jobs the_compiler) m z (Some f) b ws t)) (sym of_.1) agrees) in
         let left : job the_compiler j s ≡ run_code (by (below i)) l p a code vs s = fuel.less i j s le ∙ ap (λ o. run_held (by (below i)) o l h p a vs s) e in
         let le' : rank k t ≤ i = subst (λ r. r ≤ i) (rank_same n ps j k s t st.same st.like) le in
-        let first : EndsSomewhere n (job the_compiler j s) P =
-        subst (λ o. EndsSomewhere n o P) (sym left) (subst (λ o. EndsSomewhere n (run_code (by (below i)) l p a code vs s) o) (code_below i m (Some f) b entry.code ws t le')
+        let first : EndsSomewhere bounds n (job the_compiler j s) P =
+        subst (λ o. EndsSomewhere bounds n o P) (sym left) (subst (λ o. EndsSomewhere bounds n (run_code (by (below i)) l p a code vs s) o) (code_below i m (Some f) b entry.code ws t le')
         (code_respects (below i) (below i) (below_goes i) (below_goes i) (below_respects code_and_walk fuel below_goes walk_respects i ih) n ps l m p (Some f) a b code entry.code vs ws s t r pq hh same vv st.like st.places st.ready)) in
-        subst (λ qs. Ends n qs (job the_compiler j s) (job the_compiler k t)) (sym (whole_places n ps s.bindings t.bindings st.places st.like.bindings))
+        subst (λ qs. Ends bounds n qs (job the_compiler j s) (job the_compiler k t)) (sym (whole_places n ps s.bindings t.bindings st.places st.like.bindings))
         (joined n (names_on_right n) (right_covers n) first.places (all_both t.bindings) first.whole (all_both_whole t.bindings) (job the_compiler j s) P (job the_compiler k t)
         ((job_goes.goes k t).goes.within st.ready.event) second.events (sym (code_goes m (Some f) b entry.code ws t).goes.bounded ∙ (job_goes.goes k t).goes.bounded) first.ends second.ends)
 
-    code_agrees : (i : ℕ) → Below code_and_walk i → (n : Names) (ps : List Place) (name : Option ℕ) (l m : Levels) (h g : ℕ) (p q : Option Pointer) (a b : Held) (vs ws : List Value) (s t : State) (code : Code)
-        → Starts code_and_walk n ps (Run name l h p a vs) s (Run name m g q b ws) t → Roomier l m → Maybe (SamePointer n) p q → SameHeld n a b → Each (SameValue n) vs ws
-        → rank (Run name l h p a vs) s ≤ i → code_of name p s ≡ Some code → Ends n ps (job the_compiler (Run name l h p a vs) s) (job the_compiler (Run name m g q b ws) t)
+    code_agrees : (i : ℕ) → Below bounds code_and_walk i → (n : Names) (ps : List Place) (name : Option ℕ) (l m : Levels) (h g : ℕ) (p q : Option Pointer) (a b : Held) (vs ws : List Value) (s t : State) (code : Code)
+        → Starts bounds code_and_walk n ps (Run name l h p a vs) s (Run name m g q b ws) t → Roomier bounds l m → Maybe (SamePointer n) p q → SameHeld n a b → Each (SameValue n) vs ws
+        → rank (Run name l h p a vs) s ≤ i → code_of name p s ≡ Some code → Ends bounds n ps (job the_compiler (Run name l h p a vs) s) (job the_compiler (Run name m g q b ws) t)
     code_agrees i ih n ps name l m h g p q a b vs ws s t code st r pq hh vv le e =
         let c : Chosen name p s code = chosen name p s code e in
         let x : Matched n code q t.compilation.coded = matched n c.called p q code s.compilation.coded t.compilation.coded st.like.functions.once pq st.like.compilation.coded c.among in
-        subst (λ q. Starts code_and_walk n ps (Run name l h p a vs) s (Run name m g q b ws) t → Maybe (SamePointer n) p q → Ends n ps (job the_compiler (Run name l h p a vs) s) (job the_compiler (Run name m g q b ws) t))
+        subst (λ q. Starts bounds code_and_walk n ps (Run name l h p a vs) s (Run name m g q b ws) t → Maybe (SamePointer n) p q → Ends bounds n ps (job the_compiler (Run name l h p a vs) s) (job the_compiler (Run name m g q b ws) t))
         (sym x.function)
         (code_by i ih n ps name l m h g p a b vs ws s t code x.entry x.is_in x.same (expansion_none s.counts.expansion t.counts.expansion c.expansion st.like.counts.expansion) r hh vv le e)
         st pq
 
-    below_agrees : (i : ℕ) → Below code_and_walk i
+    below_agrees : (i : ℕ) → Below bounds code_and_walk i
     below_agrees zero n ps j s k t st lt = absurd (omega (arith, lt))
     below_agrees (suc i) n ps j s k t st lt = at (below_agrees i) j k (code_in j s) refl st st.same (omega (arith, lt))
       where
-        at : Below code_and_walk i → (j k : Job) (o : Option Code) → code_in j s ≡ o → Starts code_and_walk n ps j s k t → SameJob n j k → rank j s ≤ i → EndsOf j n ps (job the_compiler j s) (job the_compiler k t)
+        at : Below bounds code_and_walk i → (j k : Job) (o : Option Code) → code_in j s ≡ o → Starts bounds code_and_walk n ps j s k t → SameJob bounds n j k → rank j s ≤ i → EndsOf bounds j n ps (job the_compiler j s) (job the_compiler k t)
         at ih j k None e st same le = walk_agrees code_and_walk fuel below_goes walk_respects i ih n ps j s k t st le e
         at ih _ _ (Some code) e st (same_run name l m h g p q a b vs ws r x pq hh vv) le = code_agrees i ih n ps name l m h g p q a b vs ws s t code st r pq hh vv le e
         at ih _ _ (Some code) e st (same_onward f g m l c d x y z) le = absurd (cc)
@@ -272,5 +273,5 @@ module _
         at ih _ _ (Some code) e st (same_in h g position a b x y) le = absurd (cc)
 
     -- a run in which code runs agrees with the walk
-    pub composed : Respects (job the_compiler) (job the_compiler)
+    pub composed : Respects bounds (job the_compiler) (job the_compiler)
     composed n ps j s k t st = below_agrees (suc (rank j s)) n ps j s k t st (omega arith)

@@ -13,7 +13,7 @@ use Rattle.rl_meaning.specs.Holding.{function_id, in_front, tree_identifiers, wh
 use Rattle.rl_meaning.specs.Forms.{Head, Form, Call, Applied, Bad, head_in, head_of, count_of, is_identifier_tree, is_clause, are_clauses, begins_with_identifier, begins_with_identifiers, is_quoted_leaf, fits, lambda_parameters, after_label, unnumbered_tree}
 use Rattle.rl_meaning.specs.TwoRunsLinks.{Linked}
 use Rattle.rl_meaning.specs.TwoRunsValues.{Names, Maybe, nothing, just, SameValue, same_int, same_id, same_str, same_ref, same_fun, SameTree, same_atom, same_quoted, same_node, same_literal, held_of, same_held, SameFunction, same_special, same_native, same_held_function, SamePointer, same_pointer, SameDefinition, same_definition, SameSymbol, same_symbol}
-use Rattle.rl_meaning.specs.TwoRunsStates.{Place, Like}
+use Rattle.rl_meaning.specs.TwoRunsStates.{Bounds, Place, Like}
 use Rattle.rl_agrees.proofs.TwoRunsObjects.{nil_same, symbol_same}
 
 -- ---- what is the same of trees
@@ -253,11 +253,12 @@ or_same : {A : Type 0} (R : A → A → Type 0) (o p : Option A) (d e : A) → R
 or_same R _ _ d e r nothing = r
 or_same R _ _ d e r (just a b h) = h
 
-function_numbered : (n : Names) (ps : List Place) (s t : State) (f g : ℕ) → Like n ps s t → Linked n.functions f g → SameFunction n (slice_index_or s.functions f no_function) (slice_index_or t.functions g no_function)
-function_numbered n ps s t f g l h = rw (← unwrap_or-slice_get s.functions f no_function, ← unwrap_or-slice_get t.functions g no_function) (or_same (SameFunction n) _ _ _ _ (same_special Quote) (l.functions.is f g h))
+module _ {bounds : Bounds} where
+  function_numbered : (n : Names) (ps : List Place) (s t : State) (f g : ℕ) → Like bounds n ps s t → Linked n.functions f g → SameFunction n (slice_index_or s.functions f no_function) (slice_index_or t.functions g no_function)
+  function_numbered n ps s t f g l h = rw (← unwrap_or-slice_get s.functions f no_function, ← unwrap_or-slice_get t.functions g no_function) (or_same (SameFunction n) _ _ _ _ (same_special Quote) (l.functions.is f g h))
 
-pub function_same : (n : Names) (ps : List Place) (s t : State) (p q : Pointer) → Like n ps s t → SamePointer n p q → SameFunction n (function_at s p) (function_at t q)
-function_same n ps s t _ _ l (same_pointer f g place h) = function_in_same n _ _ place (function_numbered n ps s t f g l h)
+  pub function_same : (n : Names) (ps : List Place) (s t : State) (p q : Pointer) → Like bounds n ps s t → SamePointer n p q → SameFunction n (function_at s p) (function_at t q)
+  function_same n ps s t _ _ l (same_pointer f g place h) = function_in_same n _ _ place (function_numbered n ps s t f g l h)
 
 form_part_same : (n : Names) (v w : Value) (o p : Option Tree) → SameValue n v w → Maybe (SameTree n) o p → SameTree n (form_part v o) (form_part w p)
 form_part_same n v w _ _ r nothing = same_quoted v w r
@@ -272,12 +273,13 @@ form_in_same n v w _ _ zero r (same_held_function _ _ h) = same_quoted v w r
 form_in_same n v w _ _ i r (same_special form) = same_quoted v w r
 form_in_same n v w _ _ i r (same_native native) = same_quoted v w r
 
-pub form_same : (n : Names) (ps : List Place) (s t : State) (v w : Value) → Like n ps s t → SameValue n v w → SameTree n (form_at s v) (form_at t w)
-form_same n ps s t _ _ l (same_fun f g place h) = form_in_same n _ _ _ _ place (same_fun f g place h) (function_numbered n ps s t f g l h)
-form_same n ps s t _ _ l (same_int z) = same_quoted _ _ (same_int z)
-form_same n ps s t _ _ l (same_id i) = same_quoted _ _ (same_id i)
-form_same n ps s t _ _ l (same_str bytes) = same_quoted _ _ (same_str bytes)
-form_same n ps s t _ _ l (same_ref r q h) = same_quoted _ _ (same_ref r q h)
+module _ {bounds : Bounds} where
+  pub form_same : (n : Names) (ps : List Place) (s t : State) (v w : Value) → Like bounds n ps s t → SameValue n v w → SameTree n (form_at s v) (form_at t w)
+  form_same n ps s t _ _ l (same_fun f g place h) = form_in_same n _ _ _ _ place (same_fun f g place h) (function_numbered n ps s t f g l h)
+  form_same n ps s t _ _ l (same_int z) = same_quoted _ _ (same_int z)
+  form_same n ps s t _ _ l (same_id i) = same_quoted _ _ (same_id i)
+  form_same n ps s t _ _ l (same_str bytes) = same_quoted _ _ (same_str bytes)
+  form_same n ps s t _ _ l (same_ref r q h) = same_quoted _ _ (same_ref r q h)
 
 -- ---- heads
 
@@ -295,19 +297,20 @@ named_head n f kind _ _ (same_special form) = same_form form
 named_head n f kind _ _ (same_native native) = same_call kind f
 named_head n f kind _ _ (same_held_function a b h) = same_call kind f
 
-head_in_same : (n : Names) (ps : List Place) (s t : State) (f : ℕ) (o p : Option Definition) → Like n ps s t → Maybe (SameDefinition n) o p → SameHead n (head_in f o s) (head_in f p t)
-head_in_same n ps s t f _ _ l nothing = same_call Expr f
-head_in_same n ps s t f _ _ l (just _ _ (same_definition kind p q h)) = named_head n f kind _ _ (function_same n ps s t p q l h)
+module _ {bounds : Bounds} where
+  head_in_same : (n : Names) (ps : List Place) (s t : State) (f : ℕ) (o p : Option Definition) → Like bounds n ps s t → Maybe (SameDefinition n) o p → SameHead n (head_in f o s) (head_in f p t)
+  head_in_same n ps s t f _ _ l nothing = same_call Expr f
+  head_in_same n ps s t f _ _ l (just _ _ (same_definition kind p q h)) = named_head n f kind _ _ (function_same n ps s t p q l h)
 
-pub head_same : (n : Names) (ps : List Place) (s t : State) (x y : Tree) → Like n ps s t → SameTree n x y → SameHead n (head_of x s) (head_of y t)
-head_same n ps s t _ _ l (same_atom _ _ (same_id i)) = head_in_same n ps s t i _ _ l (definition_same n _ _ (symbol_same n ps s t i l))
-head_same n ps s t _ _ l (same_atom v w r) = same_bad _ _ r
-head_same n ps s t _ _ l (same_quoted v w r) = same_bad v w r
-head_same n ps s t _ _ l (same_node _ d _ e (same_atom _ _ (same_id i)) k) = at (i == lambda_id)
-  where
-    at : (b : Bool) → SameHead n (if b then Applied else Bad (Id lambda_id)) (if b then Applied else Bad (Id lambda_id))
-    at true = same_applied
-    at false = same_bad _ _ (same_id lambda_id)
-head_same n ps s t _ _ l (same_node _ d _ e (same_atom _ _ r) k) = same_bad _ _ (same_id lambda_id)
-head_same n ps s t _ _ l (same_node _ d _ e h k) = same_bad _ _ (same_id lambda_id)
-head_same n ps s t _ _ l (same_literal i a b h) = same_bad _ _ (same_id lambda_id)
+  pub head_same : (n : Names) (ps : List Place) (s t : State) (x y : Tree) → Like bounds n ps s t → SameTree n x y → SameHead n (head_of x s) (head_of y t)
+  head_same n ps s t _ _ l (same_atom _ _ (same_id i)) = head_in_same n ps s t i _ _ l (definition_same n _ _ (symbol_same n ps s t i l))
+  head_same n ps s t _ _ l (same_atom v w r) = same_bad _ _ r
+  head_same n ps s t _ _ l (same_quoted v w r) = same_bad v w r
+  head_same n ps s t _ _ l (same_node _ d _ e (same_atom _ _ (same_id i)) k) = at (i == lambda_id)
+    where
+      at : (b : Bool) → SameHead n (if b then Applied else Bad (Id lambda_id)) (if b then Applied else Bad (Id lambda_id))
+      at true = same_applied
+      at false = same_bad _ _ (same_id lambda_id)
+  head_same n ps s t _ _ l (same_node _ d _ e (same_atom _ _ r) k) = same_bad _ _ (same_id lambda_id)
+  head_same n ps s t _ _ l (same_node _ d _ e h k) = same_bad _ _ (same_id lambda_id)
+  head_same n ps s t _ _ l (same_literal i a b h) = same_bad _ _ (same_id lambda_id)

@@ -10,7 +10,7 @@ use Rattle.rl_meaning.specs.Evaluation.{Job, Run, Onward, Call_, From, In, Posit
 use Rattle.rl_meaning.specs.Jobs.{job, the_compiler}
 use Rattle.rl_meaning.specs.Laws.{IsFuelEnough}
 use Rattle.rl_meaning.specs.TwoRunsValues.{Names, Each, SameValue, same_id}
-use Rattle.rl_meaning.specs.TwoRunsStates.{Place, Like}
+use Rattle.rl_meaning.specs.TwoRunsStates.{Bounds, Place, Like, Roomier}
 use Rattle.rl_meaning.specs.TwoRunsEnds.{Ends, done}
 use Rattle.rl_agrees.specs.Laws.{CodeAgrees, WalksAgree}
 use Rattle.rl_agrees.specs.TwoRunsJobs.{Goes}
@@ -161,51 +161,52 @@ sets_nothing : (o : Native) → may_part o ≡ false → sets o ≡ false
 sets_nothing Set e = absurd (cc)
 sets_nothing other e = refl
 
-defining : DefinitionsAgree
-defining = record { getd_ = definitions.getd_related; putd_ = definitions.putd_related; remd_ = definitions.remd_related; fluid_ = definitions.fluid_related; global_ = definitions.global_related; unfluid_ = definitions.unfluid_related; set_ = definitions.set_related }
+module _ {bounds : Bounds} where
+  defining : DefinitionsAgree bounds
+  defining = record { getd_ = definitions.getd_related; putd_ = definitions.putd_related; remd_ = definitions.remd_related; fluid_ = definitions.fluid_related; global_ = definitions.global_related; unfluid_ = definitions.unfluid_related; set_ = definitions.set_related }
 
-parts : (n : Names) (ps : List Place) (o : Native) (l m : Levels) (xs ys : List Value) (s t : State) → may_part o ≡ true → Each (SameValue n) xs ys → Like n ps s t → Ends n ps (native o l xs s) (native o m ys t)
-parts n ps Set l m xs ys s t e h x = set_related defining n ps l m xs ys s t h x
-parts n ps Prin1 l m xs ys s t e h x = printer_related n ps Prin1 l m xs ys s t refl h x
-parts n ps Prin2 l m xs ys s t e h x = printer_related n ps Prin2 l m xs ys s t refl h x
-parts n ps Print l m xs ys s t e h x = printer_related n ps Print l m xs ys s t refl h x
-parts n ps Terpri l m xs ys s t e h x = done n nil nil _ _ (grows_refl n) (same_id nil_id) (mark_like n ps _ s t x)
-parts n ps other l m xs ys s t e h x = absurd (cc)
+  parts : (n : Names) (ps : List Place) (o : Native) (l m : Levels) (xs ys : List Value) (s t : State) → may_part o ≡ true → Roomier bounds l m → Each (SameValue n) xs ys → Like bounds n ps s t → Ends bounds n ps (native o l xs s) (native o m ys t)
+  parts n ps Set l m xs ys s t e r h x = set_related defining n ps l m xs ys s t h x
+  parts n ps Prin1 l m xs ys s t e r h x = printer_related n ps Prin1 l m xs ys s t refl r h x
+  parts n ps Prin2 l m xs ys s t e r h x = printer_related n ps Prin2 l m xs ys s t refl r h x
+  parts n ps Print l m xs ys s t e r h x = printer_related n ps Print l m xs ys s t refl r h x
+  parts n ps Terpri l m xs ys s t e r h x = done n nil nil _ _ (grows_refl n) (same_id nil_id) (mark_like n ps _ s t x)
+  parts n ps other l m xs ys s t e r h x = absurd (cc)
 
-two : TwoRunsFacts
-two = record {
-  hold_form_ = hold_form_related;
-  hold_expansion_ = hold_expansion_related;
-  hold_function_ = hold_function_related;
-  hold_part_ = hold_part_related;
-  hold_lambda_ = hold_lambda_related;
-  elements_ = elements_related;
-  copied_ = copied_related;
-  operated_ = operated_related;
-  native_ = λ n ps o l m xs ys s t e r h x. native_related defining n ps o l m xs ys s t (prints_nothing o e) (sets_nothing o e) r h x;
-  hold_form_quiet = λ l v s. still (hold_form_leads quiet_steps l v s (silent s));
-  hold_expansion_quiet = λ l kept v s. still (hold_expansion_leads quiet_steps l kept v s (silent s));
-  hold_function_quiet = λ kind l u v s. still (hold_function_leads quiet_steps kind l u v s (silent s));
-  hold_part_quiet = λ kind l a c s. still (hold_part_leads quiet_steps kind l a c s (silent s));
-  hold_lambda_quiet = λ kind l o s. still (hold_lambda_leads quiet_steps kind l o s (silent s));
-  elements_quiet = λ v s. still (elements_lead quiet_steps v s (silent s));
-  copied_quiet = λ l a s. still (copied_leads quiet_steps l a s (silent s));
-  operated_quiet = λ o vs s. still (operated_leads quiet_steps o vs s (silent s));
-  native_quiet = λ o l vs s e. still (native_leads quiet_steps o l vs s (needs_nothing o e) (silent s));
-  native_parts = parts;
-  variable_ = variable_related;
-  assigned_ = assigned_related;
-  print_error_ = print_error_related;
-  define_ = define_like;
-  list_elements_ = list_elements_same;
-  read_ = read_bytes_related;
-  read_quiet = λ turns l bytes s. still (read_bytes_leads quiet_steps turns l bytes s (silent s));
-}
+  two : TwoRunsFacts bounds
+  two = record {
+    hold_form_ = hold_form_related;
+    hold_expansion_ = hold_expansion_related;
+    hold_function_ = hold_function_related;
+    hold_part_ = hold_part_related;
+    hold_lambda_ = hold_lambda_related;
+    elements_ = elements_related;
+    copied_ = copied_related;
+    operated_ = operated_related;
+    native_ = λ n ps o l m xs ys s t e r h x. native_related defining n ps o l m xs ys s t (prints_nothing o e) (sets_nothing o e) r h x;
+    hold_form_quiet = λ l v s. still (hold_form_leads quiet_steps l v s (silent s));
+    hold_expansion_quiet = λ l kept v s. still (hold_expansion_leads quiet_steps l kept v s (silent s));
+    hold_function_quiet = λ kind l u v s. still (hold_function_leads quiet_steps kind l u v s (silent s));
+    hold_part_quiet = λ kind l a c s. still (hold_part_leads quiet_steps kind l a c s (silent s));
+    hold_lambda_quiet = λ kind l o s. still (hold_lambda_leads quiet_steps kind l o s (silent s));
+    elements_quiet = λ v s. still (elements_lead quiet_steps v s (silent s));
+    copied_quiet = λ l a s. still (copied_leads quiet_steps l a s (silent s));
+    operated_quiet = λ o vs s. still (operated_leads quiet_steps o vs s (silent s));
+    native_quiet = λ o l vs s e. still (native_leads quiet_steps o l vs s (needs_nothing o e) (silent s));
+    native_parts = parts;
+    variable_ = variable_related;
+    assigned_ = assigned_related;
+    print_error_ = print_error_related;
+    define_ = define_like;
+    list_elements_ = list_elements_same;
+    read_ = read_bytes_related;
+    read_quiet = λ turns l bytes s. still (read_bytes_leads quiet_steps turns l bytes s (silent s));
+  }
 
 -- ---- the laws
 
 pub code_agrees : IsFuelEnough → CodeAgrees
-code_agrees fuel = loop.code_agrees (record { fuel = fuel; composed = jobs_agree one two jobs_go fuel; job_goes = jobs_go; one = one; two = two })
+code_agrees fuel = loop.code_agrees (λ bounds. record { fuel = fuel; composed = jobs_agree one two jobs_go fuel; job_goes = jobs_go; one = one; two = two })
 
 pub walks_agree : IsFuelEnough → WalksAgree
-walks_agree fuel = mixed.walks_agree one two jobs_go fuel
+walks_agree fuel = mixed.walks_agree one (λ bounds. two) jobs_go fuel

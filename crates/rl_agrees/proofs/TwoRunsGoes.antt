@@ -8,6 +8,7 @@ use Rattle.rl_meaning.specs.Opening.{state_of}
 use Rattle.rl_meaning.specs.Variables.{restored}
 use Rattle.rl_meaning.specs.Evaluation.{closed}
 use Rattle.rl_meaning.specs.TwoRunsEnds.{Begins, HasShown, OneBegins, Parted, by_event, right_short, left_short, short_by_event, both_short}
+use Rattle.rl_meaning.specs.TwoRunsStates.{Bounds}
 use Rattle.rl_agrees.specs.Later.{IsMore, IsNoted, StaysOrNoted, NotedBefore, Later}
 use Rattle.rl_agrees.specs.TwoRunsJobs.{EventWithin, Goes}
 use Rattle.rl_agrees.proofs.TwoRunsJoined.{begins_trans}
@@ -126,21 +127,22 @@ shown_more x y s t h g = record { output = begins_more x _ _ h.output g.later.ou
 take_same : (n : ℕ) (xs ys : List ℕ) → n ≤ length xs → IsMore xs ys → take n ys ≡ take n xs
 take_same n xs ys le h = ap (λ w. take n w) h.is ∙ take-append-le n xs h.rest le
 
-pub parted_in : {A B : Type 0} (C D : Outcome A → Outcome B) (o p : Outcome A) → Context C → Context D → EventWithin (state_of p) → Parted o p → Parted (C o) (D p)
-parted_in {A} {B} C D o p c d w (by_event _ _ r e h) =
-    let g : Goes (state_of p) (state_of (D p)) = d.goes p in
-    let k : HasShown (take r.printed (state_of p).outside.output) (take r.noted (state_of p).outside.notes) (state_of (C o)).outside = shown_more _ _ _ _ h (c.goes o) in
-    by_event (C o) (D p) r (g.later.event r e)
-    (subst (λ x. HasShown x (take r.noted (state_of (D p)).outside.notes) (state_of (C o)).outside) (sym (take_same _ _ _ (w.printed r e) g.later.output))
-    (subst (λ x. HasShown (take r.printed (state_of p).outside.output) x (state_of (C o)).outside) (sym (take_same _ _ _ (w.noted r e) g.later.notes)) k))
-parted_in {A} {B} C D o p c d w (right_short _ why t x h) = subst (λ q. Parted (C o) q) (sym (d.stops why t)) (right_short (C o) why t x (shown_more _ _ _ _ h (c.goes o)))
-parted_in {A} {B} C D o p c d w (left_short why s _ x h) = subst (λ q. Parted q (D p)) (sym (c.stops why s)) (left_short why s (D p) x (shown_more _ _ _ _ h (d.goes p)))
-parted_in {A} {B} C D o p c d w (short_by_event why s _ r x e a b) =
-    let g : Goes (state_of p) (state_of (D p)) = d.goes p in
-    subst (λ q. Parted q (D p)) (sym (c.stops why s)) (short_by_event why s (D p) r x (g.later.event r e)
-    (subst (λ y. OneBegins y s.outside.output) (sym (take_same _ _ _ (w.printed r e) g.later.output)) a)
-    (subst (λ y. OneBegins y s.outside.notes) (sym (take_same _ _ _ (w.noted r e) g.later.notes)) b))
-parted_in {A} {B} C D o p c d w (both_short why other s t x y a b) = subst (λ q. Parted q (D (Stopped other t))) (sym (c.stops why s)) (subst (λ q. Parted (Stopped why s) q) (sym (d.stops other t)) (both_short why other s t x y a b))
+module _ {bounds : Bounds} where
+  pub parted_in : {A B : Type 0} (C D : Outcome A → Outcome B) (o p : Outcome A) → Context C → Context D → EventWithin (state_of p) → Parted bounds o p → Parted bounds (C o) (D p)
+  parted_in {A} {B} C D o p c d w (by_event _ _ r e h) =
+      let g : Goes (state_of p) (state_of (D p)) = d.goes p in
+      let k : HasShown (take r.printed (state_of p).outside.output) (take r.noted (state_of p).outside.notes) (state_of (C o)).outside = shown_more _ _ _ _ h (c.goes o) in
+      by_event (C o) (D p) r (g.later.event r e)
+      (subst (λ x. HasShown x (take r.noted (state_of (D p)).outside.notes) (state_of (C o)).outside) (sym (take_same _ _ _ (w.printed r e) g.later.output))
+      (subst (λ x. HasShown (take r.printed (state_of p).outside.output) x (state_of (C o)).outside) (sym (take_same _ _ _ (w.noted r e) g.later.notes)) k))
+  parted_in {A} {B} C D o p c d w (right_short _ why t x h) = subst (λ q. Parted bounds (C o) q) (sym (d.stops why t)) (right_short (C o) why t x (shown_more _ _ _ _ h (c.goes o)))
+  parted_in {A} {B} C D o p c d w (left_short why s _ x h) = subst (λ q. Parted bounds q (D p)) (sym (c.stops why s)) (left_short why s (D p) x (shown_more _ _ _ _ h (d.goes p)))
+  parted_in {A} {B} C D o p c d w (short_by_event why s _ r x e a b) =
+      let g : Goes (state_of p) (state_of (D p)) = d.goes p in
+      subst (λ q. Parted bounds q (D p)) (sym (c.stops why s)) (short_by_event why s (D p) r x (g.later.event r e)
+      (subst (λ y. OneBegins y s.outside.output) (sym (take_same _ _ _ (w.printed r e) g.later.output)) a)
+      (subst (λ y. OneBegins y s.outside.notes) (sym (take_same _ _ _ (w.noted r e) g.later.notes)) b))
+  parted_in {A} {B} C D o p c d w (both_short why other s t x y a b) = subst (λ q. Parted bounds q (D (Stopped other t))) (sym (c.stops why s)) (subst (λ q. Parted bounds (Stopped why s) q) (sym (d.stops other t)) (both_short why other s t x y a b))
 
 pub then_context : {A B : Type 0} (f : A → State → Outcome B) → ((a : A) (t : State) → GoesOn t (f a t)) → Context (λ (o : Outcome A). then_do o f)
 then_context f h = record { stops = λ why s. refl; goes = λ o. (then_goes (state_of o) o f (record { goes = goes_refl (state_of o) }) h).goes }

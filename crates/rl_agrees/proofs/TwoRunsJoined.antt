@@ -6,10 +6,10 @@ use Rattle.rl_meaning.specs.CMacros.{Operand, CMacro}
 use Rattle.rl_meaning.specs.State.{State, Tree, Held, Pointer, Function, Definition, Symbol, Entry, Dependency, Coded, Compilation, Counts, Expansion, Outside, Recorded}
 use Rattle.rl_meaning.specs.TwoRunsLinks.{Links, unlinked, link, Linked, newest, older, OneToOne, Within}
 use Rattle.rl_meaning.specs.TwoRunsValues.{Names, Grows, Maybe, nothing, just, Each, end, more, SameValue, same_int, same_id, same_str, same_ref, same_fun, SameObject, same_pair, same_vector, SameTree, same_atom, same_quoted, same_node, same_literal, SameHeld, same_held, SameFunction, same_special, same_native, same_held_function, SamePointer, same_pointer, SameDefinition, same_definition, SameSymbol, same_symbol, SameOperand, same_slot, same_constant, same_variable, same_register, SameMacro, same_load, same_copy, same_jump_eq, same_jump_ne, same_macro, SameDependency, same_called, same_fexpr, same_whole, SameCoded, same_coded}
-use Rattle.rl_meaning.specs.TwoRunsStates.{SameStore, SameFunctions, Place, Aligned, bottom, both, both_mark, hidden, hidden_mark, SameExpansion, same_none, same_open, IsRoomier, SameCounts, SameCompilation, Like}
+use Rattle.rl_meaning.specs.TwoRunsStates.{Bounds, SameStore, SameFunctions, Place, Aligned, bottom, both, both_mark, hidden, hidden_mark, SameExpansion, same_none, same_open, IsRoomier, SameCounts, SameCompilation, Like}
 use Rattle.rl_meaning.specs.Outcome.{Outcome, Done, Failed, Went, Returned, Stopped, Stop}
 use Rattle.rl_meaning.specs.Opening.{state_of}
-use Rattle.rl_meaning.specs.TwoRunsEnds.{Begins, HasShown, IsShort, OneBegins, Parted, by_event, right_short, left_short, short_by_event, both_short, SameSeen, Related, done, failed, went, returned, stopped, parted, Ends}
+use Rattle.rl_meaning.specs.TwoRunsEnds.{Begins, HasShown, IsShort, IsLacking, OneBegins, Parted, by_event, right_short, left_short, short_by_event, both_short, SameSeen, Related, done, failed, went, returned, stopped, parted, Ends}
 use Rattle.rl_meaning.specs.Right.{Leaves, at_event, at_bound, IsForeseen, as_event, past_bound}
 use Rattle.rl_agrees.specs.TwoRunsJobs.{IsWhole, EventWithin}
 use Rattle.rl_agrees.proofs.TwoRunsLinked.{linked_cases}
@@ -233,8 +233,9 @@ module _ (m k : Names) (once : Once k) where
   roomier_joined (Some x) y None e h g = tt
   roomier_joined None y z e h g = tt
 
-  counts_joined : (a b c : Counts) → is_some b.cells ≡ is_some c.cells → SameCounts a b → SameCounts b c → SameCounts a c
-  counts_joined a b c e h g = record { given = h.given ∙ g.given; turns = h.turns ∙ g.turns; cells = roomier_joined a.cells b.cells c.cells e h.cells g.cells; expansion = expansion_joined _ _ _ h.expansion g.expansion }
+  module _ {bounds : Bounds} where
+    counts_joined : (a b c : Counts) → is_some b.cells ≡ is_some c.cells → SameCounts bounds a b → SameCounts bounds b c → SameCounts bounds a c
+    counts_joined a b c e h g = record { given = h.given ∙ g.given; turns = h.turns ∙ g.turns; cells = record { is = roomier_joined a.cells b.cells c.cells e h.cells.is g.cells.is; bound = g.cells.bound }; expansion = expansion_joined _ _ _ h.expansion g.expansion }
 
   compilation_joined : (a b c : Compilation) → SameCompilation m a b → SameCompilation k b c → SameCompilation J a c
   compilation_joined a b c h g = record {
@@ -246,17 +247,18 @@ module _ (m k : Names) (once : Once k) where
     compiles_all = h.compiles_all ∙ g.compiles_all;
   }
 
-like_joined : (m k : Names) (ps qs : List Place) (s t u : State) → is_some t.counts.cells ≡ is_some u.counts.cells → IsWhole ps → IsWhole qs → Like m ps s t → Like k qs t u → Like (names_through m k) qs s u
-like_joined m k ps qs s t u e w v h g = let once : Once k = record { objects = g.store.once; functions = g.functions.once } in record {
-  store = store_joined m k once s.store t.store u.store h.store g.store;
-  functions = functions_joined m k once s.functions t.functions u.functions h.functions g.functions;
-  symbols = each_joined _ _ _ (symbol_joined m k once) s.symbols t.symbols u.symbols h.symbols g.symbols;
-  bindings = aligned_joined m k once ps qs s.bindings t.bindings u.bindings w v h.bindings g.bindings;
-  counts = counts_joined m k once s.counts t.counts u.counts e h.counts g.counts;
-  outside = h.outside ∙ g.outside;
-  gensyms = h.gensyms ∙ g.gensyms;
-  compilation = compilation_joined m k once s.compilation t.compilation u.compilation h.compilation g.compilation;
-}
+module _ {bounds : Bounds} where
+  like_joined : (m k : Names) (ps qs : List Place) (s t u : State) → is_some t.counts.cells ≡ is_some u.counts.cells → IsWhole ps → IsWhole qs → Like bounds m ps s t → Like bounds k qs t u → Like bounds (names_through m k) qs s u
+  like_joined m k ps qs s t u e w v h g = let once : Once k = record { objects = g.store.once; functions = g.functions.once } in record {
+    store = store_joined m k once s.store t.store u.store h.store g.store;
+    functions = functions_joined m k once s.functions t.functions u.functions h.functions g.functions;
+    symbols = each_joined _ _ _ (symbol_joined m k once) s.symbols t.symbols u.symbols h.symbols g.symbols;
+    bindings = aligned_joined m k once ps qs s.bindings t.bindings u.bindings w v h.bindings g.bindings;
+    counts = counts_joined m k once s.counts t.counts u.counts e h.counts g.counts;
+    outside = h.outside ∙ g.outside;
+    gensyms = h.gensyms ∙ g.gensyms;
+    compilation = compilation_joined m k once s.compilation t.compilation u.compilation h.compilation g.compilation;
+  }
 
 -- ---- fronts
 
@@ -312,32 +314,33 @@ shown_at x y p o e h = subst (λ w. HasShown x y w) e h
 -- ---- ends
 
 -- the second and the third from one state
-abbrev pub Follows : Names → List Place → Outcome Value → Outcome Value → Type 0
-Follows known qs = Related Leaves SameValue known qs
+abbrev pub Follows : Bounds → Names → List Place → Outcome Value → Outcome Value → Type 0
+Follows bounds known qs = Related bounds Leaves SameValue known qs
 
 -- what was printed and noted by an event
 abbrev Front : Recorded → State → Outside → Type 0
 Front r t o = HasShown (take r.printed t.outside.output) (take r.noted t.outside.notes) o
 
-seen_by_right : (o p q : Outcome Value) → (state_of p).outside ≡ (state_of o).outside → Leaves p q → Parted o q
-seen_by_right o p q e (at_event _ _ r x h) = by_event o q r x (shown_at _ _ _ _ e h)
-seen_by_right o p q e (at_bound _ why t x h) = right_short o why t x (shown_at _ _ _ _ e h)
+module _ {bounds : Bounds} where
+  seen_by_right : (o p q : Outcome Value) → (state_of p).outside ≡ (state_of o).outside → Leaves p q → Parted bounds o q
+  seen_by_right o p q e (at_event _ _ r x h) = by_event o q r x (shown_at _ _ _ _ e h)
+  seen_by_right o p q e (at_bound _ why t x h) = right_short o why t x (shown_at _ _ _ _ e h)
 
--- what the third had printed and noted by its event, the second has
-second_shows : (known : Names) (qs : List Place) (p q : Outcome Value) (w : Recorded) → (state_of q).watched.event ≡ Some w → Follows known qs p q → Front w (state_of q) (state_of p).outside
-second_shows known qs p q w e g = at p q w e g
-  where
-    same : (s t : State) (w : Recorded) → s.outside ≡ t.outside → Front w t s.outside
-    same s t w e = shown_at _ _ _ _ (sym e) (record { output = take_begins w.printed t.outside.output; notes = take_begins w.noted t.outside.notes })
+  -- what the third had printed and noted by its event, the second has
+  second_shows : (known : Names) (qs : List Place) (p q : Outcome Value) (w : Recorded) → (state_of q).watched.event ≡ Some w → Follows bounds known qs p q → Front w (state_of q) (state_of p).outside
+  second_shows known qs p q w e g = at p q w e g
+    where
+      same : (s t : State) (w : Recorded) → s.outside ≡ t.outside → Front w t s.outside
+      same s t w e = shown_at _ _ _ _ (sym e) (record { output = take_begins w.printed t.outside.output; notes = take_begins w.noted t.outside.notes })
 
-    at : (p q : Outcome Value) (w : Recorded) → (state_of q).watched.event ≡ Some w → Follows known qs p q → Front w (state_of q) (state_of p).outside
-    at p q w e (done k a b s t x r l) = same s t w l.outside
-    at p q w e (failed k z a b s t x r l) = same s t w l.outside
-    at p q w e (went k x s t y l) = same s t w l.outside
-    at p q w e (returned k a b s t x r l) = same s t w l.outside
-    at p q w e (stopped why s t x) = same s t w x.outside
-    at p q w e (parted _ _ (at_event _ _ r x h)) = let y : r ≡ w = cc in subst (λ z. Front z (state_of q) (state_of p).outside) y h
-    at p q w e (parted _ _ (at_bound _ why t x h)) = shown_trans _ _ t.outside _ (record { output = take_begins w.printed t.outside.output; notes = take_begins w.noted t.outside.notes }) h
+      at : (p q : Outcome Value) (w : Recorded) → (state_of q).watched.event ≡ Some w → Follows bounds known qs p q → Front w (state_of q) (state_of p).outside
+      at p q w e (done k a b s t x r l) = same s t w l.outside
+      at p q w e (failed k z a b s t x r l) = same s t w l.outside
+      at p q w e (went k x s t y l) = same s t w l.outside
+      at p q w e (returned k a b s t x r l) = same s t w l.outside
+      at p q w e (stopped why s t x) = same s t w x.outside
+      at p q w e (parted _ _ (at_event _ _ r x h)) = let y : r ≡ w = cc in subst (λ z. Front z (state_of q) (state_of p).outside) y h
+      at p q w e (parted _ _ (at_bound _ why t x h)) = shown_trans _ _ t.outside _ (record { output = take_begins w.printed t.outside.output; notes = take_begins w.noted t.outside.notes }) h
 
 -- that is a front of what the second had by its own event
 front_of_front : (c w : Recorded) (p q : Outcome Value) → w.printed ≤ c.printed → w.noted ≤ c.noted → Front w (state_of q) (state_of p).outside
@@ -357,65 +360,66 @@ module _ (known : Names) (qs : List Place) where
     past_all : Begins t.outside.output (take c.printed (state_of p).outside.output) → Begins t.outside.notes (take c.noted (state_of p).outside.notes) → Past c p t
     past_event : (r : Recorded) → t.watched.event ≡ Some r → Begins (take r.printed t.outside.output) (take c.printed (state_of p).outside.output) → Begins (take r.noted t.outside.notes) (take c.noted (state_of p).outside.notes) → Past c p t
 
-  past : (c : Recorded) (p : Outcome Value) (why : Stop) (t : State) → length t.outside.output ≤ c.printed → length t.outside.notes ≤ c.noted → EventWithin t → Follows known qs p (Stopped why t) → Past c p t
-  past c p why t a b w (stopped _ s _ x) =
-      let h : HasShown t.outside.output t.outside.notes s.outside = shown_at _ _ _ _ (sym x.outside) (shown_refl t.outside) in
-      past_all (begins_cut c.printed _ _ h.output a) (begins_cut c.noted _ _ h.notes b)
-  past c p why t a b w (parted _ _ (at_event _ _ r e h)) =
-      let f : Begins (take r.printed t.outside.output) (take c.printed (state_of p).outside.output) × Begins (take r.noted t.outside.notes) (take c.noted (state_of p).outside.notes) =
-      front_of_front c r p (Stopped why t) (omega (arith, w.printed r e, a)) (omega (arith, w.noted r e, b)) h in
-      past_event r e f.0 f.1
-  past c p why t a b w (parted _ _ (at_bound _ _ _ x h)) = past_all (begins_cut c.printed _ _ h.output a) (begins_cut c.noted _ _ h.notes b)
+  module _ {bounds : Bounds} where
+    past : (c : Recorded) (p : Outcome Value) (why : Stop) (t : State) → length t.outside.output ≤ c.printed → length t.outside.notes ≤ c.noted → EventWithin t → Follows bounds known qs p (Stopped why t) → Past c p t
+    past c p why t a b w (stopped _ s _ x) =
+        let h : HasShown t.outside.output t.outside.notes s.outside = shown_at _ _ _ _ (sym x.outside) (shown_refl t.outside) in
+        past_all (begins_cut c.printed _ _ h.output a) (begins_cut c.noted _ _ h.notes b)
+    past c p why t a b w (parted _ _ (at_event _ _ r e h)) =
+        let f : Begins (take r.printed t.outside.output) (take c.printed (state_of p).outside.output) × Begins (take r.noted t.outside.notes) (take c.noted (state_of p).outside.notes) =
+        front_of_front c r p (Stopped why t) (omega (arith, w.printed r e, a)) (omega (arith, w.noted r e, b)) h in
+        past_event r e f.0 f.1
+    past c p why t a b w (parted _ _ (at_bound _ _ _ x h)) = past_all (begins_cut c.printed _ _ h.output a) (begins_cut c.noted _ _ h.notes b)
 
-  join_past : (o p : Outcome Value) (c : Recorded) (why : Stop) (t : State) → IsShort why → Front c (state_of p) (state_of o).outside → Past c p t → Parted o (Stopped why t)
-  join_past o p c why t x h (past_all a b) = right_short o why t x (record { output = begins_trans _ _ _ a h.output; notes = begins_trans _ _ _ b h.notes })
-  join_past o p c why t x h (past_event r e a b) = by_event o (Stopped why t) r e (record { output = begins_trans _ _ _ a h.output; notes = begins_trans _ _ _ b h.notes })
+    join_past : (o p : Outcome Value) (c : Recorded) (why : Stop) (t : State) → IsShort why → Front c (state_of p) (state_of o).outside → Past c p t → Parted bounds o (Stopped why t)
+    join_past o p c why t x h (past_all a b) = right_short o why t x (record { output = begins_trans _ _ _ a h.output; notes = begins_trans _ _ _ b h.notes })
+    join_past o p c why t x h (past_event r e a b) = by_event o (Stopped why t) r e (record { output = begins_trans _ _ _ a h.output; notes = begins_trans _ _ _ b h.notes })
 
-  join_event : (o p q : Outcome Value) (c : Recorded) → EventWithin (state_of q) → Front c (state_of p) (state_of o).outside → IsForeseen c q → Follows known qs p q → Parted o q
-  join_event o p q c v h (as_event _ w e a b) g =
-      let f : Begins (take w.printed (state_of q).outside.output) (take c.printed (state_of p).outside.output) × Begins (take w.noted (state_of q).outside.notes) (take c.noted (state_of p).outside.notes) =
-      front_of_front c w p q a b (second_shows known qs p q w e g) in
-      by_event o q w e (record { output = begins_trans _ _ _ f.0 h.output; notes = begins_trans _ _ _ f.1 h.notes })
-  join_event o p q c v h (past_bound why t x a b) g = join_past o p c why t x h (past c p why t a b v g)
+    join_event : (o p q : Outcome Value) (c : Recorded) → EventWithin (state_of q) → Front c (state_of p) (state_of o).outside → IsForeseen c q → Follows bounds known qs p q → Parted bounds o q
+    join_event o p q c v h (as_event _ w e a b) g =
+        let f : Begins (take w.printed (state_of q).outside.output) (take c.printed (state_of p).outside.output) × Begins (take w.noted (state_of q).outside.notes) (take c.noted (state_of p).outside.notes) =
+        front_of_front c w p q a b (second_shows known qs p q w e g) in
+        by_event o q w e (record { output = begins_trans _ _ _ f.0 h.output; notes = begins_trans _ _ _ f.1 h.notes })
+    join_event o p q c v h (past_bound why t x a b) g = join_past o p c why t x h (past c p why t a b v g)
 
-  join_right_short : (o q : Outcome Value) (why : Stop) (t : State) → IsShort why → HasShown t.outside.output t.outside.notes (state_of o).outside → Follows known qs (Stopped why t) q → Parted o q
-  join_right_short o q why t x h (stopped _ _ u f) = right_short o why u x (subst (λ (w : Outside). HasShown w.output w.notes (state_of o).outside) f.outside h)
-  join_right_short o q why t x h (parted _ _ (at_event _ _ r y g)) = by_event o q r y (shown_trans _ _ t.outside _ g h)
-  join_right_short o q why t x h (parted _ _ (at_bound _ other u y g)) = right_short o other u y (shown_trans _ _ t.outside _ g h)
+    join_right_short : (o q : Outcome Value) (why : Stop) (t : State) → IsShort why → HasShown t.outside.output t.outside.notes (state_of o).outside → Follows bounds known qs (Stopped why t) q → Parted bounds o q
+    join_right_short o q why t x h (stopped _ _ u f) = right_short o why u x (subst (λ (w : Outside). HasShown w.output w.notes (state_of o).outside) f.outside h)
+    join_right_short o q why t x h (parted _ _ (at_event _ _ r y g)) = by_event o q r y (shown_trans _ _ t.outside _ g h)
+    join_right_short o q why t x h (parted _ _ (at_bound _ other u y g)) = right_short o other u y (shown_trans _ _ t.outside _ g h)
 
-  join_left_short : (why : Stop) (s : State) (p q : Outcome Value) → IsShort why → HasShown s.outside.output s.outside.notes (state_of p).outside → Follows known qs p q → Parted (Stopped why s) q
-  join_left_short why s p q x h (done k a b t u y r l) = left_short why s q x (shown_at _ _ _ _ l.outside h)
-  join_left_short why s p q x h (failed k z a b t u y r l) = left_short why s q x (shown_at _ _ _ _ l.outside h)
-  join_left_short why s p q x h (went k y t u z l) = left_short why s q x (shown_at _ _ _ _ l.outside h)
-  join_left_short why s p q x h (returned k a b t u y r l) = left_short why s q x (shown_at _ _ _ _ l.outside h)
-  join_left_short why s p q x h (stopped other t u f) = left_short why s q x (shown_at _ _ _ _ f.outside h)
-  join_left_short why s p q x h (parted _ _ (at_event _ _ r y g)) = short_by_event why s q r x y (both_begin _ _ _ g.output h.output) (both_begin _ _ _ g.notes h.notes)
-  join_left_short why s p q x h (parted _ _ (at_bound _ other u y g)) = both_short why other s u x y (both_begin _ _ _ g.output h.output) (both_begin _ _ _ g.notes h.notes)
+    join_left_short : (why : Stop) (s : State) (p q : Outcome Value) → IsLacking bounds why → HasShown s.outside.output s.outside.notes (state_of p).outside → Follows bounds known qs p q → Parted bounds (Stopped why s) q
+    join_left_short why s p q x h (done k a b t u y r l) = left_short why s q x (shown_at _ _ _ _ l.outside h)
+    join_left_short why s p q x h (failed k z a b t u y r l) = left_short why s q x (shown_at _ _ _ _ l.outside h)
+    join_left_short why s p q x h (went k y t u z l) = left_short why s q x (shown_at _ _ _ _ l.outside h)
+    join_left_short why s p q x h (returned k a b t u y r l) = left_short why s q x (shown_at _ _ _ _ l.outside h)
+    join_left_short why s p q x h (stopped other t u f) = left_short why s q x (shown_at _ _ _ _ f.outside h)
+    join_left_short why s p q x h (parted _ _ (at_event _ _ r y g)) = short_by_event why s q r x y (both_begin _ _ _ g.output h.output) (both_begin _ _ _ g.notes h.notes)
+    join_left_short why s p q x h (parted _ _ (at_bound _ other u y g)) = both_short why other s u x y (both_begin _ _ _ g.output h.output) (both_begin _ _ _ g.notes h.notes)
 
-  short_past : (why : Stop) (s : State) (p : Outcome Value) (c : Recorded) (other : Stop) (t : State) → IsShort why → IsShort other
-      → OneBegins (take c.printed (state_of p).outside.output) s.outside.output → OneBegins (take c.noted (state_of p).outside.notes) s.outside.notes → Past c p t → Parted {A = Value} (Stopped why s) (Stopped other t)
-  short_past why s p c other t x y a b (past_all f g) = both_short why other s t x y (either_front _ _ _ f a) (either_front _ _ _ g b)
-  short_past why s p c other t x y a b (past_event r e f g) = short_by_event why s (Stopped other t) r x e (either_front _ _ _ f a) (either_front _ _ _ g b)
+    short_past : (why : Stop) (s : State) (p : Outcome Value) (c : Recorded) (other : Stop) (t : State) → IsLacking bounds why → IsShort other
+        → OneBegins (take c.printed (state_of p).outside.output) s.outside.output → OneBegins (take c.noted (state_of p).outside.notes) s.outside.notes → Past c p t → Parted bounds {A = Value} (Stopped why s) (Stopped other t)
+    short_past why s p c other t x y a b (past_all f g) = both_short why other s t x y (either_front _ _ _ f a) (either_front _ _ _ g b)
+    short_past why s p c other t x y a b (past_event r e f g) = short_by_event why s (Stopped other t) r x e (either_front _ _ _ f a) (either_front _ _ _ g b)
 
-  join_short_event : (why : Stop) (s : State) (p q : Outcome Value) (c : Recorded) → IsShort why → EventWithin (state_of q)
-      → OneBegins (take c.printed (state_of p).outside.output) s.outside.output → OneBegins (take c.noted (state_of p).outside.notes) s.outside.notes → IsForeseen c q → Follows known qs p q → Parted (Stopped why s) q
-  join_short_event why s p q c x v a b (as_event _ w e i j) g =
-      let f : Begins (take w.printed (state_of q).outside.output) (take c.printed (state_of p).outside.output) × Begins (take w.noted (state_of q).outside.notes) (take c.noted (state_of p).outside.notes) =
-      front_of_front c w p q i j (second_shows known qs p q w e g) in
-      short_by_event why s q w x e (either_front _ _ _ f.0 a) (either_front _ _ _ f.1 b)
-  join_short_event why s p q c x v a b (past_bound other t y i j) g = short_past why s p c other t x y a b (past c p other t i j v g)
+    join_short_event : (why : Stop) (s : State) (p q : Outcome Value) (c : Recorded) → IsLacking bounds why → EventWithin (state_of q)
+        → OneBegins (take c.printed (state_of p).outside.output) s.outside.output → OneBegins (take c.noted (state_of p).outside.notes) s.outside.notes → IsForeseen c q → Follows bounds known qs p q → Parted bounds (Stopped why s) q
+    join_short_event why s p q c x v a b (as_event _ w e i j) g =
+        let f : Begins (take w.printed (state_of q).outside.output) (take c.printed (state_of p).outside.output) × Begins (take w.noted (state_of q).outside.notes) (take c.noted (state_of p).outside.notes) =
+        front_of_front c w p q i j (second_shows known qs p q w e g) in
+        short_by_event why s q w x e (either_front _ _ _ f.0 a) (either_front _ _ _ f.1 b)
+    join_short_event why s p q c x v a b (past_bound other t y i j) g = short_past why s p c other t x y a b (past c p other t i j v g)
 
-  join_both_short : (why other : Stop) (s t : State) (q : Outcome Value) → IsShort why → IsShort other → OneBegins t.outside.output s.outside.output → OneBegins t.outside.notes s.outside.notes → Follows known qs (Stopped other t) q → Parted (Stopped why s) q
-  join_both_short why other s t q x y a b (stopped _ _ u f) = both_short why other s u x y (subst (λ (w : Outside). OneBegins w.output s.outside.output) f.outside a) (subst (λ (w : Outside). OneBegins w.notes s.outside.notes) f.outside b)
-  join_both_short why other s t q x y a b (parted _ _ (at_event _ _ r z g)) = short_by_event why s q r x z (either_front _ _ _ g.output a) (either_front _ _ _ g.notes b)
-  join_both_short why other s t q x y a b (parted _ _ (at_bound _ last u z g)) = both_short why last s u x z (either_front _ _ _ g.output a) (either_front _ _ _ g.notes b)
+    join_both_short : (why other : Stop) (s t : State) (q : Outcome Value) → IsLacking bounds why → IsShort other → OneBegins t.outside.output s.outside.output → OneBegins t.outside.notes s.outside.notes → Follows bounds known qs (Stopped other t) q → Parted bounds (Stopped why s) q
+    join_both_short why other s t q x y a b (stopped _ _ u f) = both_short why other s u x y (subst (λ (w : Outside). OneBegins w.output s.outside.output) f.outside a) (subst (λ (w : Outside). OneBegins w.notes s.outside.notes) f.outside b)
+    join_both_short why other s t q x y a b (parted _ _ (at_event _ _ r z g)) = short_by_event why s q r x z (either_front _ _ _ g.output a) (either_front _ _ _ g.notes b)
+    join_both_short why other s t q x y a b (parted _ _ (at_bound _ last u z g)) = both_short why last s u x z (either_front _ _ _ g.output a) (either_front _ _ _ g.notes b)
 
-  join_parted : (o p q : Outcome Value) → EventWithin (state_of q) → ((c : Recorded) → (state_of p).watched.event ≡ Some c → IsForeseen c q) → Parted o p → Follows known qs p q → Parted o q
-  join_parted o p q v foreseen (by_event _ _ c e h) g = join_event o p q c v h (foreseen c e) g
-  join_parted o p q v foreseen (right_short _ why t x h) g = join_right_short o q why t x h g
-  join_parted o p q v foreseen (left_short why s _ x h) g = join_left_short why s p q x h g
-  join_parted o p q v foreseen (short_by_event why s _ c x e a b) g = join_short_event why s p q c x v a b (foreseen c e) g
-  join_parted o p q v foreseen (both_short why other s t x y a b) g = join_both_short why other s t q x y a b g
+    join_parted : (o p q : Outcome Value) → EventWithin (state_of q) → ((c : Recorded) → (state_of p).watched.event ≡ Some c → IsForeseen c q) → Parted bounds o p → Follows bounds known qs p q → Parted bounds o q
+    join_parted o p q v foreseen (by_event _ _ c e h) g = join_event o p q c v h (foreseen c e) g
+    join_parted o p q v foreseen (right_short _ why t x h) g = join_right_short o q why t x h g
+    join_parted o p q v foreseen (left_short why s _ x h) g = join_left_short why s p q x h g
+    join_parted o p q v foreseen (short_by_event why s _ c x e a b) g = join_short_event why s p q c x v a b (foreseen c e) g
+    join_parted o p q v foreseen (both_short why other s t x y a b) g = join_both_short why other s t q x y a b g
 
 -- ---- ends
 
@@ -431,33 +435,33 @@ module _ (n known : Names) (covers : Covers n known) where
     functions = λ r q l. links_through m.functions k.functions r q q once.functions (g.functions r q l) (h.functions q q (covers.functions r q l));
   }
 
-  module _ (ps qs : List Place) (w : IsWhole ps) (v : IsWhole qs) where
-    join_done : (m : Names) (a b : Value) (s t : State) (q : Outcome Value) → is_some t.counts.cells ≡ is_some (state_of q).counts.cells → Grows n m → SameValue m a b → Like m ps s t → Follows known qs (Done b t) q → Ends n qs (Done a s) q
+  module _ {bounds : Bounds} (ps qs : List Place) (w : IsWhole ps) (v : IsWhole qs) where
+    join_done : (m : Names) (a b : Value) (s t : State) (q : Outcome Value) → is_some t.counts.cells ≡ is_some (state_of q).counts.cells → Grows n m → SameValue m a b → Like bounds m ps s t → Follows bounds known qs (Done b t) q → Ends bounds n qs (Done a s) q
     join_done m a b s t q e g r l (done k _ c _ u h r' l') = let once : Once k = record { objects = l'.store.once; functions = l'.functions.once } in
         done (names_through m k) a c s u (grows_through m k once g h) (value_joined m k once a b c r r') (like_joined m k ps qs s t u e w v l l')
     join_done m a b s t q e g r l (parted _ _ x) = parted _ _ (seen_by_right (Done a s) (Done b t) q (sym l.outside) x)
 
-    join_failed : (m : Names) (z : ℤ) (a b : Value) (s t : State) (q : Outcome Value) → is_some t.counts.cells ≡ is_some (state_of q).counts.cells → Grows n m → SameValue m a b → Like m ps s t → Follows known qs (Failed z b t) q → Ends n qs (Failed z a s) q
+    join_failed : (m : Names) (z : ℤ) (a b : Value) (s t : State) (q : Outcome Value) → is_some t.counts.cells ≡ is_some (state_of q).counts.cells → Grows n m → SameValue m a b → Like bounds m ps s t → Follows bounds known qs (Failed z b t) q → Ends bounds n qs (Failed z a s) q
     join_failed m z a b s t q e g r l (failed k _ _ c _ u h r' l') = let once : Once k = record { objects = l'.store.once; functions = l'.functions.once } in
         failed (names_through m k) z a c s u (grows_through m k once g h) (value_joined m k once a b c r r') (like_joined m k ps qs s t u e w v l l')
     join_failed m z a b s t q e g r l (parted _ _ x) = parted _ _ (seen_by_right (Failed z a s) (Failed z b t) q (sym l.outside) x)
 
-    join_went : (m : Names) (x : ℕ) (s t : State) (q : Outcome Value) → is_some t.counts.cells ≡ is_some (state_of q).counts.cells → Grows n m → Like m ps s t → Follows known qs (Went x t) q → Ends n qs (Went x s) q
+    join_went : (m : Names) (x : ℕ) (s t : State) (q : Outcome Value) → is_some t.counts.cells ≡ is_some (state_of q).counts.cells → Grows n m → Like bounds m ps s t → Follows bounds known qs (Went x t) q → Ends bounds n qs (Went x s) q
     join_went m x s t q e g l (went k _ _ u h l') = let once : Once k = record { objects = l'.store.once; functions = l'.functions.once } in
         went (names_through m k) x s u (grows_through m k once g h) (like_joined m k ps qs s t u e w v l l')
     join_went m x s t q e g l (parted _ _ y) = parted _ _ (seen_by_right (Went x s) (Went x t) q (sym l.outside) y)
 
-    join_returned : (m : Names) (a b : Value) (s t : State) (q : Outcome Value) → is_some t.counts.cells ≡ is_some (state_of q).counts.cells → Grows n m → SameValue m a b → Like m ps s t → Follows known qs (Returned b t) q → Ends n qs (Returned a s) q
+    join_returned : (m : Names) (a b : Value) (s t : State) (q : Outcome Value) → is_some t.counts.cells ≡ is_some (state_of q).counts.cells → Grows n m → SameValue m a b → Like bounds m ps s t → Follows bounds known qs (Returned b t) q → Ends bounds n qs (Returned a s) q
     join_returned m a b s t q e g r l (returned k _ c _ u h r' l') = let once : Once k = record { objects = l'.store.once; functions = l'.functions.once } in
         returned (names_through m k) a c s u (grows_through m k once g h) (value_joined m k once a b c r r') (like_joined m k ps qs s t u e w v l l')
     join_returned m a b s t q e g r l (parted _ _ x) = parted _ _ (seen_by_right (Returned a s) (Returned b t) q (sym l.outside) x)
 
-    join_stopped : (why : Stop) (s t : State) (q : Outcome Value) → SameSeen s t → Follows known qs (Stopped why t) q → Ends n qs (Stopped why s) q
+    join_stopped : (why : Stop) (s t : State) (q : Outcome Value) → SameSeen s t → Follows bounds known qs (Stopped why t) q → Ends bounds n qs (Stopped why s) q
     join_stopped why s t q e (stopped _ _ u f) = stopped why s u (record { outside = e.outside ∙ f.outside; turns = e.turns ∙ f.turns })
     join_stopped why s t q e (parted _ _ x) = parted _ _ (seen_by_right (Stopped why s) (Stopped why t) q (sym e.outside) x)
 
     -- one run beside a second, and the second, from one state, beside a third
-    pub joined : (o p q : Outcome Value) → EventWithin (state_of q) → ((c : Recorded) → (state_of p).watched.event ≡ Some c → IsForeseen c q) → is_some (state_of p).counts.cells ≡ is_some (state_of q).counts.cells → Ends n ps o p → Follows known qs p q → Ends n qs o q
+    pub joined : (o p q : Outcome Value) → EventWithin (state_of q) → ((c : Recorded) → (state_of p).watched.event ≡ Some c → IsForeseen c q) → is_some (state_of p).counts.cells ≡ is_some (state_of q).counts.cells → Ends bounds n ps o p → Follows bounds known qs p q → Ends bounds n qs o q
     joined o p q inside foreseen e (done m a b s t g r l) h = join_done m a b s t q e g r l h
     joined o p q inside foreseen e (failed m z a b s t g r l) h = join_failed m z a b s t q e g r l h
     joined o p q inside foreseen e (went m x s t g l) h = join_went m x s t q e g l h

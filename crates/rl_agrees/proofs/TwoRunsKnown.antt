@@ -5,7 +5,7 @@ use Rattle.rl_meaning.specs.CMacros.{Operand, CMacro}
 use Rattle.rl_meaning.specs.State.{State, Tree, Held, Pointer, Function, Definition, Symbol, Entry, Dependency, Code, Coded, Expansion, Binding, Mark}
 use Rattle.rl_meaning.specs.TwoRunsLinks.{Links, unlinked, link, Linked, newest, older, OneToOne, Within}
 use Rattle.rl_meaning.specs.TwoRunsValues.{Names, Maybe, nothing, just, Each, end, more, SameValue, same_int, same_id, same_str, same_ref, same_fun, SameObject, same_pair, same_vector, SameTree, same_atom, same_quoted, same_node, same_literal, SameHeld, same_held, SameFunction, same_special, same_native, same_held_function, SamePointer, same_pointer, SameDefinition, same_definition, SameSymbol, same_symbol, SameOperand, same_slot, same_constant, same_variable, same_register, SameMacro, same_load, same_copy, same_jump_eq, same_jump_ne, same_macro, SameCode, SameDependency, same_called, same_fexpr, same_whole, SameCoded, same_coded}
-use Rattle.rl_meaning.specs.TwoRunsStates.{SameStore, SameFunctions, Place, Both, BothMark, Aligned, bottom, both, both_mark, hidden, hidden_mark, all_both, SameExpansion, same_none, same_open, IsRoomier, Like}
+use Rattle.rl_meaning.specs.TwoRunsStates.{Bounds, SameStore, SameFunctions, Place, Both, BothMark, Aligned, bottom, both, both_mark, hidden, hidden_mark, all_both, SameExpansion, same_none, same_open, IsRoomier, Like}
 use Rattle.rl_meaning.specs.Right.{IsIdentity, Knows}
 use Rattle.rl_agrees.specs.TwoRunsJobs.{IsWhole}
 use Rattle.rl_agrees.proofs.TwoRunsLinked.{linked_cases}
@@ -165,28 +165,29 @@ module _ (n : Names) where
   roomier_self None = tt
   roomier_self (Some x) = omega arith
 
-  pub like_right : (ps : List Place) (s t : State) → IsWhole ps → Like n ps s t → Like K (all_both t.bindings) t t
-  like_right ps s t w l = record {
-    store = store_right s.store t.store l.store;
-    functions = functions_right s.functions t.functions l.functions;
-    symbols = each_right _ _ symbol_right s.symbols t.symbols l.symbols;
-    bindings = aligned_right ps s.bindings t.bindings w l.bindings;
-    counts = record { given = refl; turns = refl; cells = roomier_self t.counts.cells; expansion = expansion_right _ _ l.counts.expansion };
-    outside = refl;
-    gensyms = refl;
-    compilation = record {
-      walks = l.compilation.walks;
-      coded = each_right _ _ coded_right s.compilation.coded t.compilation.coded l.compilation.coded;
-      answers = refl;
-      levels = refl;
-      requests = refl;
-      compiles_all = refl;
-    };
-  }
+  module _ {bounds : Bounds} where
+    pub like_right : (ps : List Place) (s t : State) → IsWhole ps → Like bounds n ps s t → Like bounds K (all_both t.bindings) t t
+    like_right ps s t w l = record {
+      store = store_right s.store t.store l.store;
+      functions = functions_right s.functions t.functions l.functions;
+      symbols = each_right _ _ symbol_right s.symbols t.symbols l.symbols;
+      bindings = aligned_right ps s.bindings t.bindings w l.bindings;
+      counts = record { given = refl; turns = refl; cells = record { is = roomier_self t.counts.cells; bound = l.counts.cells.bound }; expansion = expansion_right _ _ l.counts.expansion };
+      outside = refl;
+      gensyms = refl;
+      compilation = record {
+        walks = l.compilation.walks;
+        coded = each_right _ _ coded_right s.compilation.coded t.compilation.coded l.compilation.coded;
+        answers = refl;
+        levels = refl;
+        requests = refl;
+        compiles_all = refl;
+      };
+    }
 
-  -- the right state knows what it has from the left
-  pub knows : (ps : List Place) (s t : State) (vs ws : List Value) (a b : Code) → IsWhole ps → Like n ps s t → Each (SameValue n) vs ws → SameCode n a b → Knows K ws b t
-  knows ps s t vs ws a b w l r c = record { identity = right_identity n; state = like_right ps s t w l; values = each_right _ _ value_right vs ws r; constants = code_right a b c }
+    -- the right state knows what it has from the left
+    pub knows : (ps : List Place) (s t : State) (vs ws : List Value) (a b : Code) → IsWhole ps → Like bounds n ps s t → Each (SameValue n) vs ws → SameCode n a b → Knows bounds K ws b t
+    knows ps s t vs ws a b w l r c = record { identity = right_identity n; state = like_right ps s t w l; values = each_right _ _ value_right vs ws r; constants = code_right a b c }
 
 -- all places are of both
 pub whole_places : (n : Names) (ps : List Place) (xs ys : List Entry) → IsWhole ps → Aligned n ps xs ys → ps ≡ all_both ys

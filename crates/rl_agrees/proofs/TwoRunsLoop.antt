@@ -1,5 +1,5 @@
 -- A run in which code runs agrees with the walk of the same program, statement by statement, as evaluation does.
-use Rattle.std.proofs.Common.{◌≡◌, ◌∙◌, ◌⊎◌, inl, inr, ◌<◌, ◌-◌, ◌&&◌, ◌^◌, ℕ, zero, suc, false, List, [], ◌∷◌, length, take, slice_get, Option, Some, None, refl, sym, ap, subst, arith}
+use Rattle.std.proofs.Common.{◌≡◌, ◌∙◌, ◌⊎◌, inl, inr, ◌<◌, ◌-◌, ◌&&◌, ◌^◌, ℕ, zero, suc, false, is_some, List, [], ◌∷◌, length, take, slice_get, Option, Some, None, refl, sym, ap, subst, arith}
 use Rattle.std.specs.Prelude.{codes, decimal, min}
 use Rattle.rl_tree.specs.Value.{Value}
 use Rattle.rl_tree.specs.Name.{Name}
@@ -20,11 +20,11 @@ use Rattle.rl_meaning.specs.Laws.{IsFuelEnough}
 use Rattle.rl_meaning.specs.Run.{Ending, Finished, Stops, Ran, held_evaluated, statement, after_statement, print_atom, print_unreadable, behind_line, goes_on, read_and_run, run_within, run_bytes, source_of, run_file}
 use Rattle.rl_meaning.specs.TwoRunsLinks.{Linked, OneToOne, Within}
 use Rattle.rl_meaning.specs.TwoRunsValues.{Names, Maybe, Each, SameValue, same_id, SameTree, SameFunction, same_special, same_native, same_held_function, same_held, same_pointer, SameNumber}
-use Rattle.rl_meaning.specs.TwoRunsStates.{Place, all_both, SameExpansion, same_none, same_open, IsRoomier, Roomier, Like}
-use Rattle.rl_meaning.specs.TwoRunsEnds.{Begins, HasShown, OneBegins, Parted, by_event, right_short, left_short, short_by_event, both_short, Related, done, failed, went, returned, stopped, parted, Ends}
+use Rattle.rl_meaning.specs.TwoRunsStates.{Bounds, bounds_of, Place, all_both, SameExpansion, same_none, same_open, IsRoomier, Roomier, Like}
+use Rattle.rl_meaning.specs.TwoRunsEnds.{Begins, HasShown, IsShort, short_of_cells, short_of_levels, IsLacking, lacks_cells, lacks_levels, OneBegins, Parted, by_event, right_short, left_short, short_by_event, both_short, Related, done, failed, went, returned, stopped, parted, Ends}
 use Rattle.rl_meaning.specs.Right.{Stood, AllAsTheyStood}
 use Rattle.rl_agrees.specs.TwoRunsJobs.{Goes, SameHere, same_here, same_in, ReadyCode, Ready}
-use Rattle.rl_agrees.specs.TwoRunsRuns.{RunsAgree, alike, until_event, until_right_stop, until_left_stop, until_either, until_both_stop, HasRoom, HasNoEvent, SameRun, printed_by, noted_by, printed_first, noted_first, each_itself, names_of, IsSound, running, walking}
+use Rattle.rl_agrees.specs.TwoRunsRuns.{RunsAgree, alike, until_event, until_right_stop, until_left_stop, until_either, until_both_stop, StopsShort, HasRoom, HasNoEvent, SameRun, printed_by, noted_by, printed_first, noted_first, each_itself, names_of, IsSound, running, walking}
 use Rattle.rl_agrees.specs.Laws.{CodeAgrees}
 use Rattle.rl_agrees.proofs.TwoRunsLinked.{linked_cases}
 use Rattle.rl_agrees.proofs.TwoRunsGrowth.{grows_refl}
@@ -43,8 +43,9 @@ use Rattle.rl_agrees.proofs.TwoRunsCompared.{CleanSides, code_and_walk}
 
 -- ---- an atom is printed, which may break a line
 
-atom_like : (n : Names) (ps : List Place) (bytes : List ℕ) (s t : State) → Like n ps s t → Like n ps (print_atom bytes s) (print_atom bytes t)
-atom_like n ps bytes s t l = record { store = l.store; functions = l.functions; symbols = l.symbols; bindings = l.bindings; counts = l.counts; outside = λ k. let page : Page = with_atom (l.outside k).line_length (record { text = (l.outside k).output; column = (l.outside k).column }) bytes in record (l.outside k) { output = page.text; column = page.column }; gensyms = l.gensyms; compilation = l.compilation }
+module _ {bounds : Bounds} where
+  atom_like : (n : Names) (ps : List Place) (bytes : List ℕ) (s t : State) → Like bounds n ps s t → Like bounds n ps (print_atom bytes s) (print_atom bytes t)
+  atom_like n ps bytes s t l = record { store = l.store; functions = l.functions; symbols = l.symbols; bindings = l.bindings; counts = l.counts; outside = λ k. let page : Page = with_atom (l.outside k).line_length (record { text = (l.outside k).output; column = (l.outside k).column }) bytes in record (l.outside k) { output = page.text; column = page.column }; gensyms = l.gensyms; compilation = l.compilation }
 
 -- ---- runs that are apart
 
@@ -65,31 +66,32 @@ unfolding outcome_of
 stops_as Finished s why t h = absurd (cc)
 stops_as (Stops other) s why t h = (let x : other ≡ why = cc in ap (λ w. Stops w) x, cc)
 
-ran_agrees : (x y : Ran) (o p : Outcome (Unit {0})) → o ≡ as_outcome x → p ≡ as_outcome y → Parted o p → RunsAgree x y
-ran_agrees x y o p i j h = at o p i j (ap (λ q. state_of q) i ∙ state_is x.ending x.state) (ap (λ q. state_of q) j ∙ state_is y.ending y.state) h
-  where
-    at : (o p : Outcome (Unit {0})) → o ≡ as_outcome x → p ≡ as_outcome y → state_of o ≡ x.state → state_of p ≡ y.state → Parted o p → RunsAgree x y
-    at o p i j a b (by_event _ _ r e h) =
-        until_event x y r (subst (λ w. w.watched.event ≡ Some r) b e)
-        (subst (λ w. HasShown (take r.printed w.outside.output) (take r.noted w.outside.notes) x.state.outside) b
-        (subst (λ w. HasShown (take r.printed (state_of p).outside.output) (take r.noted (state_of p).outside.notes) w.outside) a h))
-    at o p i j a b (right_short _ why t k h) =
-        let e : (y.ending ≡ Stops why) × (t ≡ y.state) = stops_as y.ending y.state why t j in
-        until_right_stop x y why e.0 k (subst (λ w. HasShown w.outside.output w.outside.notes x.state.outside) b (subst (λ w. HasShown t.outside.output t.outside.notes w.outside) a h))
-    at o p i j a b (left_short why s _ k h) =
-        let e : (x.ending ≡ Stops why) × (s ≡ x.state) = stops_as x.ending x.state why s i in
-        until_left_stop x y why e.0 k (subst (λ w. HasShown w.outside.output w.outside.notes y.state.outside) a (subst (λ w. HasShown s.outside.output s.outside.notes w.outside) b h))
-    at o p i j a b (short_by_event why s _ r k e h g) =
-        let z : (x.ending ≡ Stops why) × (s ≡ x.state) = stops_as x.ending x.state why s i in
-        until_either x y why r z.0 k (subst (λ w. w.watched.event ≡ Some r) b e)
-        (subst (λ w. OneBegins (take r.printed w.outside.output) x.state.outside.output) b (subst (λ w. OneBegins (take r.printed (state_of p).outside.output) w.outside.output) a h))
-        (subst (λ w. OneBegins (take r.noted w.outside.notes) x.state.outside.notes) b (subst (λ w. OneBegins (take r.noted (state_of p).outside.notes) w.outside.notes) a g))
-    at o p i j a b (both_short why other s t k l h g) =
-        let e : (x.ending ≡ Stops why) × (s ≡ x.state) = stops_as x.ending x.state why s i in
-        let f : (y.ending ≡ Stops other) × (t ≡ y.state) = stops_as y.ending y.state other t j in
-        until_both_stop x y why other e.0 f.0 k l
-        (subst (λ w. OneBegins w.outside.output x.state.outside.output) b (subst (λ w. OneBegins t.outside.output w.outside.output) a h))
-        (subst (λ w. OneBegins w.outside.notes x.state.outside.notes) b (subst (λ w. OneBegins t.outside.notes w.outside.notes) a g))
+module _ {bounds : Bounds} where
+  ran_agrees : (x y : Ran) (o p : Outcome (Unit {0})) → o ≡ as_outcome x → p ≡ as_outcome y → Parted bounds o p → RunsAgree bounds x y
+  ran_agrees x y o p i j h = at o p i j (ap (λ q. state_of q) i ∙ state_is x.ending x.state) (ap (λ q. state_of q) j ∙ state_is y.ending y.state) h
+    where
+      at : (o p : Outcome (Unit {0})) → o ≡ as_outcome x → p ≡ as_outcome y → state_of o ≡ x.state → state_of p ≡ y.state → Parted bounds o p → RunsAgree bounds x y
+      at o p i j a b (by_event _ _ r e h) =
+          until_event x y r (subst (λ w. w.watched.event ≡ Some r) b e)
+          (subst (λ w. HasShown (take r.printed w.outside.output) (take r.noted w.outside.notes) x.state.outside) b
+          (subst (λ w. HasShown (take r.printed (state_of p).outside.output) (take r.noted (state_of p).outside.notes) w.outside) a h))
+      at o p i j a b (right_short _ why t k h) =
+          let e : (y.ending ≡ Stops why) × (t ≡ y.state) = stops_as y.ending y.state why t j in
+          until_right_stop x y why e.0 k (subst (λ w. HasShown w.outside.output w.outside.notes x.state.outside) b (subst (λ w. HasShown t.outside.output t.outside.notes w.outside) a h))
+      at o p i j a b (left_short why s _ k h) =
+          let e : (x.ending ≡ Stops why) × (s ≡ x.state) = stops_as x.ending x.state why s i in
+          until_left_stop x y why e.0 k (subst (λ w. HasShown w.outside.output w.outside.notes y.state.outside) a (subst (λ w. HasShown s.outside.output s.outside.notes w.outside) b h))
+      at o p i j a b (short_by_event why s _ r k e h g) =
+          let z : (x.ending ≡ Stops why) × (s ≡ x.state) = stops_as x.ending x.state why s i in
+          until_either x y why r z.0 k (subst (λ w. w.watched.event ≡ Some r) b e)
+          (subst (λ w. OneBegins (take r.printed w.outside.output) x.state.outside.output) b (subst (λ w. OneBegins (take r.printed (state_of p).outside.output) w.outside.output) a h))
+          (subst (λ w. OneBegins (take r.noted w.outside.notes) x.state.outside.notes) b (subst (λ w. OneBegins (take r.noted (state_of p).outside.notes) w.outside.notes) a g))
+      at o p i j a b (both_short why other s t k l h g) =
+          let e : (x.ending ≡ Stops why) × (s ≡ x.state) = stops_as x.ending x.state why s i in
+          let f : (y.ending ≡ Stops other) × (t ≡ y.state) = stops_as y.ending y.state other t j in
+          until_both_stop x y why other e.0 f.0 k l
+          (subst (λ w. OneBegins w.outside.output x.state.outside.output) b (subst (λ w. OneBegins t.outside.output w.outside.output) a h))
+          (subst (λ w. OneBegins w.outside.notes x.state.outside.notes) b (subst (λ w. OneBegins t.outside.notes w.outside.notes) a g))
 
 -- ---- and then, in a run
 
@@ -104,34 +106,35 @@ goes_on_context : {A : Type 0} (f : A → State → Ran) → ((a : A) (t : State
 unfolding outcome_of
 goes_on_context {A} f h = record { stops = λ why s. refl; goes = λ o. subst (λ u. Goes (state_of o) u) (sym (state_is (goes_on o f).ending (goes_on o f).state)) (goes_on_goes (state_of o) o f (goes_refl (state_of o)) h) }
 
-goes_on_agrees : {A : Type 0} {R : Names → A → A → Type 0} (n : Names) (ps : List Place) (s t : State) (o p : Outcome A) (f g : A → State → Ran)
-    → CleanSides code_and_walk n ps s t → Goes s (state_of o) → Goes t (state_of p) → ((a : A) (t : State) → Goes t (f a t).state) → ((a : A) (t : State) → Goes t (g a t).state) → Related {A = A} Parted R n ps o p
-    → ((m : Names) (a b : A) (u v : State) → R m a b → CleanSides code_and_walk m ps u v → RunsAgree (f a u) (g b v)) → RunsAgree (goes_on o f) (goes_on p g)
-goes_on_agrees n ps s t o p f g i d w x y (done m a b u v k r l) h = h m a b u v r (sides_on code_and_walk n m ps s t u v i d w l)
-goes_on_agrees n ps s t o p f g i d w x y (failed m z a b u v k r l) h = alike _ _ refl l.outside l.counts.turns
-goes_on_agrees n ps s t o p f g i d w x y (went m z u v k l) h = alike _ _ refl l.outside l.counts.turns
-goes_on_agrees n ps s t o p f g i d w x y (returned m a b u v k r l) h = alike _ _ refl l.outside l.counts.turns
-goes_on_agrees n ps s t o p f g i d w x y (stopped why u v e) h = alike _ _ refl e.outside e.turns
-goes_on_agrees n ps s t o p f g i d w x y (parted _ _ a) h =
-    ran_agrees (goes_on o f) (goes_on p g) _ _ refl refl (parted_in (λ o. as_outcome (goes_on o f)) (λ o. as_outcome (goes_on o g)) o p (goes_on_context f x) (goes_on_context g y) (w.within i.ready.event) a)
+module _ {bounds : Bounds} where
+  goes_on_agrees : {A : Type 0} {R : Names → A → A → Type 0} (n : Names) (ps : List Place) (s t : State) (o p : Outcome A) (f g : A → State → Ran)
+      → CleanSides bounds code_and_walk n ps s t → Goes s (state_of o) → Goes t (state_of p) → ((a : A) (t : State) → Goes t (f a t).state) → ((a : A) (t : State) → Goes t (g a t).state) → Related bounds {A = A} (Parted bounds) R n ps o p
+      → ((m : Names) (a b : A) (u v : State) → R m a b → CleanSides bounds code_and_walk m ps u v → RunsAgree bounds (f a u) (g b v)) → RunsAgree bounds (goes_on o f) (goes_on p g)
+  goes_on_agrees n ps s t o p f g i d w x y (done m a b u v k r l) h = h m a b u v r (sides_on code_and_walk n m ps s t u v i d w l)
+  goes_on_agrees n ps s t o p f g i d w x y (failed m z a b u v k r l) h = alike _ _ refl l.outside l.counts.turns
+  goes_on_agrees n ps s t o p f g i d w x y (went m z u v k l) h = alike _ _ refl l.outside l.counts.turns
+  goes_on_agrees n ps s t o p f g i d w x y (returned m a b u v k r l) h = alike _ _ refl l.outside l.counts.turns
+  goes_on_agrees n ps s t o p f g i d w x y (stopped why u v e) h = alike _ _ refl e.outside e.turns
+  goes_on_agrees n ps s t o p f g i d w x y (parted _ _ a) h =
+      ran_agrees (goes_on o f) (goes_on p g) _ _ refl refl (parted_in (λ o. as_outcome (goes_on o f)) (λ o. as_outcome (goes_on o g)) o p (goes_on_context f x) (goes_on_context g y) (w.within i.ready.event) a)
 
 -- evaluation respects the relation; and what is taken of one run, and of two
-pub record LoopFacts : Type 0 where
+pub record LoopFacts (bounds : Bounds) : Type 0 where
   pub fuel : IsFuelEnough
-  pub composed : Respects code_and_walk (job the_compiler) (job the_compiler)
+  pub composed : Respects bounds code_and_walk (job the_compiler) (job the_compiler)
   pub job_goes : AskGoes (job the_compiler)
   pub one : OneRunFacts
-  pub two : TwoRunsFacts
+  pub two : TwoRunsFacts bounds
 
-module _ (facts : LoopFacts) where
+module _ {bounds : Bounds} (facts : LoopFacts bounds) where
   -- ---- a statement
 
   evaluate_is : (h : Here) (a : Tree) (s : State) → job the_compiler (In h Inside a) s ≡ evaluate h a s
   evaluate_is h a s = facts.fuel.done (In h Inside a) s
 
-  evaluate_ends : (n : Names) (ps : List Place) (h g : Here) (a b : Tree) (s t : State) → SameHere n h g → SameTree n a b → CleanSides code_and_walk n ps s t → Ends n ps (evaluate h a s) (evaluate g b t)
+  evaluate_ends : (n : Names) (ps : List Place) (h g : Here) (a b : Tree) (s t : State) → SameHere bounds n h g → SameTree n a b → CleanSides bounds code_and_walk n ps s t → Ends bounds n ps (evaluate h a s) (evaluate g b t)
   evaluate_ends n ps h g a b s t x y i =
-      subst (λ o. Ends n ps o (evaluate g b t)) (evaluate_is h a s) (subst (λ o. Ends n ps (job the_compiler (In h Inside a) s) o) (evaluate_is g b t)
+      subst (λ o. Ends bounds n ps o (evaluate g b t)) (evaluate_is h a s) (subst (λ o. Ends bounds n ps (job the_compiler (In h Inside a) s) o) (evaluate_is g b t)
       (facts.composed n ps (In h Inside a) s (In g Inside b) t (record { same = same_in h g Inside a b x y; like = i.like; places = i.places; asked = tt; ready = i.ready })))
 
   held_goes : (l : Levels) (f : ℕ) (function : Function) (s : State) → GoesOn s (held_evaluated l f function s)
@@ -139,7 +142,7 @@ module _ (facts : LoopFacts) where
   held_goes l f (SpecialForm form) s = record { goes = goes_refl s }
   held_goes l f (NativeFunction native) s = record { goes = goes_refl s }
 
-  held_ends : (n : Names) (ps : List Place) (l m : Levels) (f g : ℕ) (a b : Function) (s t : State) → Roomier l m → Linked n.functions f g → SameFunction n a b → CleanSides code_and_walk n ps s t → Ends n ps (held_evaluated l f a s) (held_evaluated m g b t)
+  held_ends : (n : Names) (ps : List Place) (l m : Levels) (f g : ℕ) (a b : Function) (s t : State) → Roomier bounds l m → Linked n.functions f g → SameFunction n a b → CleanSides bounds code_and_walk n ps s t → Ends bounds n ps (held_evaluated l f a s) (held_evaluated m g b t)
   held_ends n ps l m f g _ _ s t r h (same_special form) i = done n _ _ s t (grows_refl n) (same_id _) i.like
   held_ends n ps l m f g _ _ s t r h (same_native native) i = done n _ _ s t (grows_refl n) (same_id _) i.like
   held_ends n ps l m f g _ _ s t r h (same_held_function _ _ (same_held kind parameters kept a b k)) i = evaluate_ends n ps _ _ a b s t (same_here longest_chain kept l m f g r h) k i
@@ -147,7 +150,7 @@ module _ (facts : LoopFacts) where
   statement_goes : (l : Levels) (v : Value) (s : State) → GoesOn s (statement l v s)
   statement_goes l v s = then_goes s _ _ (facts.one.hold_form_goes l v s) (λ f t. held_goes l f (function_at t (pointer_to f)) t)
 
-  pub statement_ends : (n : Names) (ps : List Place) (l m : Levels) (v w : Value) (s t : State) → Roomier l m → SameValue n v w → CleanSides code_and_walk n ps s t → Ends n ps (statement l v s) (statement m w t)
+  pub statement_ends : (n : Names) (ps : List Place) (l m : Levels) (v w : Value) (s t : State) → Roomier bounds l m → SameValue n v w → CleanSides bounds code_and_walk n ps s t → Ends bounds n ps (statement l v s) (statement m w t)
   statement_ends n ps l m v w s t r x i =
       then_ends code_and_walk {R = SameNumber} n ps s t _ _ _ _ i (facts.one.hold_form_goes l v s) (facts.one.hold_form_goes m w t) (λ f u. held_goes l f (function_at u (pointer_to f)) u) (λ f u. held_goes m f (function_at u (pointer_to f)) u)
       (quiet_ends n ps s t _ _ i.like (facts.two.hold_form_quiet l v s) (facts.two.hold_form_quiet m w t) (facts.two.hold_form_ n ps l m v w s t r x i.like))
@@ -166,13 +169,13 @@ module _ (facts : LoopFacts) where
       goes (Returned v s) = goes_refl s
       goes (Stopped why s) = goes_refl s
 
-  pub after_ends : (n : Names) (ps : List Place) (l m : Levels) (s t : State) (o p : Outcome Value) → CleanSides code_and_walk n ps s t → Goes t (state_of p) → Ends n ps o p → Related {A = Unit {0}} Parted Is n ps (after_statement l o) (after_statement m p)
-  after_ends n ps l m s t o p i w (done k a b u v g r x) = done k tt tt u v g (is tt) x
-  after_ends n ps l m s t o p i w (failed k z a b u v g r x) = further_ends n k ps _ _ g (facts.two.print_error_ k ps l m a b u v r x)
-  after_ends n ps l m s t o p i w (went k z u v g x) = done k tt tt u v g (is tt) x
-  after_ends n ps l m s t o p i w (returned k a b u v g r x) = done k tt tt u v g (is tt) x
-  after_ends n ps l m s t o p i w (stopped why u v e) = stopped why u v e
-  after_ends n ps l m s t o p i w (parted _ _ a) = parted _ _ (parted_in (λ o. after_statement l o) (λ o. after_statement m o) o p (after_context l) (after_context m) (w.within i.ready.event) a)
+  pub after_ends : (n : Names) (ps : List Place) (l m : Levels) (s t : State) (o p : Outcome Value) → Roomier bounds l m → CleanSides bounds code_and_walk n ps s t → Goes t (state_of p) → Ends bounds n ps o p → Related bounds {A = Unit {0}} (Parted bounds) Is n ps (after_statement l o) (after_statement m p)
+  after_ends n ps l m s t o p q i w (done k a b u v g r x) = done k tt tt u v g (is tt) x
+  after_ends n ps l m s t o p q i w (failed k z a b u v g r x) = further_ends n k ps _ _ g (facts.two.print_error_ k ps l m a b u v q r x)
+  after_ends n ps l m s t o p q i w (went k z u v g x) = done k tt tt u v g (is tt) x
+  after_ends n ps l m s t o p q i w (returned k a b u v g r x) = done k tt tt u v g (is tt) x
+  after_ends n ps l m s t o p q i w (stopped why u v e) = stopped why u v e
+  after_ends n ps l m s t o p q i w (parted _ _ a) = parted _ _ (parted_in (λ o. after_statement l o) (λ o. after_statement m o) o p (after_context l) (after_context m) (w.within i.ready.event) a)
 
   after_goes : (l : Levels) (v : Value) (s : State) → Goes s (state_of (after_statement l (statement l v s)))
   after_goes l v s = let c : Context (λ (o : Outcome Value). after_statement l o) = after_context l in goes_trans s _ _ (statement_on l v s) (c.goes (statement l v s))
@@ -191,20 +194,20 @@ module _ (facts : LoopFacts) where
   run_goes zero l size bytes s = goes_refl s
   run_goes (suc n) l size bytes s = goes_on_goes {A = Reading} s (read_bytes false l bytes s) (λ reading t. read_and_run l size (λ rest s. run_within n l size rest s) reading t) (read_goes l bytes s) (λ reading t. reading_goes l size (λ rest s. run_within n l size rest s) (λ rest s. run_goes n l size rest s) reading t)
 
-  unreadable_like : (n : Names) (ps : List Place) (k : ℕ) (s t : State) → Like n ps s t → Like n ps (print_unreadable k s) (print_unreadable k t)
+  unreadable_like : (n : Names) (ps : List Place) (k : ℕ) (s t : State) → Like bounds n ps s t → Like bounds n ps (print_unreadable k s) (print_unreadable k t)
   unreadable_like n ps k s t l =
       mark_like n ps (10 ∷ []) _ _ (atom_like n ps (error_text unreadable) _ _ (mark_like n ps (32 ∷ []) _ _ (atom_like n ps (decimal (min k (2 ^ 59 - 1))) _ _ (mark_like n ps (codes "***** ") _ _ (fresh_like n ps s t l)))))
 
-  reading_agrees : (n : Names) (ps : List Place) (l m : Levels) (size : ℕ) (f g : List ℕ → State → Ran) (x y : Reading) (s t : State) → Roomier l m
+  reading_agrees : (n : Names) (ps : List Place) (l m : Levels) (size : ℕ) (f g : List ℕ → State → Ran) (x y : Reading) (s t : State) → Roomier bounds l m
       → ((bytes : List ℕ) (s : State) → Goes s (f bytes s).state) → ((bytes : List ℕ) (s : State) → Goes s (g bytes s).state)
-      → ((m : Names) (bytes : List ℕ) (u v : State) → CleanSides code_and_walk m ps u v → RunsAgree (f bytes u) (g bytes v)) → SameReading n x y → CleanSides code_and_walk n ps s t → RunsAgree (read_and_run l size f x s) (read_and_run m size g y t)
+      → ((m : Names) (bytes : List ℕ) (u v : State) → CleanSides bounds code_and_walk m ps u v → RunsAgree bounds (f bytes u) (g bytes v)) → SameReading n x y → CleanSides bounds code_and_walk n ps s t → RunsAgree bounds (read_and_run l size f x s) (read_and_run m size g y t)
   reading_agrees n ps l m size f g _ _ s t r d e h (same_form v w rest x) i =
       goes_on_agrees {R = Is} n ps s t _ _ _ _ i (after_goes l v s) (after_goes m w t) (λ z u. d rest u) (λ z u. e rest u)
-      (after_ends n ps l m s t _ _ i (statement_on m w t) (statement_ends n ps l m v w s t r x i)) (λ k a b u v z j. h k rest u v j)
+      (after_ends n ps l m s t _ _ r i (statement_on m w t) (statement_ends n ps l m v w s t r x i)) (λ k a b u v z j. h k rest u v j)
   reading_agrees n ps l m size f g _ _ s t r d e h same_end i = alike _ _ refl i.like.outside i.like.counts.turns
   reading_agrees n ps l m size f g _ _ s t r d e h (same_unreadable k from) i = h n (behind_line from) _ _ (sides_on code_and_walk n n ps s t _ _ i (facts.one.unreadable_goes (size - length from) s) (facts.one.unreadable_goes (size - length from) t) (unreadable_like n ps (size - length from) s t i.like))
 
-  run_agrees : (i : ℕ) (n : Names) (ps : List Place) (l m : Levels) (size : ℕ) (bytes : List ℕ) (s t : State) → Roomier l m → CleanSides code_and_walk n ps s t → RunsAgree (run_within i l size bytes s) (run_within i m size bytes t)
+  run_agrees : (i : ℕ) (n : Names) (ps : List Place) (l m : Levels) (size : ℕ) (bytes : List ℕ) (s t : State) → Roomier bounds l m → CleanSides bounds code_and_walk n ps s t → RunsAgree bounds (run_within i l size bytes s) (run_within i m size bytes t)
   run_agrees zero n ps l m size bytes s t r i = alike _ _ refl i.like.outside i.like.counts.turns
   run_agrees (suc i) n ps l m size bytes s t r x =
       goes_on_agrees {R = SameReading} n ps s t _ _ _ _ x (read_goes l bytes s) (read_goes m bytes t)
@@ -214,10 +217,10 @@ module _ (facts : LoopFacts) where
       (λ k a b u v z j. reading_agrees k ps l m size (λ rest s. run_within i l size rest s) (λ rest s. run_within i m size rest s) a b u v r (λ rest s. run_goes i l size rest s) (λ rest s. run_goes i m size rest s)
       (λ o rest u v j. run_agrees i o ps l m size rest u v r j) z j)
 
-  pub bytes_agree : (n : Names) (ps : List Place) (l m : Levels) (bytes : List ℕ) (s t : State) → Roomier l m → CleanSides code_and_walk n ps s t → RunsAgree (run_bytes l bytes s) (run_bytes m bytes t)
+  pub bytes_agree : (n : Names) (ps : List Place) (l m : Levels) (bytes : List ℕ) (s t : State) → Roomier bounds l m → CleanSides bounds code_and_walk n ps s t → RunsAgree bounds (run_bytes l bytes s) (run_bytes m bytes t)
   bytes_agree n ps l m bytes s t r i = run_agrees (suc (length bytes)) n ps l m (length bytes) bytes s t r i
 
-  pub file_agrees : (n : Names) (ps : List Place) (l m : Levels) (name : Name) (file : Option (List ℕ)) (s t : State) → Roomier l m → CleanSides code_and_walk n ps s t → RunsAgree (run_file l name file s) (run_file m name file t)
+  pub file_agrees : (n : Names) (ps : List Place) (l m : Levels) (name : Name) (file : Option (List ℕ)) (s t : State) → Roomier bounds l m → CleanSides bounds code_and_walk n ps s t → RunsAgree bounds (run_file l name file s) (run_file m name file t)
   file_agrees n ps l m name None s t r i = alike _ _ refl i.like.outside i.like.counts.turns
   file_agrees n ps l m name (Some file) s t r i = bytes_agree n ps l m (source_of file) s t r i
 
@@ -250,17 +253,18 @@ same_expansion : (e : Option Expansion) → SameExpansion e e
 same_expansion None = same_none
 same_expansion (Some e) = same_open e
 
-pub begins_like : (s : State) (cells : Option ℕ) → IsSound s → IsRoomier s.counts.cells cells → Like (names_of s) (all_both s.bindings) (running s) (walking cells s)
-begins_like s cells h r = record {
-  store = record { once = itself_once (length s.store); within = itself_within (length s.store); is = itself_gets _ (length s.store) s.store h.objects };
-  functions = record { once = itself_once (length s.functions); within = itself_within (length s.functions); is = itself_gets _ (length s.functions) s.functions h.functions };
-  symbols = h.symbols;
-  bindings = h.bindings;
-  counts = record { given = refl; turns = refl; cells = r; expansion = same_expansion s.counts.expansion };
-  outside = refl;
-  gensyms = refl;
-  compilation = record { walks = refl; coded = h.codes; answers = refl; levels = refl; requests = refl; compiles_all = refl };
-}
+module _ {bounds : Bounds} where
+  pub begins_like : (s : State) (cells : Option ℕ) → IsSound s → IsRoomier s.counts.cells cells → is_some cells ≡ bounds.cells → Like bounds (names_of s) (all_both s.bindings) (running s) (walking cells s)
+  begins_like s cells h r b = record {
+    store = record { once = itself_once (length s.store); within = itself_within (length s.store); is = itself_gets _ (length s.store) s.store h.objects };
+    functions = record { once = itself_once (length s.functions); within = itself_within (length s.functions); is = itself_gets _ (length s.functions) s.functions h.functions };
+    symbols = h.symbols;
+    bindings = h.bindings;
+    counts = record { given = refl; turns = refl; cells = record { is = r; bound = b }; expansion = same_expansion s.counts.expansion };
+    outside = refl;
+    gensyms = refl;
+    compilation = record { walks = refl; coded = h.codes; answers = refl; levels = refl; requests = refl; compiles_all = refl };
+  }
 
 -- ---- a walk begins ready where its state is
 
@@ -300,21 +304,38 @@ ready_walking s cells r = record { codes = λ c i. code_walking s cells c (r.cod
 
 -- ---- what it is that runs agree
 
-same_run : (o p : Ran) → RunsAgree o p → HasNoEvent p → HasRoom o → HasRoom p → SameRun o p
-same_run _ _ (alike o p e x y) n a b = record { ending = e; outside = x; turns = y }
-same_run _ _ (until_event o p r e h) n a b = absurd (cc)
-same_run _ _ (until_right_stop o p why e i h) n a b = absurd (b (record { why = why; is = e; short = i }))
-same_run _ _ (until_left_stop o p why e i h) n a b = absurd (a (record { why = why; is = e; short = i }))
-same_run _ _ (until_either o p why r e i x h k) n a b = absurd (cc)
-same_run _ _ (until_both_stop o p why other e x i j h k) n a b = absurd (a (record { why = why; is = e; short = i }))
+stops_is : (o : Ran) (why other : Stop) → o.ending ≡ Stops why → o.ending ≡ Stops other → other ≡ why
+stops_is o why other e h = let x : Stops other ≡ Stops why = sym h ∙ e in cc
 
-front_of : (o p : Ran) → RunsAgree o p → HasNoEvent p → HasRoom p → HasShown o.state.outside.output o.state.outside.notes p.state.outside
-front_of _ _ (alike o p e x y) n b = subst (λ z. HasShown o.state.outside.output o.state.outside.notes z) x (shown_refl o.state.outside)
-front_of _ _ (until_event o p r e h) n b = absurd (cc)
-front_of _ _ (until_right_stop o p why e i h) n b = absurd (b (record { why = why; is = e; short = i }))
-front_of _ _ (until_left_stop o p why e i h) n b = h
-front_of _ _ (until_either o p why r e i x h k) n b = absurd (cc)
-front_of _ _ (until_both_stop o p why other e x i j h k) n b = absurd (b (record { why = other; is = x; short = j }))
+module _ {bounds : Bounds} where
+  -- a run that lacks room stops short
+  lacking_short : (why : Stop) → IsLacking bounds why → IsShort why
+  lacking_short _ (lacks_cells e) = short_of_cells
+  lacking_short _ (lacks_levels e) = short_of_levels
+
+  same_run : (o p : Ran) → RunsAgree bounds o p → HasNoEvent p → HasRoom o → HasRoom p → SameRun o p
+  same_run _ _ (alike o p e x y) n a b = record { ending = e; outside = x; turns = y }
+  same_run _ _ (until_event o p r e h) n a b = absurd (cc)
+  same_run _ _ (until_right_stop o p why e i h) n a b = absurd (b (record { why = why; is = e; short = i }))
+  same_run _ _ (until_left_stop o p why e i h) n a b = absurd (a (record { why = why; is = e; short = lacking_short why i }))
+  same_run _ _ (until_either o p why r e i x h k) n a b = absurd (cc)
+  same_run _ _ (until_both_stop o p why other e x i j h k) n a b = absurd (a (record { why = why; is = e; short = lacking_short why i }))
+
+  front_of : (o p : Ran) → RunsAgree bounds o p → HasNoEvent p → HasRoom p → HasShown o.state.outside.output o.state.outside.notes p.state.outside
+  front_of _ _ (alike o p e x y) n b = subst (λ z. HasShown o.state.outside.output o.state.outside.notes z) x (shown_refl o.state.outside)
+  front_of _ _ (until_event o p r e h) n b = absurd (cc)
+  front_of _ _ (until_right_stop o p why e i h) n b = absurd (b (record { why = why; is = e; short = i }))
+  front_of _ _ (until_left_stop o p why e i h) n b = h
+  front_of _ _ (until_either o p why r e i x h k) n b = absurd (cc)
+  front_of _ _ (until_both_stop o p why other e x i j h k) n b = absurd (b (record { why = other; is = x; short = j }))
+
+  bound_met : (o p : Ran) (why : Stop) → RunsAgree bounds o p → HasNoEvent p → o.ending ≡ Stops why → IsShort why → IsLacking bounds why ⊎ StopsShort p
+  bound_met _ _ why (alike o p e x y) n w short = inr (record { why = why; is = sym e ∙ w; short = short })
+  bound_met _ _ why (until_event o p r e h) n w short = absurd (cc)
+  bound_met _ _ why (until_right_stop o p other e i h) n w short = inr (record { why = other; is = e; short = i })
+  bound_met _ _ why (until_left_stop o p other e i h) n w short = inl (subst (λ w. IsLacking bounds w) (stops_is o why other w e) i)
+  bound_met _ _ why (until_either o p other r e i x h k) n w short = absurd (cc)
+  bound_met _ _ why (until_both_stop o p other last e x i j h k) n w short = inr (record { why = last; is = x; short = j })
 
 printed_begins : (r : Option Recorded) (xs : List ℕ) → Begins (printed_by r xs) xs
 printed_begins None xs = begins_refl xs
@@ -331,37 +352,40 @@ first_shown o p h = record { output = begins_trans _ _ _ (printed_begins p.state
 shown_at_event : (o p : Ran) (r : Recorded) → p.state.watched.event ≡ Some r → HasShown (take r.printed p.state.outside.output) (take r.noted p.state.outside.notes) o.state.outside → HasShown (printed_first p) (noted_first p) o.state.outside
 shown_at_event o p r e h = subst (λ w. HasShown (printed_by w p.state.outside.output) (noted_by w p.state.outside.notes) o.state.outside) (sym e) h
 
-event_shown : (o p : Ran) → RunsAgree o p → HasRoom o → HasShown (printed_first p) (noted_first p) o.state.outside
-event_shown _ _ (alike o p e x y) a = first_shown o p (subst (λ z. HasShown z.output z.notes o.state.outside) x (shown_refl o.state.outside))
-event_shown _ _ (until_event o p r e h) a = shown_at_event o p r e h
-event_shown _ _ (until_right_stop o p why e i h) a = first_shown o p h
-event_shown _ _ (until_left_stop o p why e i h) a = absurd (a (record { why = why; is = e; short = i }))
-event_shown _ _ (until_either o p why r e i x h k) a = absurd (a (record { why = why; is = e; short = i }))
-event_shown _ _ (until_both_stop o p why other e x i j h k) a = absurd (a (record { why = why; is = e; short = i }))
+module _ {bounds : Bounds} where
+  event_shown : (o p : Ran) → RunsAgree bounds o p → HasRoom o → HasShown (printed_first p) (noted_first p) o.state.outside
+  event_shown _ _ (alike o p e x y) a = first_shown o p (subst (λ z. HasShown z.output z.notes o.state.outside) x (shown_refl o.state.outside))
+  event_shown _ _ (until_event o p r e h) a = shown_at_event o p r e h
+  event_shown _ _ (until_right_stop o p why e i h) a = first_shown o p h
+  event_shown _ _ (until_left_stop o p why e i h) a = absurd (a (record { why = why; is = e; short = lacking_short why i }))
+  event_shown _ _ (until_either o p why r e i x h k) a = absurd (a (record { why = why; is = e; short = lacking_short why i }))
+  event_shown _ _ (until_both_stop o p why other e x i j h k) a = absurd (a (record { why = why; is = e; short = lacking_short why i }))
 
 -- two lists of which one begins with the other, and a front of the first
 front_begins : (x y z : List ℕ) → Begins x y → OneBegins y z → OneBegins x z
 front_begins x y z h (inl k) = inl (begins_trans x y z h k)
 front_begins x y z h (inr k) = both_begin x z y h k
 
-either_shown : (o p : Ran) → RunsAgree o p → OneBegins (printed_first p) o.state.outside.output × OneBegins (noted_first p) o.state.outside.notes
-either_shown _ _ (alike o p e x y) = let h : HasShown (printed_first p) (noted_first p) o.state.outside = first_shown o p (subst (λ z. HasShown z.output z.notes o.state.outside) x (shown_refl o.state.outside)) in (inl h.output, inl h.notes)
-either_shown _ _ (until_event o p r e h) = let k : HasShown (printed_first p) (noted_first p) o.state.outside = shown_at_event o p r e h in (inl k.output, inl k.notes)
-either_shown _ _ (until_right_stop o p why e i h) = let k : HasShown (printed_first p) (noted_first p) o.state.outside = first_shown o p h in (inl k.output, inl k.notes)
-either_shown _ _ (until_left_stop o p why e i h) =
-    (both_begin _ _ p.state.outside.output (printed_begins p.state.watched.event p.state.outside.output) h.output, both_begin _ _ p.state.outside.notes (noted_begins p.state.watched.event p.state.outside.notes) h.notes)
-either_shown _ _ (until_either o p why r e i x h k) =
-    (subst (λ w. OneBegins (printed_by w p.state.outside.output) o.state.outside.output) (sym x) h, subst (λ w. OneBegins (noted_by w p.state.outside.notes) o.state.outside.notes) (sym x) k)
-either_shown _ _ (until_both_stop o p why other e x i j h k) =
-    (front_begins _ _ _ (printed_begins p.state.watched.event p.state.outside.output) h, front_begins _ _ _ (noted_begins p.state.watched.event p.state.outside.notes) k)
+module _ {bounds : Bounds} where
+  either_shown : (o p : Ran) → RunsAgree bounds o p → OneBegins (printed_first p) o.state.outside.output × OneBegins (noted_first p) o.state.outside.notes
+  either_shown _ _ (alike o p e x y) = let h : HasShown (printed_first p) (noted_first p) o.state.outside = first_shown o p (subst (λ z. HasShown z.output z.notes o.state.outside) x (shown_refl o.state.outside)) in (inl h.output, inl h.notes)
+  either_shown _ _ (until_event o p r e h) = let k : HasShown (printed_first p) (noted_first p) o.state.outside = shown_at_event o p r e h in (inl k.output, inl k.notes)
+  either_shown _ _ (until_right_stop o p why e i h) = let k : HasShown (printed_first p) (noted_first p) o.state.outside = first_shown o p h in (inl k.output, inl k.notes)
+  either_shown _ _ (until_left_stop o p why e i h) =
+      (both_begin _ _ p.state.outside.output (printed_begins p.state.watched.event p.state.outside.output) h.output, both_begin _ _ p.state.outside.notes (noted_begins p.state.watched.event p.state.outside.notes) h.notes)
+  either_shown _ _ (until_either o p why r e i x h k) =
+      (subst (λ w. OneBegins (printed_by w p.state.outside.output) o.state.outside.output) (sym x) h, subst (λ w. OneBegins (noted_by w p.state.outside.notes) o.state.outside.notes) (sym x) k)
+  either_shown _ _ (until_both_stop o p why other e x i j h k) =
+      (front_begins _ _ _ (printed_begins p.state.watched.event p.state.outside.output) h, front_begins _ _ _ (noted_begins p.state.watched.event p.state.outside.notes) k)
 
 -- ---- the law
 
-pub code_agrees : LoopFacts → CodeAgrees
+pub code_agrees : ((bounds : Bounds) → LoopFacts bounds) → CodeAgrees
 code_agrees facts = record {
-  runs = λ s l m cells source sound ready r e. bytes_agree facts (names_of s) (all_both s.bindings) l m source (running s) (walking cells s) r (record { like = begins_like s cells sound e; places = all_both_whole s.bindings; ready = ready_walking s cells ready });
-  same = same_run;
-  event = event_shown;
-  front = front_of;
-  either = either_shown;
+  runs = λ s l m cells source sound ready r e. bytes_agree (facts (bounds_of m cells)) (names_of s) (all_both s.bindings) l m source (running s) (walking cells s) (record { is = r; bound = refl }) (record { like = begins_like s cells sound e refl; places = all_both_whole s.bindings; ready = ready_walking s cells ready });
+  same = λ bounds. same_run;
+  event = λ bounds. event_shown;
+  front = λ bounds. front_of;
+  either = λ bounds. either_shown;
+  bound = λ bounds. bound_met;
 }

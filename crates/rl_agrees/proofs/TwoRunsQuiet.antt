@@ -9,7 +9,7 @@ use Rattle.rl_meaning.specs.Symbols.{nil}
 use Rattle.rl_meaning.specs.Errors.{fail}
 use Rattle.rl_meaning.specs.Opening.{state_of}
 use Rattle.rl_meaning.specs.TwoRunsValues.{Names, SameValue}
-use Rattle.rl_meaning.specs.TwoRunsStates.{Place, Like, Roomier}
+use Rattle.rl_meaning.specs.TwoRunsStates.{Bounds, Place, Like, Roomier}
 use Rattle.rl_meaning.specs.TwoRunsEnds.{Begins, HasShown, short_of_levels, Parted, Related, done, failed, went, returned, stopped, parted}
 use Rattle.rl_meaning.specs.TwoRunsEnds as ends
 use Rattle.rl_agrees.specs.Later.{Later}
@@ -35,18 +35,19 @@ begins_taken i xs = record { rest = drop i xs; is = sym (take-append-drop i xs) 
 pub shows_same : {A : Type 0} (x : Outside) (o : Outcome A) → HasOutside x o → Shows x o
 shows_same x o e = subst (λ y. HasShown x.output x.notes y) (sym e) (record { output = begins_same x.output; notes = begins_same x.notes })
 
--- outcomes that are alike, or of which one stops short, where neither prints
-pub quiet_ends : {A : Type 0} {R : Names → A → A → Type 0} (n : Names) (ps : List Place) (x : Outside) (o p : Outcome A) → HasOutside x o → HasOutside x p → Beside R n ps o p → Related Parted R n ps o p
-quiet_ends n ps x o p e f (done m a b s t g r l) = done m a b s t g r l
-quiet_ends n ps x o p e f (failed m z v w s t g r l) = failed m z v w s t g r l
-quiet_ends n ps x o p e f (went m i s t g l) = went m i s t g l
-quiet_ends n ps x o p e f (returned m v w s t g r l) = returned m v w s t g r l
-quiet_ends n ps x o p e f (stopped why s t h) = stopped why s t h
-quiet_ends {A = A} n ps x o p e f (parted _ _ a) = parted o p (at o p e f a)
-  where
-    at : (o p : Outcome A) → HasOutside x o → HasOutside x p → Short o p → Parted o p
-    at _ _ e f (right_short o why t i) = ends.right_short o why t i (subst (λ y. Shows y o) (sym f) (shows_same x o e))
-    at _ _ e f (left_short why s p i) = ends.left_short why s p i (subst (λ y. Shows y p) (sym e) (shows_same x p f))
+module _ {bounds : Bounds} where
+  -- outcomes that are alike, or of which one stops short, where neither prints
+  pub quiet_ends : {A : Type 0} {R : Names → A → A → Type 0} (n : Names) (ps : List Place) (x : Outside) (o p : Outcome A) → HasOutside x o → HasOutside x p → Beside bounds R n ps o p → Related bounds (Parted bounds) R n ps o p
+  quiet_ends n ps x o p e f (done m a b s t g r l) = done m a b s t g r l
+  quiet_ends n ps x o p e f (failed m z v w s t g r l) = failed m z v w s t g r l
+  quiet_ends n ps x o p e f (went m i s t g l) = went m i s t g l
+  quiet_ends n ps x o p e f (returned m v w s t g r l) = returned m v w s t g r l
+  quiet_ends n ps x o p e f (stopped why s t h) = stopped why s t h
+  quiet_ends {A = A} n ps x o p e f (parted _ _ a) = parted o p (at o p e f a)
+    where
+      at : (o p : Outcome A) → HasOutside x o → HasOutside x p → Short bounds o p → Parted bounds o p
+      at _ _ e f (right_short o why t i) = ends.right_short o why t i (subst (λ y. Shows y o) (sym f) (shows_same x o e))
+      at _ _ e f (left_short why s p i) = ends.left_short why s p i (subst (λ y. Shows y p) (sym e) (shows_same x p f))
 
 -- ---- an error, which prints nothing
 
@@ -122,8 +123,9 @@ fail_quits A i v x s e =
 pub fail_outside : (A : Type 0) (i : ℕ) (v : Value) (s : State) → HasOutside {A = A} s.outside (fail i v s)
 fail_outside A i v s = quits_outside s.outside _ (fail_quits A i v s.outside s refl)
 
-pub fail_ends : {A : Type 0} {R : Names → A → A → Type 0} (n : Names) (ps : List Place) (i : ℕ) (v w : Value) (s t : State) → SameValue n v w → Like n ps s t → Related {A = A} Parted R n ps (fail i v s) (fail i w t)
-fail_ends {A = A} n ps i v w s t r l = quiet_ends n ps s.outside _ _ (fail_outside A i v s) (fail_outside A i w t ∙ sym l.outside) (fail_related n ps i v w s t l r)
+module _ {bounds : Bounds} where
+  pub fail_ends : {A : Type 0} {R : Names → A → A → Type 0} (n : Names) (ps : List Place) (i : ℕ) (v w : Value) (s t : State) → SameValue n v w → Like bounds n ps s t → Related bounds {A = A} (Parted bounds) R n ps (fail i v s) (fail i w t)
+  fail_ends {A = A} n ps i v w s t r l = quiet_ends n ps s.outside _ _ (fail_outside A i v s) (fail_outside A i w t ∙ sym l.outside) (fail_related n ps i v w s t l r)
 
 -- ---- levels
 
@@ -142,28 +144,28 @@ entered_shows : {A : Type 0} (s : State) (f : Levels → Outcome A) → ((l : Le
 entered_shows s f left true l = left (Some l)
 entered_shows {A = A} s f left false l = shows_same {A = A} s.outside (Stopped Depth s) refl
 
-module _ {A : Type 0} {R : Names → A → A → Type 0} (n : Names) (ps : List Place) (s t : State) (f g : Levels → Outcome A) (same : s.outside ≡ t.outside) (left : (l : Levels) → Shows s.outside (f l)) (right : (m : Levels) → Shows t.outside (g m)) where
-  right_depth : (o : Outcome A) → Shows s.outside o → Related Parted R n ps o (Stopped Depth t)
+module _ {bounds : Bounds} {A : Type 0} {R : Names → A → A → Type 0} (n : Names) (ps : List Place) (s t : State) (f g : Levels → Outcome A) (same : s.outside ≡ t.outside) (left : (l : Levels) → Shows s.outside (f l)) (right : (m : Levels) → Shows t.outside (g m)) where
+  right_depth : (o : Outcome A) → Shows s.outside o → Related bounds (Parted bounds) R n ps o (Stopped Depth t)
   right_depth o h = parted o (Stopped Depth t) (ends.right_short o Depth t short_of_levels (subst (λ y. Shows y o) same h))
 
-  left_depth : (p : Outcome A) → Shows t.outside p → Related Parted R n ps (Stopped Depth s) p
-  left_depth p h = parted (Stopped Depth s) p (ends.left_short Depth s p short_of_levels (subst (λ y. Shows y p) (sym same) h))
+  left_depth : (p : Outcome A) → bounds.levels ≡ false → Shows t.outside p → Related bounds (Parted bounds) R n ps (Stopped Depth s) p
+  left_depth p x h = parted (Stopped Depth s) p (ends.left_short Depth s p (ends.lacks_levels x) (subst (λ y. Shows y p) (sym same) h))
 
-  entered_ends : (b c : Bool) (l m : ℕ) → (c ≡ true → b ≡ true) → Related Parted R n ps (f (Some l)) (g (Some m)) → Related Parted R n ps (entered b l s f) (entered c m t g)
+  entered_ends : (b c : Bool) (l m : ℕ) → (c ≡ true → b ≡ true) → Related bounds (Parted bounds) R n ps (f (Some l)) (g (Some m)) → Related bounds (Parted bounds) R n ps (entered b l s f) (entered c m t g)
   entered_ends true true l m e h = h
   entered_ends false true l m e h = absurd (let x : false ≡ true = e refl in cc)
   entered_ends b false l m e h = right_depth (entered b l s f) (entered_shows s f left b l)
 
-  left_entered : (b : Bool) (l : ℕ) → Related Parted R n ps (f (Some l)) (g None) → Related Parted R n ps (entered b l s f) (g None)
-  left_entered true l h = h
-  left_entered false l h = left_depth (g None) (right None)
+  left_entered : (b : Bool) (l : ℕ) → bounds.levels ≡ false → Related bounds (Parted bounds) R n ps (f (Some l)) (g None) → Related bounds (Parted bounds) R n ps (entered b l s f) (g None)
+  left_entered true l x h = h
+  left_entered false l x h = left_depth (g None) x (right None)
 
-  right_entered : (c : Bool) (m : ℕ) → Related Parted R n ps (f None) (g (Some m)) → Related Parted R n ps (f None) (entered c m t g)
+  right_entered : (c : Bool) (m : ℕ) → Related bounds (Parted bounds) R n ps (f None) (g (Some m)) → Related bounds (Parted bounds) R n ps (f None) (entered c m t g)
   right_entered true m h = h
   right_entered false m h = right_depth (f None) (left None)
 
-  pub deeper_ends : (i : ℕ) (l m : Levels) → Roomier l m → ((l m : Levels) → Roomier l m → Related Parted R n ps (f l) (g m)) → Related Parted R n ps (deeper i l s f) (deeper i m t g)
+  pub deeper_ends : (i : ℕ) (l m : Levels) → Roomier bounds l m → ((l m : Levels) → Roomier bounds l m → Related bounds (Parted bounds) R n ps (f l) (g m)) → Related bounds (Parted bounds) R n ps (deeper i l s f) (deeper i m t g)
   deeper_ends i None None r h = h None None r
-  deeper_ends i (Some l) None r h = left_entered (nat_le i l) (l - i) (h (Some (l - i)) None (record { is = tt }))
-  deeper_ends i None (Some m) r h = right_entered (nat_le i m) (m - i) (h None (Some (m - i)) (record { is = tt }))
-  deeper_ends i (Some l) (Some m) r h = let le : m ≤ l = r.is in entered_ends (nat_le i l) (nat_le i m) (l - i) (m - i) (wider i l m le) (h (Some (l - i)) (Some (m - i)) (record { is = omega (arith, le) }))
+  deeper_ends i (Some l) None r h = left_entered (nat_le i l) (l - i) (sym r.bound) (h (Some (l - i)) None (record { is = tt; bound = r.bound }))
+  deeper_ends i None (Some m) r h = right_entered (nat_le i m) (m - i) (h None (Some (m - i)) (record { is = tt; bound = r.bound }))
+  deeper_ends i (Some l) (Some m) r h = let le : m ≤ l = r.is in entered_ends (nat_le i l) (nat_le i m) (l - i) (m - i) (wider i l m le) (h (Some (l - i)) (Some (m - i)) (record { is = omega (arith, le); bound = r.bound }))

@@ -9,18 +9,19 @@ use Rattle.rl_meaning.specs.State.{State}
 use Rattle.rl_meaning.specs.Symbols.{is_nil, parts_of, pair_at, with_first, list_within, list_elements}
 use Rattle.rl_meaning.specs.Holding.{is_improper_within, is_improper}
 use Rattle.rl_meaning.specs.TwoRunsValues.{Names, Maybe, nothing, just, Each, end, more, SameValue, SameParts, same_parts}
-use Rattle.rl_meaning.specs.TwoRunsStates.{Place, Like}
+use Rattle.rl_meaning.specs.TwoRunsStates.{Bounds, Place, Like}
 use Rattle.rl_agrees.proofs.TwoRunsObjects.{pair_same, nil_same}
 
--- the same fuel gives the same answer on both sides
-improper_same : (i : ℕ) (n : Names) (ps : List Place) (s t : State) (v w : Value) → Like n ps s t → SameValue n v w → is_improper_within i s v ≡ is_improper_within i t w
-improper_same zero n ps s t v w l h = refl
-improper_same (suc i) n ps s t v w l h = at _ _ (pair_same n ps s t v w l h) (λ a b k. improper_same i n ps s t a b l k)
-  where
-    at : (o p : Option (Value × Value)) → Maybe (SameParts n) o p → ((a b : Value) → SameValue n a b → is_improper_within i s a ≡ is_improper_within i t b)
-        → elim o as (λ (o : Option (Value × Value)). Bool) [ None ↦ not (is_nil v) | Some parts ↦ is_improper_within i s parts.1 ] ≡ elim p as (λ (o : Option (Value × Value)). Bool) [ None ↦ not (is_nil w) | Some parts ↦ is_improper_within i t parts.1 ]
-    at _ _ nothing k = ap (λ b. not b) (nil_same n v w h)
-    at _ _ (just _ _ (same_parts a d b e x y)) k = k d e y
+module _ {bounds : Bounds} where
+  -- the same fuel gives the same answer on both sides
+  improper_same : (i : ℕ) (n : Names) (ps : List Place) (s t : State) (v w : Value) → Like bounds n ps s t → SameValue n v w → is_improper_within i s v ≡ is_improper_within i t w
+  improper_same zero n ps s t v w l h = refl
+  improper_same (suc i) n ps s t v w l h = at _ _ (pair_same n ps s t v w l h) (λ a b k. improper_same i n ps s t a b l k)
+    where
+      at : (o p : Option (Value × Value)) → Maybe (SameParts n) o p → ((a b : Value) → SameValue n a b → is_improper_within i s a ≡ is_improper_within i t b)
+          → elim o as (λ (o : Option (Value × Value)). Bool) [ None ↦ not (is_nil v) | Some parts ↦ is_improper_within i s parts.1 ] ≡ elim p as (λ (o : Option (Value × Value)). Bool) [ None ↦ not (is_nil w) | Some parts ↦ is_improper_within i t parts.1 ]
+      at _ _ nothing k = ap (λ b. not b) (nil_same n v w h)
+      at _ _ (just _ _ (same_parts a d b e x y)) k = k d e y
 
 module _ (s : State) where
   -- the list comes to its end behind so many pairs
@@ -128,10 +129,11 @@ module _ (s : State) where
       at (inr f) (inl g) = enough g.count v g.ends i j (omega (arith, no_longer g.count v g.ends, l)) g.less
       at (inr f) (inr g) = f ∙ sym g
 
-pub is_improper_same : (n : Names) (ps : List Place) (s t : State) (v w : Value) → Like n ps s t → SameValue n v w → is_improper s v ≡ is_improper t w
-is_improper_same n ps s t v w l h =
-    let i : ℕ = suc (length s.store + length t.store) in
-    steady s v (suc (length s.store)) i (omega arith) (omega arith) ∙ improper_same i n ps s t v w l h ∙ steady t w i (suc (length t.store)) (omega arith) (omega arith)
+module _ {bounds : Bounds} where
+  pub is_improper_same : (n : Names) (ps : List Place) (s t : State) (v w : Value) → Like bounds n ps s t → SameValue n v w → is_improper s v ≡ is_improper t w
+  is_improper_same n ps s t v w l h =
+      let i : ℕ = suc (length s.store + length t.store) in
+      steady s v (suc (length s.store)) i (omega arith) (omega arith) ∙ improper_same i n ps s t v w l h ∙ steady t w i (suc (length t.store)) (omega arith) (omega arith)
 
 -- ---- the elements of a list
 
@@ -139,14 +141,15 @@ first_same : (n : Names) (v w : Value) (o p : Option (List Value)) → SameValue
 first_same n v w _ _ h nothing = nothing
 first_same n v w _ _ h (just xs ys k) = just _ _ (more v w xs ys h k)
 
-within_same : (i : ℕ) (n : Names) (ps : List Place) (s t : State) (v w : Value) → Like n ps s t → SameValue n v w → Maybe (Each (SameValue n)) (list_within i s v) (list_within i t w)
-within_same zero n ps s t v w l h = nothing
-within_same (suc i) n ps s t v w l h = at _ _ (pair_same n ps s t v w l h) (λ a b k. within_same i n ps s t a b l k)
-  where
-    at : (o p : Option (Value × Value)) → Maybe (SameParts n) o p → ((a b : Value) → SameValue n a b → Maybe (Each (SameValue n)) (list_within i s a) (list_within i t b))
-        → Maybe (Each (SameValue n)) (elim o as (λ (o : Option (Value × Value)). Option (List Value)) [ None ↦ Some [] | Some parts ↦ with_first parts.0 (list_within i s parts.1) ]) (elim p as (λ (o : Option (Value × Value)). Option (List Value)) [ None ↦ Some [] | Some parts ↦ with_first parts.0 (list_within i t parts.1) ])
-    at _ _ nothing k = just _ _ end
-    at _ _ (just _ _ (same_parts a d b e x y)) k = first_same n a b _ _ x (k d e y)
+module _ {bounds : Bounds} where
+  within_same : (i : ℕ) (n : Names) (ps : List Place) (s t : State) (v w : Value) → Like bounds n ps s t → SameValue n v w → Maybe (Each (SameValue n)) (list_within i s v) (list_within i t w)
+  within_same zero n ps s t v w l h = nothing
+  within_same (suc i) n ps s t v w l h = at _ _ (pair_same n ps s t v w l h) (λ a b k. within_same i n ps s t a b l k)
+    where
+      at : (o p : Option (Value × Value)) → Maybe (SameParts n) o p → ((a b : Value) → SameValue n a b → Maybe (Each (SameValue n)) (list_within i s a) (list_within i t b))
+          → Maybe (Each (SameValue n)) (elim o as (λ (o : Option (Value × Value)). Option (List Value)) [ None ↦ Some [] | Some parts ↦ with_first parts.0 (list_within i s parts.1) ]) (elim p as (λ (o : Option (Value × Value)). Option (List Value)) [ None ↦ Some [] | Some parts ↦ with_first parts.0 (list_within i t parts.1) ])
+      at _ _ nothing k = just _ _ end
+      at _ _ (just _ _ (same_parts a d b e x y)) k = first_same n a b _ _ x (k d e y)
 
 module _ (s : State) where
   list_enough : (n : ℕ) (v : Value) → Ends s n v → (i j : ℕ) → n < i → n < j → list_within i s v ≡ list_within j s v
@@ -175,8 +178,9 @@ module _ (s : State) where
       at (inr f) (inl g) = list_enough g.count v g.ends i j (omega (arith, no_longer s g.count v g.ends, l)) g.less
       at (inr f) (inr g) = f ∙ sym g
 
-pub list_elements_same : (n : Names) (ps : List Place) (s t : State) (v w : Value) → Like n ps s t → SameValue n v w → Maybe (Each (SameValue n)) (list_elements s v) (list_elements t w)
-list_elements_same n ps s t v w l h =
-    let i : ℕ = suc (length s.store + length t.store) in
-    subst (λ o. Maybe (Each (SameValue n)) o (list_within (suc (length t.store)) t w)) (sym (list_steady s v (suc (length s.store)) i (omega arith) (omega arith)))
-    (subst (λ o. Maybe (Each (SameValue n)) (list_within i s v) o) (list_steady t w i (suc (length t.store)) (omega arith) (omega arith)) (within_same i n ps s t v w l h))
+module _ {bounds : Bounds} where
+  pub list_elements_same : (n : Names) (ps : List Place) (s t : State) (v w : Value) → Like bounds n ps s t → SameValue n v w → Maybe (Each (SameValue n)) (list_elements s v) (list_elements t w)
+  list_elements_same n ps s t v w l h =
+      let i : ℕ = suc (length s.store + length t.store) in
+      subst (λ o. Maybe (Each (SameValue n)) o (list_within (suc (length t.store)) t w)) (sym (list_steady s v (suc (length s.store)) i (omega arith) (omega arith)))
+      (subst (λ o. Maybe (Each (SameValue n)) (list_within i s v) o) (list_steady t w i (suc (length t.store)) (omega arith) (omega arith)) (within_same i n ps s t v w l h))

@@ -9,7 +9,7 @@ use Rattle.rl_meaning.specs.Events.{first_event}
 use Rattle.rl_meaning.specs.Opening.{state_of}
 use Rattle.rl_meaning.specs.Variables.{Nearest, nearest_from, is_local, strays, use_strays, top_value, used, variable, with_nearest, with_value, stray_of, assigned, assigned_by_name}
 use Rattle.rl_meaning.specs.TwoRunsValues.{Names, Maybe, nothing, just, SameValue, same_id, SameSymbol, same_symbol, SamePointer}
-use Rattle.rl_meaning.specs.TwoRunsStates.{Place, Both, BothMark, Hidden, HiddenMark, Aligned, bottom, both, both_mark, hidden, hidden_mark, Shown, Like}
+use Rattle.rl_meaning.specs.TwoRunsStates.{Bounds, Place, Both, BothMark, Hidden, HiddenMark, Aligned, bottom, both, both_mark, hidden, hidden_mark, Shown, Like}
 use Rattle.rl_meaning.specs.TwoRunsEnds.{HasShown, Parted, by_event, done, parted, Ends}
 use Rattle.rl_agrees.proofs.TwoRunsGrowth.{grows_refl}
 use Rattle.rl_agrees.proofs.TwoRunsWays.{watched_like}
@@ -26,20 +26,21 @@ some_event : (o : Option Recorded) (event : Event) (t : State) → SomeEvent o e
 some_event (Some r) event t = record { recorded = r; is = refl }
 some_event None event t = record { recorded = _; is = refl }
 
--- the right run has an event, and both had printed the same
-event_parts : {A : Type 0} (event : Event) (t : State) (o p : Outcome A) → HasOutside t.outside o → HasOutside t.outside p → (state_of p).watched.event ≡ first_event t.watched.event event t → Parted o p
-event_parts event t o p e f g =
-    let r : SomeEvent t.watched.event event t = some_event t.watched.event event t in
-    by_event o p r.recorded (g ∙ r.is)
-    (subst (λ y. HasShown (take r.recorded.printed y.output) (take r.recorded.noted y.notes) (state_of o).outside) (sym f)
-    (subst (λ y. HasShown (take r.recorded.printed t.outside.output) (take r.recorded.noted t.outside.notes) y) (sym e)
-    (record { output = begins_taken r.recorded.printed t.outside.output; notes = begins_taken r.recorded.noted t.outside.notes })))
+module _ {bounds : Bounds} where
+  -- the right run has an event, and both had printed the same
+  event_parts : {A : Type 0} (event : Event) (t : State) (o p : Outcome A) → HasOutside t.outside o → HasOutside t.outside p → (state_of p).watched.event ≡ first_event t.watched.event event t → Parted bounds o p
+  event_parts event t o p e f g =
+      let r : SomeEvent t.watched.event event t = some_event t.watched.event event t in
+      by_event o p r.recorded (g ∙ r.is)
+      (subst (λ y. HasShown (take r.recorded.printed y.output) (take r.recorded.noted y.notes) (state_of o).outside) (sym f)
+      (subst (λ y. HasShown (take r.recorded.printed t.outside.output) (take r.recorded.noted t.outside.notes) y) (sym e)
+      (record { output = begins_taken r.recorded.printed t.outside.output; notes = begins_taken r.recorded.noted t.outside.notes })))
 
-strays_like : (n : Names) (ps : List Place) (b c : Bool) (x : ℕ) (s t : State) → Like n ps s t → Like n ps (strays b x s) (strays c x t)
-strays_like n ps true true x s t l = watched_like n ps s t _ _ l
-strays_like n ps true false x s t l = watched_like n ps s t _ t.watched l
-strays_like n ps false true x s t l = watched_like n ps s t s.watched _ l
-strays_like n ps false false x s t l = l
+  strays_like : (n : Names) (ps : List Place) (b c : Bool) (x : ℕ) (s t : State) → Like bounds n ps s t → Like bounds n ps (strays b x s) (strays c x t)
+  strays_like n ps true true x s t l = watched_like n ps s t _ _ l
+  strays_like n ps true false x s t l = watched_like n ps s t _ t.watched l
+  strays_like n ps false true x s t l = watched_like n ps s t s.watched _ l
+  strays_like n ps false false x s t l = l
 
 strays_outside : (b : Bool) (x : ℕ) (s : State) → (strays b x s).outside ≡ s.outside
 strays_outside true x s = refl
@@ -128,9 +129,10 @@ module _ (test : Nearest → Bool) (deep : Deep test) (n : Names) (x : ℕ) wher
 top_same : (n : Names) (x y : Symbol) → SameSymbol n x y → Maybe (SameValue n) x.top y.top
 top_same n _ _ (same_symbol name interned system kind a b p q d e h k l) = h
 
-top_ends : (n : Names) (ps : List Place) (o p : Option Value) (x : ℕ) (s t : State) → Maybe (SameValue n) o p → Like n ps s t → Ends n ps (top_value o x s) (top_value p x t)
-top_ends n ps _ _ x s t nothing l = fail_ends n ps unbound (Id x) (Id x) s t (same_id x) l
-top_ends n ps _ _ x s t (just v w h) l = done n v w s t (grows_refl n) h l
+module _ {bounds : Bounds} where
+  top_ends : (n : Names) (ps : List Place) (o p : Option Value) (x : ℕ) (s t : State) → Maybe (SameValue n) o p → Like bounds n ps s t → Ends bounds n ps (top_value o x s) (top_value p x t)
+  top_ends n ps _ _ x s t nothing l = fail_ends n ps unbound (Id x) (Id x) s t (same_id x) l
+  top_ends n ps _ _ x s t (just v w h) l = done n v w s t (grows_refl n) h l
 
 top_outside : (o : Option Value) (x : ℕ) (s : State) → HasOutside s.outside (top_value o x s)
 top_outside (Some v) x s = refl
@@ -140,48 +142,50 @@ used_outside : (o : Option Nearest) (x : ℕ) (s : State) → HasOutside s.outsi
 used_outside None x s = top_outside (symbol_at s x).top x s
 used_outside (Some b) x s = strays_outside (use_strays b) x s
 
-used_ends : (n : Names) (ps : List Place) (x : ℕ) (xs ys : List Entry) (o p : Option Nearest) (s t : State) → SameNearest use_strays n x ps xs ys o p → Like n ps s t → Ends n ps (used o x s) (used p x t)
-used_ends n ps x xs ys _ _ s t nowhere l = top_ends n ps _ _ x s t (top_same n _ _ (symbol_same n ps s t x l)) l
-used_ends n ps x xs ys _ _ s t (found scope v w below below' h k) l = done n v w _ _ (grows_refl n) h (strays_like n ps _ _ x s t l)
-used_ends n ps x xs ys _ _ s t (missed o w below h) l =
-    parted _ _ (subst (λ b. Parted (used o x s) (Done w (strays b x t))) (sym h) (event_parts (Stray x) t (used o x s) (Done w (strays true x t)) (used_outside o x s ∙ l.outside) refl refl))
+module _ {bounds : Bounds} where
+  used_ends : (n : Names) (ps : List Place) (x : ℕ) (xs ys : List Entry) (o p : Option Nearest) (s t : State) → SameNearest use_strays n x ps xs ys o p → Like bounds n ps s t → Ends bounds n ps (used o x s) (used p x t)
+  used_ends n ps x xs ys _ _ s t nowhere l = top_ends n ps _ _ x s t (top_same n _ _ (symbol_same n ps s t x l)) l
+  used_ends n ps x xs ys _ _ s t (found scope v w below below' h k) l = done n v w _ _ (grows_refl n) h (strays_like n ps _ _ x s t l)
+  used_ends n ps x xs ys _ _ s t (missed o w below h) l =
+      parted _ _ (subst (λ b. Parted bounds (used o x s) (Done w (strays b x t))) (sym h) (event_parts (Stray x) t (used o x s) (Done w (strays true x t)) (used_outside o x s ∙ l.outside) refl refl))
 
-pub variable_related : (n : Names) (ps : List Place) (x : ℕ) (s t : State) → Shown ps → Like n ps s t → Ends n ps (variable x s) (variable x t)
-variable_related n ps x s t w l = used_ends n ps x _ _ _ _ s t (nearest_same use_strays (λ w. refl) n x false false ps s.bindings t.bindings (inr w) l.bindings) l
+  pub variable_related : (n : Names) (ps : List Place) (x : ℕ) (s t : State) → Shown ps → Like bounds n ps s t → Ends bounds n ps (variable x s) (variable x t)
+  variable_related n ps x s t w l = used_ends n ps x _ _ _ _ s t (nearest_same use_strays (λ w. refl) n x false false ps s.bindings t.bindings (inr w) l.bindings) l
 
--- ---- setting
+  -- ---- setting
 
-pub bindings_like : (n : Names) (ps qs : List Place) (s t : State) (xs ys : List Entry) → Like n ps s t → Aligned n qs xs ys → Like n qs (record s { bindings = xs }) (record t { bindings = ys })
-bindings_like n ps qs s t xs ys l h = record { store = l.store; functions = l.functions; symbols = l.symbols; bindings = h; counts = l.counts; outside = l.outside; gensyms = l.gensyms; compilation = l.compilation }
+  pub bindings_like : (n : Names) (ps qs : List Place) (s t : State) (xs ys : List Entry) → Like bounds n ps s t → Aligned n qs xs ys → Like bounds n qs (record s { bindings = xs }) (record t { bindings = ys })
+  bindings_like n ps qs s t xs ys l h = record { store = l.store; functions = l.functions; symbols = l.symbols; bindings = h; counts = l.counts; outside = l.outside; gensyms = l.gensyms; compilation = l.compilation }
 
 set_outside : (test : Nearest → Bool) (o : Option Nearest) (x : ℕ) (v : Value) (s : State) → (with_value o x v (strays (stray_of test o) x s)).outside ≡ s.outside
 set_outside test None x v s = refl
 set_outside test (Some b) x v s = strays_outside (test b) x s
 
-set_ends : (test : Nearest → Bool) (n : Names) (ps : List Place) (x : ℕ) (v w : Value) (s t : State) (o p : Option Nearest) → SameNearest test n x ps s.bindings t.bindings o p → SameValue n v w → Like n ps s t
-    → Ends n ps (Done v (with_value o x v (strays (stray_of test o) x s))) (Done w (with_value p x w (strays (stray_of test p) x t)))
-set_ends test n ps x v w s t _ _ nowhere r l = done n v w _ _ (grows_refl n) r (with_top_like n ps x v w s t l r)
-set_ends test n ps x v w s t _ _ (found scope a b below below' i j) r l =
-    done n v w _ _ (grows_refl n) r (set (test (record { scope = scope; value = a; below = below })) (test (record { scope = scope; value = b; below = below' })))
-  where
-    set : (c d : Bool) → Like n ps (with_value (Some (record { scope = scope; value = a; below = below })) x v (strays c x s)) (with_value (Some (record { scope = scope; value = b; below = below' })) x w (strays d x t))
-    set true true = bindings_like n ps ps _ _ _ _ (strays_like n ps true true x s t l) (j v w r)
-    set true false = bindings_like n ps ps _ _ _ _ (strays_like n ps true false x s t l) (j v w r)
-    set false true = bindings_like n ps ps _ _ _ _ (strays_like n ps false true x s t l) (j v w r)
-    set false false = bindings_like n ps ps _ _ _ _ l (j v w r)
-set_ends test n ps x v w s t _ _ (missed o u below h) r l =
-    parted _ _ (subst (λ b. Parted (Done v (with_value o x v (strays (stray_of test o) x s))) (Done w (with_value (Some (local_at u below)) x w (strays b x t)))) (sym h)
-    (event_parts (Stray x) t (Done v (with_value o x v (strays (stray_of test o) x s))) (Done w (with_value (Some (local_at u below)) x w (strays true x t))) (set_outside test o x v s ∙ l.outside) refl refl))
+module _ {bounds : Bounds} where
+  set_ends : (test : Nearest → Bool) (n : Names) (ps : List Place) (x : ℕ) (v w : Value) (s t : State) (o p : Option Nearest) → SameNearest test n x ps s.bindings t.bindings o p → SameValue n v w → Like bounds n ps s t
+      → Ends bounds n ps (Done v (with_value o x v (strays (stray_of test o) x s))) (Done w (with_value p x w (strays (stray_of test p) x t)))
+  set_ends test n ps x v w s t _ _ nowhere r l = done n v w _ _ (grows_refl n) r (with_top_like n ps x v w s t l r)
+  set_ends test n ps x v w s t _ _ (found scope a b below below' i j) r l =
+      done n v w _ _ (grows_refl n) r (set (test (record { scope = scope; value = a; below = below })) (test (record { scope = scope; value = b; below = below' })))
+    where
+      set : (c d : Bool) → Like bounds n ps (with_value (Some (record { scope = scope; value = a; below = below })) x v (strays c x s)) (with_value (Some (record { scope = scope; value = b; below = below' })) x w (strays d x t))
+      set true true = bindings_like n ps ps _ _ _ _ (strays_like n ps true true x s t l) (j v w r)
+      set true false = bindings_like n ps ps _ _ _ _ (strays_like n ps true false x s t l) (j v w r)
+      set false true = bindings_like n ps ps _ _ _ _ (strays_like n ps false true x s t l) (j v w r)
+      set false false = bindings_like n ps ps _ _ _ _ l (j v w r)
+  set_ends test n ps x v w s t _ _ (missed o u below h) r l =
+      parted _ _ (subst (λ b. Parted bounds (Done v (with_value o x v (strays (stray_of test o) x s))) (Done w (with_value (Some (local_at u below)) x w (strays b x t)))) (sym h)
+      (event_parts (Stray x) t (Done v (with_value o x v (strays (stray_of test o) x s))) (Done w (with_value (Some (local_at u below)) x w (strays true x t))) (set_outside test o x v s ∙ l.outside) refl refl))
 
-constant_ends : (n : Names) (ps : List Place) (x : ℕ) (b : Bool) (s t : State) (f g : State → Outcome Value) → Like n ps s t → Ends n ps (f s) (g t) → Ends n ps (choose b s (λ s. fail not_bindable (Id x) s) f) (choose b t (λ s. fail not_bindable (Id x) s) g)
-constant_ends n ps x true s t f g l h = fail_ends n ps not_bindable (Id x) (Id x) s t (same_id x) l
-constant_ends n ps x false s t f g l h = h
+  constant_ends : (n : Names) (ps : List Place) (x : ℕ) (b : Bool) (s t : State) (f g : State → Outcome Value) → Like bounds n ps s t → Ends bounds n ps (f s) (g t) → Ends bounds n ps (choose b s (λ s. fail not_bindable (Id x) s) f) (choose b t (λ s. fail not_bindable (Id x) s) g)
+  constant_ends n ps x true s t f g l h = fail_ends n ps not_bindable (Id x) (Id x) s t (same_id x) l
+  constant_ends n ps x false s t f g l h = h
 
-pub assigned_related : (n : Names) (ps : List Place) (x : ℕ) (v w : Value) (s t : State) → SameValue n v w → Shown ps → Like n ps s t → Ends n ps (assigned x v s) (assigned x w t)
-assigned_related n ps x v w s t r h l =
-    constant_ends n ps x (is_constant x) s t _ _ l (set_ends use_strays n ps x v w s t _ _ (nearest_same use_strays (λ w. refl) n x false false ps s.bindings t.bindings (inr h) l.bindings) r l)
+  pub assigned_related : (n : Names) (ps : List Place) (x : ℕ) (v w : Value) (s t : State) → SameValue n v w → Shown ps → Like bounds n ps s t → Ends bounds n ps (assigned x v s) (assigned x w t)
+  assigned_related n ps x v w s t r h l =
+      constant_ends n ps x (is_constant x) s t _ _ l (set_ends use_strays n ps x v w s t _ _ (nearest_same use_strays (λ w. refl) n x false false ps s.bindings t.bindings (inr h) l.bindings) r l)
 
--- a SET strays wherever the binding is local
-pub by_name_related : (n : Names) (ps : List Place) (x : ℕ) (v w : Value) (s t : State) → SameValue n v w → Like n ps s t → Ends n ps (assigned_by_name x v s) (assigned_by_name x w t)
-by_name_related n ps x v w s t r l =
-    constant_ends n ps x (is_constant x) s t _ _ l (set_ends (λ b. is_local b.scope) n ps x v w s t _ _ (nearest_same (λ b. is_local b.scope) (λ w. refl) n x false false ps s.bindings t.bindings (inl (λ w. refl)) l.bindings) r l)
+  -- a SET strays wherever the binding is local
+  pub by_name_related : (n : Names) (ps : List Place) (x : ℕ) (v w : Value) (s t : State) → SameValue n v w → Like bounds n ps s t → Ends bounds n ps (assigned_by_name x v s) (assigned_by_name x w t)
+  by_name_related n ps x v w s t r l =
+      constant_ends n ps x (is_constant x) s t _ _ l (set_ends (λ b. is_local b.scope) n ps x v w s t _ _ (nearest_same (λ b. is_local b.scope) (λ w. refl) n x false false ps s.bindings t.bindings (inl (λ w. refl)) l.bindings) r l)

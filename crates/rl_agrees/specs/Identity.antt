@@ -13,7 +13,7 @@ use Rattle.rl_meaning.specs.Jobs.{code_of}
 use Rattle.rl_meaning.specs.Opening.{bare_state}
 use Rattle.rl_meaning.specs.Run.{run_bytes}
 use Rattle.rl_meaning.specs.Right.{Right}
-use Rattle.rl_meaning.specs.TwoRunsStates.{Roomier}
+use Rattle.rl_meaning.specs.TwoRunsStates.{bounds_of, IsRoomier}
 use Rattle.rl_agrees.specs.TwoRunsJobs.{Ready}
 use Rattle.rl_agrees.specs.TwoRunsRuns.{RunsAgree, IsSound, running, walking}
 
@@ -68,6 +68,6 @@ pub record ACodeIsRight : Type 0 where
   pub sound_state : (x : ℕ) → IsSound (identity_state x)
   pub runs : (x : ℕ) → code_of (Some identity_name) (Some identity_pointer) (running (identity_state x)) ≡ Some (identity_code identity_name)
   -- so of each program that starts in it, the run with code agrees with the walk
-  pub agrees : (x : ℕ) (l m : Levels) (cells : Option ℕ) (source : List ℕ) → is_constant x ≡ false → Roomier l m → RunsAgree (run_bytes l source (running (identity_state x))) (run_bytes m source (walking cells (identity_state x)))
+  pub agrees : (x : ℕ) (l m : Levels) (cells : Option ℕ) (source : List ℕ) → is_constant x ≡ false → IsRoomier l m → RunsAgree (bounds_of m cells) (run_bytes l source (running (identity_state x))) (run_bytes m source (walking cells (identity_state x)))
   -- and not all code is right
   pub wrong : (c : Compiler) (lowered : State) (x : ℕ) → is_constant x ≡ false → Right c lowered (nil_coded identity_name identity_pointer) (identity_of x (identity_kept x)) [] → ⊥

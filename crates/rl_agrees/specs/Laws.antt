@@ -1,21 +1,21 @@
 -- Laws of one run: what was there stays, and only a statement of a PROG leaves by GO or RETURN. And the laws of two runs: one in which code runs agrees with the walk of the same program, and so do two walks, of which one may lack local bindings (this project's).
-use Rattle.std.specs.Prelude.{◌≡◌, ℕ, false, List, Option, None}
+use Rattle.std.specs.Prelude.{◌≡◌, ◌⊎◌, ℕ, false, List, Option, None}
 use Rattle.rl_tree.specs.Name.{Name}
 use Rattle.rl_tree.specs.Value.{Value}
 use Rattle.rl_meaning.specs.State.{State}
-use Rattle.rl_meaning.specs.Outcome.{Levels}
+use Rattle.rl_meaning.specs.Outcome.{Levels, Stop}
 use Rattle.rl_meaning.specs.Evaluation.{Job, called}
 use Rattle.rl_meaning.specs.Jobs.{job, jobs, the_compiler}
 use Rattle.rl_meaning.specs.Opening.{state_of}
-use Rattle.rl_meaning.specs.Run.{Ran, run_bytes, run_file}
+use Rattle.rl_meaning.specs.Run.{Ran, Stops, run_bytes, run_file}
 use Rattle.rl_meaning.specs.TwoRunsValues.{Names, Each, SameValue}
-use Rattle.rl_meaning.specs.TwoRunsStates.{Place, Like, IsRoomier, Roomier}
-use Rattle.rl_meaning.specs.TwoRunsEnds.{HasShown, OneBegins, Ends}
+use Rattle.rl_meaning.specs.TwoRunsStates.{Bounds, bounds_of, Place, Like, IsRoomier, Roomier}
+use Rattle.rl_meaning.specs.TwoRunsEnds.{HasShown, IsShort, IsLacking, OneBegins, Ends}
 use Rattle.rl_agrees.specs.Later.{Later}
 use Rattle.rl_agrees.specs.Leaving.{IsPlain, is_statement}
 use Rattle.rl_agrees.specs.TwoRunsJobs.{EventWithin, SameJob, Ready, MayLack}
 use Rattle.rl_agrees.specs.Heads.{IsWalk, IsBelow, HeadsStayIn}
-use Rattle.rl_agrees.specs.TwoRunsRuns.{RunsAgree, HasRoom, HasNoEvent, SameRun, printed_first, noted_first, IsSound, running, walking}
+use Rattle.rl_agrees.specs.TwoRunsRuns.{RunsAgree, StopsShort, HasRoom, HasNoEvent, SameRun, printed_first, noted_first, IsSound, running, walking}
 
 -- the state behind a job, and behind a run, is later than the one before
 pub record RunsGoOn : Type 0 where
@@ -38,21 +38,23 @@ pub record HeadsStay : Type 0 where
 
 pub record CodeAgrees : Type 0 where
   -- from one sound state in which each code is right and rests on what stands, over one source; where both have a bound, that of the walk is no wider
-  pub runs : (s : State) (l m : Levels) (cells : Option ℕ) (source : List ℕ) → IsSound s → Ready the_compiler s → Roomier l m → IsRoomier s.counts.cells cells
-      → RunsAgree (run_bytes l source (running s)) (run_bytes m source (walking cells s))
+  pub runs : (s : State) (l m : Levels) (cells : Option ℕ) (source : List ℕ) → IsSound s → Ready the_compiler s → IsRoomier l m → IsRoomier s.counts.cells cells
+      → RunsAgree (bounds_of m cells) (run_bytes l source (running s)) (run_bytes m source (walking cells s))
   -- which is: where the walk has no event, and neither stops for cells or levels, endings, output, notes, input and turns are the same
-  pub same : (o p : Ran) → RunsAgree o p → HasNoEvent p → HasRoom o → HasRoom p → SameRun o p
+  pub same : (bounds : Bounds) (o p : Ran) → RunsAgree bounds o p → HasNoEvent p → HasRoom o → HasRoom p → SameRun o p
   -- a run that does not stop so prints and notes all that the walk does until its first event
-  pub event : (o p : Ran) → RunsAgree o p → HasRoom o → HasShown (printed_first p) (noted_first p) o.state.outside
+  pub event : (bounds : Bounds) (o p : Ran) → RunsAgree bounds o p → HasRoom o → HasShown (printed_first p) (noted_first p) o.state.outside
   -- a walk that has no event and does not stop so prints and notes all that the run does, wherever the run stops
-  pub front : (o p : Ran) → RunsAgree o p → HasNoEvent p → HasRoom p → HasShown o.state.outside.output o.state.outside.notes p.state.outside
+  pub front : (bounds : Bounds) (o p : Ran) → RunsAgree bounds o p → HasNoEvent p → HasRoom p → HasShown o.state.outside.output o.state.outside.notes p.state.outside
   -- and in any case, of what the run does and what the walk does until its first event, one begins with the other
-  pub either : (o p : Ran) → RunsAgree o p → OneBegins (printed_first p) o.state.outside.output × OneBegins (noted_first p) o.state.outside.notes
+  pub either : (bounds : Bounds) (o p : Ran) → RunsAgree bounds o p → OneBegins (printed_first p) o.state.outside.output × OneBegins (noted_first p) o.state.outside.notes
+  -- beside a walk with no event, a run stops for cells or levels only where the walk has no such bound, or stops for cells or levels too: so with the same bounds a stop of the run is one of the walk
+  pub bound : (bounds : Bounds) (o p : Ran) (why : Stop) → RunsAgree bounds o p → HasNoEvent p → o.ending ≡ Stops why → IsShort why → IsLacking bounds why ⊎ StopsShort p
 
--- two walks from states side by side, of which the left one may lack local bindings that code keeps in slots: they end side by side again, the same bindings lacking; or apart, where the right one has an event, or one of the two stopped for cells or levels
+-- two walks from states side by side, of which the left one may lack local bindings that code keeps in slots: they end side by side again, the same bindings lacking; or apart, where the right one has an event, or one of the two stopped for cells or levels, the left one only where the right one has no such bound
 pub record WalksAgree : Type 0 where
-  pub job_ : (n : Names) (ps : List Place) (j : Job) (s : State) (k : Job) (t : State) → SameJob n j k → Like n ps s t → MayLack j ps → s.compilation.runs_code ≡ false → EventWithin t
-      → Ends n ps (job the_compiler j s) (job the_compiler k t)
+  pub job_ : (bounds : Bounds) (n : Names) (ps : List Place) (j : Job) (s : State) (k : Job) (t : State) → SameJob bounds n j k → Like bounds n ps s t → MayLack j ps → s.compilation.runs_code ≡ false → EventWithin t
+      → Ends bounds n ps (job the_compiler j s) (job the_compiler k t)
   -- so does a function that is called by its name, which code does too
-  pub called_ : (n : Names) (ps : List Place) (i : ℕ) (l m : Levels) (vs ws : List Value) (s t : State) → Roomier l m → Each (SameValue n) vs ws → Like n ps s t → s.compilation.runs_code ≡ false → EventWithin t
-      → Ends n ps (called (jobs the_compiler) i l vs s) (called (jobs the_compiler) i m ws t)
+  pub called_ : (bounds : Bounds) (n : Names) (ps : List Place) (i : ℕ) (l m : Levels) (vs ws : List Value) (s t : State) → Roomier bounds l m → Each (SameValue n) vs ws → Like bounds n ps s t → s.compilation.runs_code ≡ false → EventWithin t
+      → Ends bounds n ps (called (jobs the_compiler) i l vs s) (called (jobs the_compiler) i m ws t)

@@ -9,7 +9,7 @@ use Rattle.rl_meaning.specs.Evaluation.{Position, Here, Bound, Machine, Frame, J
 use Rattle.rl_meaning.specs.Compiling.{Compiler}
 use Rattle.rl_meaning.specs.TwoRunsLinks.{Linked}
 use Rattle.rl_meaning.specs.TwoRunsValues.{Names, Maybe, Each, SameValue, SameTree, SameHeld, SamePointer, SameCode}
-use Rattle.rl_meaning.specs.TwoRunsStates.{Place, Both, BothMark, Shown, Roomier}
+use Rattle.rl_meaning.specs.TwoRunsStates.{Bounds, Place, Both, BothMark, Shown, Roomier}
 use Rattle.rl_meaning.specs.TwoRunsEnds.{Ends}
 use Rattle.rl_meaning.specs.Right.{Stood, AllAsTheyStood, Right}
 use Rattle.rl_agrees.specs.Later.{Later, IsIn}
@@ -30,28 +30,28 @@ pub record Goes (s t : State) : Type 0 where
 
 -- ---- jobs
 
-pub data SameBound : Bound → Bound → Type 0 where
-  same_bound : (count : ℕ) (l m : Levels) → Roomier l m → SameBound (record { count = count; levels = l }) (record { count = count; levels = m })
+pub data SameBound (bounds : Bounds) : Bound → Bound → Type 0 where
+  same_bound : (count : ℕ) (l m : Levels) → Roomier bounds l m → SameBound bounds (record { count = count; levels = l }) (record { count = count; levels = m })
 
-pub data SameMachine (n : Names) : Machine → Machine → Type 0 where
-  same_machine : (rs qs xs ys : List Value) (bs cs : List Bound) (l m : Levels) → Each (SameValue n) rs qs → Each (SameValue n) xs ys → Each SameBound bs cs → Roomier l m
-      → SameMachine n (record { registers = rs; slots = xs; bound = bs; levels = l }) (record { registers = qs; slots = ys; bound = cs; levels = m })
+pub data SameMachine (bounds : Bounds) (n : Names) : Machine → Machine → Type 0 where
+  same_machine : (rs qs xs ys : List Value) (bs cs : List Bound) (l m : Levels) → Each (SameValue n) rs qs → Each (SameValue n) xs ys → Each (SameBound bounds) bs cs → Roomier bounds l m
+      → SameMachine bounds n (record { registers = rs; slots = xs; bound = bs; levels = l }) (record { registers = qs; slots = ys; bound = cs; levels = m })
 
-pub data SameFrame (n : Names) : Frame → Frame → Type 0 where
-  same_frame : (name : ℕ) (f g : Option Pointer) (h k : Held) (c d : Code) (depth : ℕ) (l m : Levels) → Maybe (SamePointer n) f g → SameHeld n h k → SameCode n c d → Roomier l m
-      → SameFrame n (record { name = name; function = f; held = h; code = c; depth = depth; outside = l }) (record { name = name; function = g; held = k; code = d; depth = depth; outside = m })
+pub data SameFrame (bounds : Bounds) (n : Names) : Frame → Frame → Type 0 where
+  same_frame : (name : ℕ) (f g : Option Pointer) (h k : Held) (c d : Code) (depth : ℕ) (l m : Levels) → Maybe (SamePointer n) f g → SameHeld n h k → SameCode n c d → Roomier bounds l m
+      → SameFrame bounds n (record { name = name; function = f; held = h; code = c; depth = depth; outside = l }) (record { name = name; function = g; held = k; code = d; depth = depth; outside = m })
 
-pub data SameHere (n : Names) : Here → Here → Type 0 where
-  same_here : (chain : ℕ) (kept : List Kept) (l m : Levels) (h g : ℕ) → Roomier l m → Linked n.functions h g
-      → SameHere n (record { levels = l; chain = chain; kept = kept; holder = h }) (record { levels = m; chain = chain; kept = kept; holder = g })
+pub data SameHere (bounds : Bounds) (n : Names) : Here → Here → Type 0 where
+  same_here : (chain : ℕ) (kept : List Kept) (l m : Levels) (h g : ℕ) → Roomier bounds l m → Linked n.functions h g
+      → SameHere bounds n (record { levels = l; chain = chain; kept = kept; holder = h }) (record { levels = m; chain = chain; kept = kept; holder = g })
 
-pub data SameJob (n : Names) : Job → Job → Type 0 where
-  same_run : (name : Option ℕ) (l m : Levels) (h g : ℕ) (p q : Option Pointer) (a b : Held) (vs ws : List Value) → Roomier l m → Linked n.functions h g → Maybe (SamePointer n) p q → SameHeld n a b → Each (SameValue n) vs ws
-      → SameJob n (Run name l h p a vs) (Run name m g q b ws)
-  same_onward : (f g : Frame) (m k : Machine) (c d : Code) → SameFrame n f g → SameMachine n m k → SameCode n c d → SameJob n (Onward f m c) (Onward g k d)
-  same_call : (name : Option ℕ) (l m : Levels) (p q : Pointer) (vs ws : List Value) → Roomier l m → SamePointer n p q → Each (SameValue n) vs ws → SameJob n (Call_ name l p vs) (Call_ name m q ws)
-  same_from : (h g : Here) (a b c d : Tree) → SameHere n h g → SameTree n a b → SameTree n c d → SameJob n (From h a c) (From g b d)
-  same_in : (h g : Here) (position : Position) (a b : Tree) → SameHere n h g → SameTree n a b → SameJob n (In h position a) (In g position b)
+pub data SameJob (bounds : Bounds) (n : Names) : Job → Job → Type 0 where
+  same_run : (name : Option ℕ) (l m : Levels) (h g : ℕ) (p q : Option Pointer) (a b : Held) (vs ws : List Value) → Roomier bounds l m → Linked n.functions h g → Maybe (SamePointer n) p q → SameHeld n a b → Each (SameValue n) vs ws
+      → SameJob bounds n (Run name l h p a vs) (Run name m g q b ws)
+  same_onward : (f g : Frame) (m k : Machine) (c d : Code) → SameFrame bounds n f g → SameMachine bounds n m k → SameCode n c d → SameJob bounds n (Onward f m c) (Onward g k d)
+  same_call : (name : Option ℕ) (l m : Levels) (p q : Pointer) (vs ws : List Value) → Roomier bounds l m → SamePointer n p q → Each (SameValue n) vs ws → SameJob bounds n (Call_ name l p vs) (Call_ name m q ws)
+  same_from : (h g : Here) (a b c d : Tree) → SameHere bounds n h g → SameTree n a b → SameTree n c d → SameJob bounds n (From h a c) (From g b d)
+  same_in : (h g : Here) (position : Position) (a b : Tree) → SameHere bounds n h g → SameTree n a b → SameJob bounds n (In h position a) (In g position b)
 
 -- ---- the state of the right run
 
@@ -93,11 +93,11 @@ MayLack (From here whole rest) ps = Shown ps
 MayLack (In here position body) ps = Shown ps
 
 -- code that goes on may leave other bindings, of which all are there on both sides
-pub record EndsSomewhere (n : Names) (o p : Outcome Value) : Type 0 where
+pub record EndsSomewhere (bounds : Bounds) (n : Names) (o p : Outcome Value) : Type 0 where
   pub places : List Place
   pub whole : IsWhole places
-  pub ends : Ends n places o p
+  pub ends : Ends bounds n places o p
 
-abbrev pub EndsOf : Job → Names → List Place → Outcome Value → Outcome Value → Type 0
-EndsOf (Onward f m code) n ps o p = EndsSomewhere n o p
-EndsOf j n ps o p = Ends n ps o p
+abbrev pub EndsOf : Bounds → Job → Names → List Place → Outcome Value → Outcome Value → Type 0
+EndsOf bounds (Onward f m code) n ps o p = EndsSomewhere bounds n o p
+EndsOf bounds j n ps o p = Ends bounds n ps o p

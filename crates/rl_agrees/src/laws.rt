@@ -28,7 +28,7 @@ pub fn plain_expansions_stand_alone()
     ensures { PlainExpandsAlone }
 {}
 
-/// A run in which code runs agrees with the walk of the same program, where each code is right: the same endings, output, notes, input and turns until the walk's first event, and of what they show until one stops for cells or levels one begins with the other.
+/// A run in which code runs agrees with the walk of the same program, where each code is right: the same endings, output, notes, input and turns until the walk's first event, and of what they show until one stops for cells or levels one begins with the other. Beside a walk with no event the run stops so only where the walk has no such bound, or stops so too.
 pub fn code_agrees()
     ensures { CodeAgrees }
 {

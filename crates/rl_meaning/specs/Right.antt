@@ -18,7 +18,7 @@ use Rattle.rl_meaning.specs.Jobs.{jobs}
 use Rattle.rl_meaning.specs.Opening.{state_of}
 use Rattle.rl_meaning.specs.TwoRunsLinks.{Linked}
 use Rattle.rl_meaning.specs.TwoRunsValues.{Names, Each, SameValue, SameCode}
-use Rattle.rl_meaning.specs.TwoRunsStates.{Like, all_both}
+use Rattle.rl_meaning.specs.TwoRunsStates.{Bounds, Like, all_both}
 use Rattle.rl_meaning.specs.TwoRunsEnds.{HasShown, IsShort, Related}
 
 -- ---- constants as they stood
@@ -119,28 +119,28 @@ pub data IsForeseen (c : Recorded) : Outcome Value → Type 0 where
   past_bound : (why : Stop) (t : State) → IsShort why → length t.outside.output ≤ c.printed → length t.outside.notes ≤ c.noted → IsForeseen c (Stopped why t)
 
 -- the code's run o and the walk p from a state with these bindings agree
-pub record AgreesWith (known : Names) (bindings : List Entry) (o p : Outcome Value) : Type 0 where
-  pub ends : Related Leaves SameValue known (all_both bindings) o p
+pub record AgreesWith (bounds : Bounds) (known : Names) (bindings : List Entry) (o p : Outcome Value) : Type 0 where
+  pub ends : Related bounds Leaves SameValue known (all_both bindings) o p
   pub events : (c : Recorded) → (state_of o).watched.event ≡ Some c → IsForeseen c p
 
--- a state that comes to these objects and functions alone, and to these values
-pub record Knows (known : Names) (vs : List Value) (code : Code) (s : State) : Type 0 where
+-- a state, with a bound on cells or none, that comes to these objects and functions alone, and to these values
+pub record Knows (bounds : Bounds) (known : Names) (vs : List Value) (code : Code) (s : State) : Type 0 where
   pub identity : IsIdentity known
-  pub state : Like known (all_both s.bindings) s s
+  pub state : Like bounds known (all_both s.bindings) s s
   pub values : Each (SameValue known) vs vs
   pub constants : SameCode known code code
 
 -- the code of a name, lowered in this state, for its held form, where these objects stood in its constants
 pub record Right (compiler : Compiler) (lowered : State) (entry : Coded) (held : Held) (stood : List Stood) : Type 0 where
-  pub agrees : (known : Names) (levels : Levels) (vs : List Value) (s : State)
-      → Knows known vs entry.code s
+  pub agrees : (bounds : Bounds) (known : Names) (levels : Levels) (vs : List Value) (s : State)
+      → Knows bounds known vs entry.code s
       → length vs ≡ length held.parameters
       → function_at s entry.function ≡ HeldFunction held
       → s.compilation.runs_code ≡ false
       → s.counts.expansion ≡ None
       → all_stand s entry.dependencies ≡ true
       → AllAsTheyStood s stood
-      → AgreesWith known s.bindings (run_code (jobs compiler) levels (Some entry.function) held entry.code vs s) (walked (jobs compiler) levels entry.function.function (Some entry.function) held vs s)
+      → AgreesWith bounds known s.bindings (run_code (jobs compiler) levels (Some entry.function) held entry.code vs s) (walked (jobs compiler) levels entry.function.function (Some entry.function) held vs s)
   pub binds : all_of (may_bind held.kept) (variables_bound_by entry.code) ≡ true
   pub links : all_of (λ i. is_among i (reached_names lowered held)) (links_of entry.code) ≡ true
   pub constants : all_of (is_right_constant lowered entry.function (known_constants lowered held entry.dependencies)) (constants_of_code entry.code) ≡ true

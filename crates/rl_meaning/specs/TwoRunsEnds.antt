@@ -1,11 +1,11 @@
--- How two runs side by side end: alike; or apart, where the right one has an event, or one of the two met its bound on cells or levels, and then all that was printed and noted until that moment was so by both (this project's).
-use Rattle.std.specs.Prelude.{◌≡◌, ◌⊎◌, ℕ, ℤ, List, ◌++◌, take, Some}
+-- How two runs side by side end: alike; or apart, where the right one has an event, or one of the two met its bound on cells or levels, the left one only where the right one has no such bound, and then all that was printed and noted until that moment was so by both (this project's).
+use Rattle.std.specs.Prelude.{◌≡◌, ◌⊎◌, ℕ, ℤ, false, List, ◌++◌, take, Some}
 use Rattle.rl_tree.specs.Value.{Value}
 use Rattle.rl_meaning.specs.State.{State, Outside, Recorded}
 use Rattle.rl_meaning.specs.Outcome.{Outcome, Done, Failed, Went, Returned, Stopped, Stop, Cells, Depth}
 use Rattle.rl_meaning.specs.Opening.{state_of}
 use Rattle.rl_meaning.specs.TwoRunsValues.{Names, Grows, SameValue}
-use Rattle.rl_meaning.specs.TwoRunsStates.{Place, Like}
+use Rattle.rl_meaning.specs.TwoRunsStates.{Bounds, Place, Like}
 
 -- ---- apart
 
@@ -24,21 +24,26 @@ pub data IsShort : Stop → Type 0 where
   short_of_cells : IsShort Cells
   short_of_levels : IsShort Depth
 
+-- so stops a left run where the right one has no such bound: this is the only way in which a left run stops so and the right one goes on
+pub data IsLacking (bounds : Bounds) : Stop → Type 0 where
+  lacks_cells : bounds.cells ≡ false → IsLacking bounds Cells
+  lacks_levels : bounds.levels ≡ false → IsLacking bounds Depth
+
 -- of two lists one begins with the other
 abbrev pub OneBegins : List ℕ → List ℕ → Type 0
 OneBegins xs ys = Begins xs ys ⊎ Begins ys xs
 
-pub data Parted {A : Type 0} : Outcome A → Outcome A → Type 0 where
+pub data Parted (bounds : Bounds) {A : Type 0} : Outcome A → Outcome A → Type 0 where
   -- the right run has an event
-  by_event : (o p : Outcome A) (r : Recorded) → (state_of p).watched.event ≡ Some r → HasShown (take r.printed (state_of p).outside.output) (take r.noted (state_of p).outside.notes) (state_of o).outside → Parted o p
-  -- the right run stops, and the left one may go on; or the other way round
-  right_short : (o : Outcome A) (why : Stop) (t : State) → IsShort why → HasShown t.outside.output t.outside.notes (state_of o).outside → Parted o (Stopped why t)
-  left_short : (why : Stop) (s : State) (p : Outcome A) → IsShort why → HasShown s.outside.output s.outside.notes (state_of p).outside → Parted (Stopped why s) p
-  -- the left run stops, and the right one has an event: which of the two comes first is not said
-  short_by_event : (why : Stop) (s : State) (p : Outcome A) (r : Recorded) → IsShort why → (state_of p).watched.event ≡ Some r
-      → OneBegins (take r.printed (state_of p).outside.output) s.outside.output → OneBegins (take r.noted (state_of p).outside.notes) s.outside.notes → Parted (Stopped why s) p
-  -- both stop, and which of them comes first is not said
-  both_short : (why other : Stop) (s t : State) → IsShort why → IsShort other → OneBegins t.outside.output s.outside.output → OneBegins t.outside.notes s.outside.notes → Parted (Stopped why s) (Stopped other t)
+  by_event : (o p : Outcome A) (r : Recorded) → (state_of p).watched.event ≡ Some r → HasShown (take r.printed (state_of p).outside.output) (take r.noted (state_of p).outside.notes) (state_of o).outside → Parted bounds o p
+  -- the right run stops, and the left one may go on; or the other way round, where the right run has no such bound
+  right_short : (o : Outcome A) (why : Stop) (t : State) → IsShort why → HasShown t.outside.output t.outside.notes (state_of o).outside → Parted bounds o (Stopped why t)
+  left_short : (why : Stop) (s : State) (p : Outcome A) → IsLacking bounds why → HasShown s.outside.output s.outside.notes (state_of p).outside → Parted bounds (Stopped why s) p
+  -- the left run stops so, and the right one has an event: which of the two comes first is not said
+  short_by_event : (why : Stop) (s : State) (p : Outcome A) (r : Recorded) → IsLacking bounds why → (state_of p).watched.event ≡ Some r
+      → OneBegins (take r.printed (state_of p).outside.output) s.outside.output → OneBegins (take r.noted (state_of p).outside.notes) s.outside.notes → Parted bounds (Stopped why s) p
+  -- both stop, the left one so, and which of them comes first is not said
+  both_short : (why other : Stop) (s t : State) → IsLacking bounds why → IsShort other → OneBegins t.outside.output s.outside.output → OneBegins t.outside.notes s.outside.notes → Parted bounds (Stopped why s) (Stopped other t)
 
 -- ---- the ends
 
@@ -48,14 +53,14 @@ pub record SameSeen (s t : State) : Type 0 where
   pub turns : s.counts.turns ≡ t.counts.turns
 
 -- Apart: what is said of outcomes that are apart. Results are the same by R; links grow, and the same bindings are hidden as before
-pub data Related {A : Type 0} (Apart : Outcome A → Outcome A → Type 0) (R : Names → A → A → Type 0) (n : Names) (ps : List Place) : Outcome A → Outcome A → Type 0 where
-  done : (m : Names) (a b : A) (s t : State) → Grows n m → R m a b → Like m ps s t → Related Apart R n ps (Done a s) (Done b t)
-  failed : (m : Names) (z : ℤ) (v w : Value) (s t : State) → Grows n m → SameValue m v w → Like m ps s t → Related Apart R n ps (Failed z v s) (Failed z w t)
-  went : (m : Names) (l : ℕ) (s t : State) → Grows n m → Like m ps s t → Related Apart R n ps (Went l s) (Went l t)
-  returned : (m : Names) (v w : Value) (s t : State) → Grows n m → SameValue m v w → Like m ps s t → Related Apart R n ps (Returned v s) (Returned w t)
-  stopped : (why : Stop) (s t : State) → SameSeen s t → Related Apart R n ps (Stopped why s) (Stopped why t)
-  parted : (o p : Outcome A) → Apart o p → Related Apart R n ps o p
+pub data Related (bounds : Bounds) {A : Type 0} (Apart : Outcome A → Outcome A → Type 0) (R : Names → A → A → Type 0) (n : Names) (ps : List Place) : Outcome A → Outcome A → Type 0 where
+  done : (m : Names) (a b : A) (s t : State) → Grows n m → R m a b → Like bounds m ps s t → Related bounds Apart R n ps (Done a s) (Done b t)
+  failed : (m : Names) (z : ℤ) (v w : Value) (s t : State) → Grows n m → SameValue m v w → Like bounds m ps s t → Related bounds Apart R n ps (Failed z v s) (Failed z w t)
+  went : (m : Names) (l : ℕ) (s t : State) → Grows n m → Like bounds m ps s t → Related bounds Apart R n ps (Went l s) (Went l t)
+  returned : (m : Names) (v w : Value) (s t : State) → Grows n m → SameValue m v w → Like bounds m ps s t → Related bounds Apart R n ps (Returned v s) (Returned w t)
+  stopped : (why : Stop) (s t : State) → SameSeen s t → Related bounds Apart R n ps (Stopped why s) (Stopped why t)
+  parted : (o p : Outcome A) → Apart o p → Related bounds Apart R n ps o p
 
 -- the ends of two evaluations
-abbrev pub Ends : Names → List Place → Outcome Value → Outcome Value → Type 0
-Ends n ps = Related Parted SameValue n ps
+abbrev pub Ends : Bounds → Names → List Place → Outcome Value → Outcome Value → Type 0
+Ends bounds n ps = Related bounds (Parted bounds) SameValue n ps

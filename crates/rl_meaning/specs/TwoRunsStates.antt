@@ -1,5 +1,5 @@
 -- When two runs stand side by side: the right one walks all functions; the left one may run code, so it has made fewer objects, has no fewer cells and levels, and lacks local bindings that code keeps in slots (this project's).
-use Rattle.std.specs.Prelude.{◌≡◌, ◌≤◌, ℕ, false, List, [], ◌∷◌, length, slice_get, Option, Some, None}
+use Rattle.std.specs.Prelude.{◌≡◌, ◌≤◌, ℕ, Bool, false, is_some, List, [], ◌∷◌, length, slice_get, Option, Some, None}
 use Rattle.rl_tree.specs.Value.{Value, Store}
 use Rattle.rl_meaning.specs.State.{State, Pointer, Function, Entry, Binding, Mark, Scope, Local, Expansion, Counts, Compilation}
 use Rattle.rl_meaning.specs.Outcome.{Levels}
@@ -54,18 +54,32 @@ pub data SameExpansion : Option Expansion → Option Expansion → Type 0 where
   same_none : SameExpansion None None
   same_open : (e : Expansion) → SameExpansion (Some e) (Some e)
 
+-- whether the right run has a bound on levels, and on cells: so it has, or has not, as long as it goes on
+pub record Bounds : Type 0 where
+  pub levels : Bool
+  pub cells : Bool
+
+-- of a walk that starts with these levels and cells
+abbrev pub bounds_of : Levels → Option ℕ → Bounds
+bounds_of levels cells = record { levels = is_some levels; cells = is_some cells }
+
 -- where both runs have a bound, the right one has no more left
 abbrev pub IsRoomier : Option ℕ → Option ℕ → Type 0
 IsRoomier (Some l) (Some m) = m ≤ l
 IsRoomier l m = Unit {0}
 
-pub record Roomier (l m : Levels) : Type 0 where
+pub record Roomier (bounds : Bounds) (l m : Levels) : Type 0 where
   pub is : IsRoomier l m
+  pub bound : is_some m ≡ bounds.levels
 
-pub record SameCounts (c d : Counts) : Type 0 where
+pub record RoomierCells (bounds : Bounds) (c d : Option ℕ) : Type 0 where
+  pub is : IsRoomier c d
+  pub bound : is_some d ≡ bounds.cells
+
+pub record SameCounts (bounds : Bounds) (c d : Counts) : Type 0 where
   pub given : c.given ≡ d.given
   pub turns : c.turns ≡ d.turns
-  pub cells : IsRoomier c.cells d.cells
+  pub cells : RoomierCells bounds c.cells d.cells
   pub expansion : SameExpansion c.expansion d.expansion
 
 -- ---- compilation: the right run has the same codes, and runs none
@@ -80,12 +94,12 @@ pub record SameCompilation (n : Names) (c d : Compilation) : Type 0 where
 
 -- ---- states
 
-pub record Like (n : Names) (ps : List Place) (s t : State) : Type 0 where
+pub record Like (bounds : Bounds) (n : Names) (ps : List Place) (s t : State) : Type 0 where
   pub store : SameStore n s.store t.store
   pub functions : SameFunctions n s.functions t.functions
   pub symbols : Each (SameSymbol n) s.symbols t.symbols
   pub bindings : Aligned n ps s.bindings t.bindings
-  pub counts : SameCounts s.counts t.counts
+  pub counts : SameCounts bounds s.counts t.counts
   pub outside : s.outside ≡ t.outside
   pub gensyms : s.gensyms ≡ t.gensyms
   pub compilation : SameCompilation n s.compilation t.compilation
