@@ -58,7 +58,7 @@ mod PlainEvaluation
 mod PlainAlone
 mod PlainRows
 mod TwoRunsReady
-mod TwoRunsAssumed
+mod TwoRunsFacts
 mod TwoRunsCompared
 mod TwoRunsComposed
 mod TwoRunsGoes

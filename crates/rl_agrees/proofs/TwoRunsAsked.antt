@@ -9,7 +9,7 @@ use Rattle.rl_meaning.specs.TwoRunsValues.{Names, Each, SameValue}
 use Rattle.rl_meaning.specs.TwoRunsStates.{Bounds, Place, Like}
 use Rattle.rl_agrees.specs.TwoRunsJobs.{Goes, SameJob, IsOfState, EndsOf}
 use Rattle.rl_agrees.proofs.TwoRunsReady.{function_stays}
-use Rattle.rl_agrees.proofs.TwoRunsAssumed.{Ask, AskGoes, GoesOn, IsPlainCompiler, RecGoes}
+use Rattle.rl_agrees.proofs.TwoRunsFacts.{Ask, AskGoes, GoesOn, IsPlainCompiler, RecGoes}
 use Rattle.rl_agrees.proofs.TwoRunsGoes.{goes_refl}
 use Rattle.rl_agrees.proofs.TwoRunsEnding.{Alike, stopped_here}
 use Rattle.rl_agrees.proofs.TwoRunsCompared.{Comparison, Sides, BelowSides, PlacesOf, Starts}

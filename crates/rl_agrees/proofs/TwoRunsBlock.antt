@@ -25,7 +25,7 @@ use Rattle.rl_agrees.proofs.TwoRunsObjects.{nil_same, each_append}
 use Rattle.rl_agrees.proofs.Heads.{lambda_form, call_form, special_form, list_form}
 use Rattle.rl_agrees.proofs.TwoRunsBinding.{level, over}
 use Rattle.rl_agrees.proofs.TwoRunsForms.{list_same, count_same, identifiers_same, fits_same, parameters_same, SameHead, same_form, same_call, same_applied, same_bad, head_same}
-use Rattle.rl_agrees.proofs.TwoRunsAssumed.{Ask, AskGoes, GoesOn, RecGoes, OneRunFacts, TwoRunsFacts}
+use Rattle.rl_agrees.proofs.TwoRunsFacts.{Ask, AskGoes, GoesOn, RecGoes, OneRunFacts, TwoRunsFacts}
 use Rattle.rl_agrees.proofs.TwoRunsGoes.{goes_refl, then_goes, choose_goes, deeper_goes, goes_to, restored_context}
 use Rattle.rl_agrees.proofs.TwoRunsEnding.{Alike, done_here, then_ends, choose_ends, deeper_ends, quiet_ends, fail_ends, fail_goes, restored_ends, mark_sides, binding_ends}
 use Rattle.rl_agrees.proofs.TwoRunsAsked.{by, Respects, CompilerRespects, rec_goes}

@@ -22,7 +22,7 @@ use Rattle.rl_agrees.specs.TwoRunsJobs.{SameHere, same_here, SameJob, same_run, 
 use Rattle.rl_agrees.proofs.TwoRunsObjects.{linked_same}
 use Rattle.rl_agrees.proofs.TwoRunsKnown.{names_on_right, right_covers, knows, whole_places, all_both_whole}
 use Rattle.rl_agrees.proofs.TwoRunsJoined.{joined}
-use Rattle.rl_agrees.proofs.TwoRunsAssumed.{Ask, AskGoes, GoesOn}
+use Rattle.rl_agrees.proofs.TwoRunsFacts.{Ask, AskGoes, GoesOn}
 use Rattle.rl_agrees.proofs.TwoRunsAsked as asked
 use Rattle.rl_agrees.proofs.TwoRunsCompared.{Comparison, PlacesOf, Starts, code_and_walk}
 

@@ -22,7 +22,7 @@ use Rattle.rl_agrees.proofs.TwoRunsWays.{Beside, Short, right_short, left_short,
 use Rattle.rl_agrees.proofs.TwoRunsObjects.{fail_related}
 use Rattle.rl_agrees.proofs.TwoRunsBinding.{Above, level, over, bound_like, mark_like, restored_related}
 use Rattle.rl_agrees.proofs.TwoRunsJoined.{shown_refl}
-use Rattle.rl_agrees.proofs.TwoRunsAssumed.{GoesOn, OneRunFacts, Quiet}
+use Rattle.rl_agrees.proofs.TwoRunsFacts.{GoesOn, OneRunFacts, Quiet}
 use Rattle.rl_agrees.proofs.TwoRunsGoes.{goes_with, goes_to, then_goes, parted_in, then_context, restored_context, closed_context}
 use Rattle.rl_agrees.proofs.TwoRunsCompared.{Comparison, Sides, BelowSides, CleanSides}
 

@@ -34,7 +34,7 @@ use Rattle.rl_agrees.proofs.TwoRunsWays.{Is, is, reading_like, pair_read_like, w
 use Rattle.rl_agrees.proofs.TwoRunsObjects.{pair_same, nil_same, symbol_same, each_length, each_at, made_pair_related}
 use Rattle.rl_agrees.proofs.TwoRunsForms.{label_same, function_same, definition_same}
 use Rattle.rl_agrees.proofs.TwoRunsBinding.{level, over}
-use Rattle.rl_agrees.proofs.TwoRunsAssumed.{Ask, AskGoes, GoesOn, RecGoes, OneRunFacts, TwoRunsFacts, may_part, SameList}
+use Rattle.rl_agrees.proofs.TwoRunsFacts.{Ask, AskGoes, GoesOn, RecGoes, OneRunFacts, TwoRunsFacts, may_part, SameList}
 use Rattle.rl_agrees.proofs.TwoRunsWalks.{same_walked}
 use Rattle.rl_agrees.proofs.TwoRunsGoes.{goes_refl, goes_trans, then_goes, choose_goes, deeper_goes, goes_to, Context, parted_in}
 use Rattle.rl_agrees.proofs.TwoRunsEnding.{Alike, further_ends, done_here, stopped_here, sides_on, then_ends, closed_ends, choose_ends, turn_ends, counts_sides, deeper_ends, quiet_ends, pair_quiet, fail_ends, fail_goes, restored_ends, mark_sides}

@@ -40,7 +40,7 @@ use Rattle.rl_agrees.proofs.TwoRunsDefinitions as definitions
 use Rattle.rl_agrees.proofs.TwoRunsDefinitions.{define_like, hold_lambda_related}
 use Rattle.rl_agrees.proofs.TwoRunsPrinting.{mark_like, print_error_related}
 use Rattle.rl_agrees.proofs.TwoRunsReading.{read_bytes_related}
-use Rattle.rl_agrees.proofs.TwoRunsAssumed.{GoesOn, AskGoes, RecGoes, OneRunFacts, Quiet, may_part, TwoRunsFacts}
+use Rattle.rl_agrees.proofs.TwoRunsFacts.{GoesOn, AskGoes, RecGoes, OneRunFacts, Quiet, may_part, TwoRunsFacts}
 use Rattle.rl_agrees.proofs.TwoRunsGoes.{then_goes}
 use Rattle.rl_agrees.proofs.TwoRunsMixed.{jobs_agree}
 use Rattle.rl_agrees.proofs.TwoRunsMixed as mixed

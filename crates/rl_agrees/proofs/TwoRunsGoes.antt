@@ -12,7 +12,7 @@ use Rattle.rl_meaning.specs.TwoRunsStates.{Bounds}
 use Rattle.rl_agrees.specs.Later.{IsMore, IsNoted, StaysOrNoted, NotedBefore, Later}
 use Rattle.rl_agrees.specs.TwoRunsJobs.{EventWithin, Goes}
 use Rattle.rl_agrees.proofs.TwoRunsJoined.{begins_trans}
-use Rattle.rl_agrees.proofs.TwoRunsAssumed.{GoesOn}
+use Rattle.rl_agrees.proofs.TwoRunsFacts.{GoesOn}
 
 -- ---- a preorder
 

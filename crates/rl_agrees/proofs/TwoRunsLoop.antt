@@ -24,7 +24,7 @@ use Rattle.rl_meaning.specs.TwoRunsStates.{Bounds, bounds_of, Place, all_both, S
 use Rattle.rl_meaning.specs.TwoRunsEnds.{Begins, HasShown, IsShort, short_of_cells, short_of_levels, IsLacking, lacks_cells, lacks_levels, OneBegins, Parted, by_event, right_short, left_short, short_by_event, both_short, Related, done, failed, went, returned, stopped, parted, Ends}
 use Rattle.rl_meaning.specs.Right.{Stood, AllAsTheyStood}
 use Rattle.rl_agrees.specs.TwoRunsJobs.{Goes, SameHere, same_here, same_in, ReadyCode, Ready}
-use Rattle.rl_agrees.specs.TwoRunsRuns.{RunsAgree, alike, until_event, until_right_stop, until_left_stop, until_either, until_both_stop, StopsShort, HasRoom, HasNoEvent, SameRun, printed_by, noted_by, printed_first, noted_first, each_itself, names_of, IsSound, running, walking}
+use Rattle.rl_agrees.specs.TwoRunsRuns.{StopsLacking, RunsAgree, alike, until_event, until_right_stop, until_left_stop, until_either, until_both_stop, StopsShort, HasRoom, HasNoEvent, SameRun, printed_by, noted_by, printed_first, noted_first, each_itself, names_of, IsSound, running, walking}
 use Rattle.rl_agrees.specs.Laws.{CodeAgrees}
 use Rattle.rl_agrees.proofs.TwoRunsLinked.{linked_cases}
 use Rattle.rl_agrees.proofs.TwoRunsGrowth.{grows_refl}
@@ -34,7 +34,7 @@ use Rattle.rl_agrees.proofs.TwoRunsForms.{function_same}
 use Rattle.rl_agrees.proofs.TwoRunsPrinting.{mark_like, fresh_like}
 use Rattle.rl_agrees.proofs.TwoRunsKnown.{all_both_whole}
 use Rattle.rl_agrees.proofs.TwoRunsJoined.{begins_refl, begins_trans, take_begins, both_begin, shown_refl}
-use Rattle.rl_agrees.proofs.TwoRunsAssumed.{AskGoes, GoesOn, OneRunFacts, TwoRunsFacts}
+use Rattle.rl_agrees.proofs.TwoRunsFacts.{AskGoes, GoesOn, OneRunFacts, TwoRunsFacts}
 use Rattle.rl_agrees.proofs.TwoRunsReading.{SameReading, same_form, same_end, same_unreadable}
 use Rattle.rl_agrees.proofs.TwoRunsAsked.{Respects}
 use Rattle.rl_agrees.proofs.TwoRunsGoes.{goes_refl, goes_trans, then_goes, Context, parted_in}
@@ -353,13 +353,13 @@ shown_at_event : (o p : Ran) (r : Recorded) → p.state.watched.event ≡ Some r
 shown_at_event o p r e h = subst (λ w. HasShown (printed_by w p.state.outside.output) (noted_by w p.state.outside.notes) o.state.outside) (sym e) h
 
 module _ {bounds : Bounds} where
-  event_shown : (o p : Ran) → RunsAgree bounds o p → HasRoom o → HasShown (printed_first p) (noted_first p) o.state.outside
+  event_shown : (o p : Ran) → RunsAgree bounds o p → (StopsLacking bounds o → ⊥) → HasShown (printed_first p) (noted_first p) o.state.outside
   event_shown _ _ (alike o p e x y) a = first_shown o p (subst (λ z. HasShown z.output z.notes o.state.outside) x (shown_refl o.state.outside))
   event_shown _ _ (until_event o p r e h) a = shown_at_event o p r e h
   event_shown _ _ (until_right_stop o p why e i h) a = first_shown o p h
-  event_shown _ _ (until_left_stop o p why e i h) a = absurd (a (record { why = why; is = e; short = lacking_short why i }))
-  event_shown _ _ (until_either o p why r e i x h k) a = absurd (a (record { why = why; is = e; short = lacking_short why i }))
-  event_shown _ _ (until_both_stop o p why other e x i j h k) a = absurd (a (record { why = why; is = e; short = lacking_short why i }))
+  event_shown _ _ (until_left_stop o p why e i h) a = absurd (a (record { why = why; is = e; lacks = i }))
+  event_shown _ _ (until_either o p why r e i x h k) a = absurd (a (record { why = why; is = e; lacks = i }))
+  event_shown _ _ (until_both_stop o p why other e x i j h k) a = absurd (a (record { why = why; is = e; lacks = i }))
 
 -- two lists of which one begins with the other, and a front of the first
 front_begins : (x y z : List ℕ) → Begins x y → OneBegins y z → OneBegins x z

@@ -30,7 +30,7 @@ use Rattle.rl_agrees.proofs.TwoRunsGrowth.{grows_refl, values_grow, maybe_grows,
 use Rattle.rl_agrees.proofs.TwoRunsWays.{Beside, Is, is, with_counts_like}
 use Rattle.rl_agrees.proofs.TwoRunsObjects.{nil_same, linked_same, same_same, each_at, each_set, each_append, each_length, symbol_same}
 use Rattle.rl_agrees.proofs.TwoRunsReady.{ready_stays}
-use Rattle.rl_agrees.proofs.TwoRunsAssumed.{GoesOn, Ask, AskGoes, RecGoes, OneRunFacts, Quiet, TwoRunsFacts}
+use Rattle.rl_agrees.proofs.TwoRunsFacts.{GoesOn, Ask, AskGoes, RecGoes, OneRunFacts, Quiet, TwoRunsFacts}
 use Rattle.rl_agrees.proofs.TwoRunsAsked.{by, Respects, no_compiler_respects, rec_goes}
 use Rattle.rl_agrees.proofs.TwoRunsEvaluation.{called_ends, defined_ends, define_ends}
 use Rattle.rl_agrees.proofs.TwoRunsEnding.{further_ends, quiet_ends, fail_goes}

@@ -14,7 +14,7 @@ use Rattle.rl_agrees.specs.Laws.{WalksAgree}
 use Rattle.rl_agrees.specs.Leaving.{IsPlain, is_statement}
 use Rattle.rl_agrees.specs.TwoRunsJobs.{SameHere, same_here, SameJob, same_run, same_onward, same_call, same_from, same_in, EndsOf, SameMachine, SameFrame, EndsSomewhere, EventWithin, MayLack}
 use Rattle.rl_agrees.proofs.TwoRunsGrowth.{grows_refl}
-use Rattle.rl_agrees.proofs.TwoRunsAssumed.{Ask, AskGoes, GoesOn, OneRunFacts, TwoRunsFacts}
+use Rattle.rl_agrees.proofs.TwoRunsFacts.{Ask, AskGoes, GoesOn, OneRunFacts, TwoRunsFacts}
 use Rattle.rl_agrees.proofs.TwoRunsGoes.{goes_refl}
 use Rattle.rl_agrees.proofs.TwoRunsCompared.{Comparison, Sides, Starts, code_and_walk, CleanSides, PlacesOf, two_walks}
 use Rattle.rl_agrees.proofs.TwoRunsAsked.{by, Respects, CompilerRespects, no_compiler_respects, rec_goes}

@@ -15,7 +15,7 @@ use Rattle.rl_agrees.specs.Later.{Later}
 use Rattle.rl_agrees.specs.Leaving.{IsPlain, is_statement}
 use Rattle.rl_agrees.specs.TwoRunsJobs.{EventWithin, SameJob, Ready, MayLack}
 use Rattle.rl_agrees.specs.Heads.{IsWalk, IsBelow, HeadsStayIn}
-use Rattle.rl_agrees.specs.TwoRunsRuns.{RunsAgree, StopsShort, HasRoom, HasNoEvent, SameRun, printed_first, noted_first, IsSound, running, walking}
+use Rattle.rl_agrees.specs.TwoRunsRuns.{RunsAgree, StopsShort, StopsLacking, HasRoom, HasNoEvent, SameRun, printed_first, noted_first, IsSound, running, walking}
 
 -- the state behind a job, and behind a run, is later than the one before
 pub record RunsGoOn : Type 0 where
@@ -42,8 +42,8 @@ pub record CodeAgrees : Type 0 where
       → RunsAgree (bounds_of m cells) (run_bytes l source (running s)) (run_bytes m source (walking cells s))
   -- which is: where the walk has no event, and neither stops for cells or levels, endings, output, notes, input and turns are the same
   pub same : (bounds : Bounds) (o p : Ran) → RunsAgree bounds o p → HasNoEvent p → HasRoom o → HasRoom p → SameRun o p
-  -- a run that does not stop so prints and notes all that the walk does until its first event
-  pub event : (bounds : Bounds) (o p : Ran) → RunsAgree bounds o p → HasRoom o → HasShown (printed_first p) (noted_first p) o.state.outside
+  -- a run that does not stop for a bound that the walk lacks prints and notes all that the walk does until its first event, wherever the walk stops
+  pub event : (bounds : Bounds) (o p : Ran) → RunsAgree bounds o p → (StopsLacking bounds o → ⊥) → HasShown (printed_first p) (noted_first p) o.state.outside
   -- a walk that has no event and does not stop so prints and notes all that the run does, wherever the run stops
   pub front : (bounds : Bounds) (o p : Ran) → RunsAgree bounds o p → HasNoEvent p → HasRoom p → HasShown o.state.outside.output o.state.outside.notes p.state.outside
   -- and in any case, of what the run does and what the walk does until its first event, one begins with the other

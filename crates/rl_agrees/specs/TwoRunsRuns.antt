@@ -31,6 +31,12 @@ pub record StopsShort (o : Ran) : Type 0 where
   pub is : o.ending ≡ Stops why
   pub short : IsShort why
 
+-- it stopped for a bound that the walk has not
+pub record StopsLacking (bounds : Bounds) (o : Ran) : Type 0 where
+  pub why : Stop
+  pub is : o.ending ≡ Stops why
+  pub lacks : IsLacking bounds why
+
 abbrev pub HasRoom : Ran → Type 0
 HasRoom o = StopsShort o → ⊥
 

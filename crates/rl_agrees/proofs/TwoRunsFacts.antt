@@ -1,4 +1,4 @@
--- What is taken from elsewhere: that each definition only goes on from its state, whatever its jobs do that go on; and that holding, copying, natives and variables keep two runs side by side.
+-- What is used of one run and of two, gathered: that each definition only goes on from its state, whatever its jobs do that go on; and that holding, copying, natives and variables keep two runs side by side. All of it is given in TwoRunsGiven.
 use Rattle.std.proofs.Common.{◌≡◌, ℕ, Bool, true, false, List, Option}
 use Rattle.rl_tree.specs.Value.{Value}
 use Rattle.rl_tree.specs.declared.held.Kind.{Kind}
