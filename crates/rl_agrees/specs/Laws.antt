@@ -26,7 +26,7 @@ pub record OnlyStatementsLeave : Type 0 where
   pub plain : (j : Job) (s : State) → is_statement j ≡ false → IsPlain (job the_compiler j s)
 
 pub record CodeAgrees : Type 0 where
-  -- from one sound state in which each code is right and rests on what stands, over one source; where both have a bound, that of the walk is no wider
+  -- from one sound state in which each code is right and rests on what stands, over one source; where both have a bound, that of the walk is no wider. They agree by the bounds that the walk has
   pub runs : (s : State) (l m : Levels) (cells : Option ℕ) (source : List ℕ) → IsSound s → Ready the_compiler s → IsRoomier l m → IsRoomier s.counts.cells cells
       → RunsAgree (bounds_of m cells) (run_bytes l source (running s)) (run_bytes m source (walking cells s))
   -- which is: where the walk has no event, and neither stops for cells or levels, endings, output, notes, input and turns are the same
