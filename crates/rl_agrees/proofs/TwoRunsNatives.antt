@@ -151,7 +151,7 @@ module _ {bounds : Bounds} (d : DefinitionsAgree bounds) where
   set_related n ps l m xs ys s t h e = d.set_ n ps _ _ _ _ s t (argument_same n xs ys 0 h) (argument_same n xs ys 1 h) e
 
 module _ {bounds : Bounds} where
-  -- with any levels on both sides
+  -- what prints
   pub printer_related : (n : Names) (ps : List Place) (o : Native) (l m : Levels) (xs ys : List Value) (s t : State) → prints o ≡ true → Roomier bounds l m → Each (SameValue n) xs ys → Like bounds n ps s t → Related bounds (Parted bounds) SameValue n ps (native o l xs s) (native o m ys t)
   printer_related n ps Prin1 l m xs ys s t p r h e = printing_related atoms.Prin1 n ps l m _ _ s t r (argument_same n xs ys 0 h) e
   printer_related n ps Prin2 l m xs ys s t p r h e = printing_related atoms.Prin2 n ps l m _ _ s t r (argument_same n xs ys 0 h) e

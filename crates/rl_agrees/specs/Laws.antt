@@ -37,7 +37,7 @@ pub record HeadsStay : Type 0 where
   pub and_then : (s t u : State) → Later s t → Later t u → HeadsStayIn s t → HeadsStayIn t u → HeadsStayIn s u
 
 pub record CodeAgrees : Type 0 where
-  -- from one sound state in which each code is right and rests on what stands, over one source; where both have a bound, that of the walk is no wider
+  -- from one sound state in which each code is right and rests on what stands, over one source; where both have a bound, that of the walk is no wider. They agree by the bounds that the walk has
   pub runs : (s : State) (l m : Levels) (cells : Option ℕ) (source : List ℕ) → IsSound s → Ready the_compiler s → IsRoomier l m → IsRoomier s.counts.cells cells
       → RunsAgree (bounds_of m cells) (run_bytes l source (running s)) (run_bytes m source (walking cells s))
   -- which is: where the walk has no event, and neither stops for cells or levels, endings, output, notes, input and turns are the same
