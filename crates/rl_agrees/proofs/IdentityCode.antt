@@ -1,5 +1,5 @@
 -- The code of the identity is right: the walk binds the parameter and looks it up, and the code leaves it where it came.
-use Rattle.std.proofs.Common.{◌≡◌, ◌-◌, ◌∙◌, ◌==◌, ℕ, zero, suc, true, false, if◌then◌else◌, List, [], ◌∷◌, length, drop, Some, None, nat_le, append-nil, refl, sym, ap, subst, arith}
+use Rattle.std.proofs.Common.{◌≡◌, ◌-◌, ◌∙◌, ◌==◌, ℕ, zero, suc, true, false, if◌then◌else◌, List, [], ◌∷◌, length, drop, Some, None, nat_le, is_some, append-nil, refl, sym, ap, subst, arith}
 use Rattle.std.proofs.lemmas.Bool.Decides.{nat_tests}
 use Rattle.rl_tree.specs.Value.{Value, Id}
 use Rattle.rl_meaning.specs.State.{State, Kept, Held, Pointer, Entry, Binding, Mark, Local}
@@ -13,7 +13,7 @@ use Rattle.rl_meaning.specs.Machine.{run_code}
 use Rattle.rl_meaning.specs.Jobs.{jobs}
 use Rattle.rl_meaning.specs.TwoRunsValues.{Names, Each, more, SameValue}
 use Rattle.rl_meaning.specs.TwoRunsStates.{Bounds, Like, all_both}
-use Rattle.rl_meaning.specs.TwoRunsEnds.{Begins, short_of_levels, done, parted}
+use Rattle.rl_meaning.specs.TwoRunsEnds.{Begins, meets_levels, done, parted}
 use Rattle.rl_meaning.specs.Right.{at_bound, as_event, AgreesWith, Right}
 use Rattle.rl_agrees.specs.Identity.{identity_of, identity_code, identity_coded, IsFree}
 use Rattle.rl_agrees.proofs.TwoRunsGrowth.{grows_refl}
@@ -78,10 +78,10 @@ module _ (c : Compiler) (i x : ℕ) (p : Pointer) (kept : List Kept) (free : IsF
   code_done : (levels : Levels) (v : Value) (s : State) → code_run levels v s ≡ Done v s
   code_done levels v s = ap (λ u. Done v u) (mark_gone s p)
 
-  -- the walk has a value where it has the level, or stops before it has done anything
-  data WalkEnds (v : Value) (s : State) (o : Outcome Value) : Type 0 where
-    has_level : o ≡ Done v s → WalkEnds v s o
-    no_level : o ≡ Stopped Depth (with_mark (Some p) s) → WalkEnds v s o
+  -- the walk has a value where it has the level, or stops, with a bound on levels, before it has done anything
+  data WalkEnds (levels : Levels) (v : Value) (s : State) (o : Outcome Value) : Type 0 where
+    has_level : o ≡ Done v s → WalkEnds levels v s o
+    no_level : is_some levels ≡ true → o ≡ Stopped Depth (with_mark (Some p) s) → WalkEnds levels v s o
 
   one_there : (l : ℕ) → nat_le 1 (suc l) ≡ true
   one_there l = grind (arith, nat_tests)
@@ -89,10 +89,10 @@ module _ (c : Compiler) (i x : ℕ) (p : Pointer) (kept : List Kept) (free : IsF
   abbrev inner : Value → State → Outcome Value
   inner v s = restored (suc (length s.bindings)) (then_do (bind_all kept (x ∷ []) (v ∷ []) (with_mark (Some p) s)) (λ done t. variable x t))
 
-  walk_ends : (levels : Levels) (v : Value) (s : State) → WalkEnds v s (walk levels v s)
+  walk_ends : (levels : Levels) (v : Value) (s : State) → WalkEnds levels v s (walk levels v s)
   unfolding walk_inside
   walk_ends None v s = has_level (inside_done v kept x p s free)
-  walk_ends (Some zero) v s = no_level refl
+  walk_ends (Some zero) v s = no_level refl refl
   walk_ends (Some (suc l)) v s = has_level (ap (λ b. restored (length s.bindings) (entered b (suc l - 1) (with_mark (Some p) s) (λ levels. inner v s))) (one_there l) ∙ inside_done v kept x p s free)
 
   nothing_more : (xs : List ℕ) → Begins xs xs
@@ -105,29 +105,29 @@ module _ (c : Compiler) (i x : ℕ) (p : Pointer) (kept : List Kept) (free : IsF
       events = λ e is. as_event (Done v s) e is (omega arith) (omega arith);
     }
 
-    agree_stopped : (known : Names) (v : Value) (s : State) → AgreesWith bounds known s.bindings (Done v s) (Stopped Depth (with_mark (Some p) s))
-    agree_stopped known v s = record {
-      ends = parted _ _ (at_bound (Done v s) Depth (with_mark (Some p) s) short_of_levels (record { output = nothing_more s.outside.output; notes = nothing_more s.outside.notes }));
+    agree_stopped : (known : Names) (v : Value) (s : State) → bounds.levels ≡ true → AgreesWith bounds known s.bindings (Done v s) (Stopped Depth (with_mark (Some p) s))
+    agree_stopped known v s b = record {
+      ends = parted _ _ (at_bound (Done v s) Depth (with_mark (Some p) s) (meets_levels b) (record { output = nothing_more s.outside.output; notes = nothing_more s.outside.notes }));
       events = λ e is. as_event (Stopped Depth (with_mark (Some p) s)) e is (omega arith) (omega arith);
     }
 
-    agree_by : (known : Names) (v : Value) (s : State) (o p : Outcome Value) → Like bounds known (all_both s.bindings) s s → SameValue known v v → o ≡ Done v s → WalkEnds v s p → AgreesWith bounds known s.bindings o p
-    agree_by known v s o q l r e (has_level f) = subst (λ o. AgreesWith bounds known s.bindings o q) (sym e) (subst (λ q. AgreesWith bounds known s.bindings (Done v s) q) (sym f) (agree_done known v s l r))
-    agree_by known v s o q l r e (no_level f) = subst (λ o. AgreesWith bounds known s.bindings o q) (sym e) (subst (λ q. AgreesWith bounds known s.bindings (Done v s) q) (sym f) (agree_stopped known v s))
+    agree_by : (known : Names) (v : Value) (s : State) (levels : Levels) (o p : Outcome Value) → is_some levels ≡ bounds.levels → Like bounds known (all_both s.bindings) s s → SameValue known v v → o ≡ Done v s → WalkEnds levels v s p → AgreesWith bounds known s.bindings o p
+    agree_by known v s levels o q w l r e (has_level f) = subst (λ o. AgreesWith bounds known s.bindings o q) (sym e) (subst (λ q. AgreesWith bounds known s.bindings (Done v s) q) (sym f) (agree_done known v s l r))
+    agree_by known v s levels o q w l r e (no_level b f) = subst (λ o. AgreesWith bounds known s.bindings o q) (sym e) (subst (λ q. AgreesWith bounds known s.bindings (Done v s) q) (sym f) (agree_stopped known v s (sym w ∙ b)))
 
   each_first : {A : Type 0} (R : A → A → Type 0) (a b : A) (xs ys : List A) → Each R (a ∷ xs) (b ∷ ys) → R a b
   each_first R a b xs ys (more _ _ _ _ r rs) = r
 
   module _ {bounds : Bounds} where
-    agree : (known : Names) (levels : Levels) (vs : List Value) (s : State) → Like bounds known (all_both s.bindings) s s → Each (SameValue known) vs vs → length vs ≡ 1
+    agree : (known : Names) (levels : Levels) (vs : List Value) (s : State) → is_some levels ≡ bounds.levels → Like bounds known (all_both s.bindings) s s → Each (SameValue known) vs vs → length vs ≡ 1
         → AgreesWith bounds known s.bindings (run_code (jobs c) levels (Some p) held (identity_code i) vs s) (walked (jobs c) levels p.function (Some p) held vs s)
-    agree known levels [] s l r e = absurd (omega (arith, e))
-    agree known levels (v ∷ []) s l r e = agree_by known v s _ _ l (each_first _ v v [] [] r) (code_done levels v s) (walk_ends levels v s)
-    agree known levels (v ∷ w ∷ vs) s l r e = absurd (omega (arith, e))
+    agree known levels [] s w l r e = absurd (omega (arith, e))
+    agree known levels (v ∷ []) s w l r e = agree_by known v s levels _ _ w l (each_first _ v v [] [] r) (code_done levels v s) (walk_ends levels v s)
+    agree known levels (v ∷ u ∷ vs) s w l r e = absurd (omega (arith, e))
 
   pub identity_right : (lowered : State) → Right c lowered (identity_coded i p) held []
   identity_right lowered = record {
-    agrees = λ bounds known levels vs s knows count is walks none stands stood. agree known levels vs s knows.state knows.values count;
+    agrees = λ bounds known levels vs s knows bound count is walks none stands stood. agree known levels vs s bound knows.state knows.values count;
     binds = refl;
     links = refl;
     constants = refl;

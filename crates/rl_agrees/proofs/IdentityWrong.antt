@@ -34,11 +34,11 @@ values_differ m _ _ (same_str bytes) e f = absurd (cc)
 values_differ m _ _ (same_ref r q h) e f = absurd (cc)
 values_differ m _ _ (same_fun g h place l) e f = absurd (cc)
 
-leaves_nowhere : (o p : Outcome Value) (t : State) → Leaves o p → p ≡ Done truth_value t → t.watched.event ≡ None → ⊥
+leaves_nowhere : {bounds : Bounds} (o p : Outcome Value) (t : State) → Leaves bounds o p → p ≡ Done truth_value t → t.watched.event ≡ None → ⊥
 leaves_nowhere _ _ t (at_event o p r e h) f none = let g : (state_of p).watched.event ≡ t.watched.event = ap (λ q. (state_of q).watched.event) f in absurd (cc)
 leaves_nowhere _ _ t (at_bound o why u h k) f none = absurd (cc)
 
-ends_differ : {bounds : Bounds} (n : Names) (ps : List Place) (o p : Outcome Value) (s t : State) → Related bounds Leaves SameValue n ps o p → o ≡ Done nil s → p ≡ Done truth_value t → t.watched.event ≡ None → ⊥
+ends_differ : {bounds : Bounds} (n : Names) (ps : List Place) (o p : Outcome Value) (s t : State) → Related bounds (Leaves bounds) SameValue n ps o p → o ≡ Done nil s → p ≡ Done truth_value t → t.watched.event ≡ None → ⊥
 ends_differ n ps _ _ s t (done m a b u v g r l) e f none = values_differ m a b r (cc) (cc)
 ends_differ n ps _ _ s t (failed m z v w a b g r l) e f none = absurd (cc)
 ends_differ n ps _ _ s t (went m l a b g k) e f none = absurd (cc)
@@ -71,7 +71,7 @@ here_agrees : (c : Compiler) (lowered : State) (x : ℕ) → Right c lowered (ni
     → AgreesWith (bounds_of None None) (names_on_right (names_of (before x))) (here x).bindings (run_code (jobs c) None (Some identity_pointer) (identity_of x (identity_kept x)) (nil_coded identity_name identity_pointer).code (truth_value ∷ []) (here x))
     (walked (jobs c) None identity_pointer.function (Some identity_pointer) (identity_of x (identity_kept x)) (truth_value ∷ []) (here x))
 unfolding here before bare_state
-here_agrees c lowered x right = right.agrees (bounds_of None None) (names_on_right (names_of (before x))) None (truth_value ∷ []) (here x) (here_known x) refl (here_function x) refl refl refl tt
+here_agrees c lowered x right = right.agrees (bounds_of None None) (names_on_right (names_of (before x))) None (truth_value ∷ []) (here x) (here_known x) refl refl (here_function x) refl refl refl tt
 
 pub nil_wrong : (c : Compiler) (lowered : State) (x : ℕ) → is_constant x ≡ false → Right c lowered (nil_coded identity_name identity_pointer) (identity_of x (identity_kept x)) [] → ⊥
 unfolding here before bare_state

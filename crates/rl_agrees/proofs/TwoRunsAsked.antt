@@ -40,9 +40,9 @@ module _ {bounds : Bounds} where
   no_compiler_respects c = record {
     taken = λ n ps name s t l. l;
     defined = λ n ps v w s t r l. l;
-    names = λ n ps vs ws s t r i. stopped_here c n ps Unbuilt s t i;
-    writes = λ n ps vs ws s t r i. stopped_here c n ps Unbuilt s t i;
-    loads = λ n ps vs ws s t r i. stopped_here c n ps Unbuilt s t i;
+    names = λ n ps vs ws s t r i. stopped_here c n ps Unbuilt s t tt i;
+    writes = λ n ps vs ws s t r i. stopped_here c n ps Unbuilt s t tt i;
+    loads = λ n ps vs ws s t r i. stopped_here c n ps Unbuilt s t tt i;
     taken_goes = λ name s. goes_refl s;
     defined_goes = λ v s. goes_refl s;
     names_goes = λ vs s. record { goes = goes_refl s };

@@ -171,11 +171,11 @@ module _ {bounds : Bounds}
     (walk_respects : (ask ask' : Ask) → AskGoes ask → AskGoes ask' → asked.Respects bounds c ask ask' → (n : Names) (ps : List Place) (j : Job) (s : State) (k : Job) (t : State) → Starts bounds c n ps j s k t → EndsOf bounds j n ps (walk_done (by ask) j s) (walk_done (by ask') k t))
   where
     ends_stopped : (j : Job) (n : Names) (ps : List Place) (s t : State) → PlacesOf c j ps → Like bounds n ps s t → EndsOf bounds j n ps (Stopped Turns s) (Stopped Turns t)
-    ends_stopped (Run name levels holder f held vs) n ps s t w l = stopped Turns s t (record { outside = l.outside; turns = l.counts.turns })
-    ends_stopped (Onward f m code) n ps s t w l = record { places = ps; whole = c.whole ps w; ends = stopped Turns s t (record { outside = l.outside; turns = l.counts.turns }) }
-    ends_stopped (Call_ name levels f vs) n ps s t w l = stopped Turns s t (record { outside = l.outside; turns = l.counts.turns })
-    ends_stopped (From here whole rest) n ps s t w l = stopped Turns s t (record { outside = l.outside; turns = l.counts.turns })
-    ends_stopped (In here position body) n ps s t w l = stopped Turns s t (record { outside = l.outside; turns = l.counts.turns })
+    ends_stopped (Run name levels holder f held vs) n ps s t w l = stopped Turns s t (record { outside = l.outside; turns = l.counts.turns; may = tt })
+    ends_stopped (Onward f m code) n ps s t w l = record { places = ps; whole = c.whole ps w; ends = stopped Turns s t (record { outside = l.outside; turns = l.counts.turns; may = tt }) }
+    ends_stopped (Call_ name levels f vs) n ps s t w l = stopped Turns s t (record { outside = l.outside; turns = l.counts.turns; may = tt })
+    ends_stopped (From here whole rest) n ps s t w l = stopped Turns s t (record { outside = l.outside; turns = l.counts.turns; may = tt })
+    ends_stopped (In here position body) n ps s t w l = stopped Turns s t (record { outside = l.outside; turns = l.counts.turns; may = tt })
 
     below_respects : (i : ℕ) → Below bounds c i → asked.Respects bounds c (below i) (below i)
     below_respects i ih n ps j s k t st = subst (λ r. EndsOf bounds j n ps (below i j s) (below_by (nat_lt r i) k t)) (rank_same n ps j k s t st.same st.like) (at (nat_lt (rank j s) i) refl)
@@ -236,7 +236,7 @@ module _ {bounds : Bounds}
         let right : Right the_compiler own.lowered entry b own.stood = subst (λ h. Right the_compiler own.lowered entry h own.stood) (held_is (function_at t f) own.held b own.is of_.0) own.right in
         let P : Outcome Value = run_code (jobs the_compiler) m (Some f) b entry.code ws t in
         let agrees : AgreesWith bounds (names_on_right n) t.bindings P (walked (jobs the_compiler) m f.function (Some f) b ws t) =
-        right.agrees bounds (names_on_right n) m ws t (knows n ps s t vs ws code entry.code st.places st.like vv same) of_.2 of_.0 st.like.compilation.walks x own.stands own.constants in
+        right.agrees bounds (names_on_right n) m ws t (knows n ps s t vs ws code entry.code st.places st.like vv same) r.bound of_.2 of_.0 st.like.compilation.walks x own.stands own.constants in
         let walk : job the_compiler k t ≡ walked (jobs the_compiler) m g (Some f) b ws t = fuel.done k t ∙ walk_is (jobs the_compiler) k t (walks_all k t st.like.compilation.walks) in
         let second : AgreesWith bounds (names_on_right n) t.bindings P (job the_compiler k t) =
         subst (λ o. AgreesWith bounds (names_on_right n) t.bindings P o) (sym walk) (subst (λ z. AgreesWith bounds (names_on_right n) t.bindings P (walked (jobs the_compiler) m z (Some f) b ws t)) (sym of_.1) agrees) in

@@ -5,7 +5,7 @@ use Rattle.rl_tree.specs.Value.{Value, Id, Str}
 use Rattle.rl_tree.specs.declared.held.VarKind.{VarKind}
 use Rattle.rl_tree.specs.declared.held.VarKind.TheVariants as kind
 use Rattle.rl_meaning.specs.State.{State, Counts, Expansion, Binding, Mark, Local, Fluid, Kept, Pointer, Outside, Scope}
-use Rattle.rl_meaning.specs.Outcome.{Outcome, Done, Failed, Went, Returned, Stopped, Stop, Depth, then_do, choose, turn, Levels, entered, deeper, cells_within, run_room, expansion_within, expansion_room, made_pair, run_turn, expansion_turn, turn_of}
+use Rattle.rl_meaning.specs.Outcome.{Outcome, Done, Failed, Went, Returned, Stopped, Stop, Turns, Depth, Expands, then_do, choose, turn, Levels, entered, deeper, cells_within, run_room, expansion_within, expansion_room, made_pair, run_turn, expansion_turn, turn_of}
 use Rattle.rl_meaning.specs.Opening.{state_of}
 use Rattle.rl_meaning.specs.Symbols.{nil, is_constant}
 use Rattle.rl_meaning.specs.Errors.{fail, error_text, not_bindable}
@@ -14,7 +14,7 @@ use Rattle.rl_meaning.specs.Variables.{with_binding, with_mark, bound_as, bind_a
 use Rattle.rl_meaning.specs.Evaluation.{closed, without_expansion}
 use Rattle.rl_meaning.specs.TwoRunsValues.{Names, Grows, Maybe, Each, end, more, SameValue, same_id, SamePointer}
 use Rattle.rl_meaning.specs.TwoRunsStates.{Bounds, Place, Both, BothMark, SameExpansion, same_none, same_open, SameCounts, Like, Roomier}
-use Rattle.rl_meaning.specs.TwoRunsEnds.{Begins, HasShown, IsShort, lacks_levels, short_of_levels, Parted, SameSeen, Related, done, failed, went, returned, stopped, parted, Ends}
+use Rattle.rl_meaning.specs.TwoRunsEnds.{Begins, HasShown, lacks_levels, meets_levels, MayStop, Parted, Related, done, failed, went, returned, stopped, parted, Ends}
 use Rattle.rl_meaning.specs.TwoRunsEnds as ends
 use Rattle.rl_agrees.specs.TwoRunsJobs.{EventWithin, Goes}
 use Rattle.rl_agrees.proofs.TwoRunsGrowth.{grows_refl, grows_trans}
@@ -42,8 +42,8 @@ module _ {bounds : Bounds} where
   pub done_here : {A : Type 0} {R : Names → A → A → Type 0} {P : List Place → Type 0} (c : Comparison) (n : Names) (ps : List Place) (a b : A) (s t : State) → R n a b → Sides bounds c P n ps s t → Alike bounds R n ps (Done a s) (Done b t)
   done_here c n ps a b s t r i = done n a b s t (grows_refl n) r i.like
 
-  pub stopped_here : {A : Type 0} {R : Names → A → A → Type 0} {P : List Place → Type 0} (c : Comparison) (n : Names) (ps : List Place) (why : Stop) (s t : State) → Sides bounds c P n ps s t → Alike bounds {A = A} R n ps (Stopped why s) (Stopped why t)
-  stopped_here c n ps why s t i = stopped why s t (record { outside = i.like.outside; turns = i.like.counts.turns })
+  pub stopped_here : {A : Type 0} {R : Names → A → A → Type 0} {P : List Place → Type 0} (c : Comparison) (n : Names) (ps : List Place) (why : Stop) (s t : State) → MayStop bounds why → Sides bounds c P n ps s t → Alike bounds {A = A} R n ps (Stopped why s) (Stopped why t)
+  stopped_here c n ps why s t may i = stopped why s t (record { outside = i.like.outside; turns = i.like.counts.turns; may = may })
 
 module _ (c : Comparison) where
   module _ {bounds : Bounds} where
@@ -83,7 +83,7 @@ module _ (c : Comparison) where
     counts_sides n ps s t a b d e h i = record { like = with_counts_like n ps s t a b h i.like; places = i.places; ready = c.stay s t _ _ (goes_with s a s.bindings d) (goes_with t b t.bindings e) i.ready }
 
   -- E: how outcomes end, where a stop of both, and what is apart, is an end
-  module _ {bounds : Bounds} {A : Type 0} {P : List Place → Type 0} (E : Outcome A → Outcome A → Type 0) (n : Names) (ps : List Place) (s t : State) (i : Sides bounds c P n ps s t) (stops : (why : Stop) → E (Stopped why s) (Stopped why t)) where
+  module _ {bounds : Bounds} {A : Type 0} {P : List Place → Type 0} (E : Outcome A → Outcome A → Type 0) (n : Names) (ps : List Place) (s t : State) (i : Sides bounds c P n ps s t) (stops : (why : Stop) → MayStop bounds why → E (Stopped why s) (Stopped why t)) where
     pub turn_by : (f g : State → Outcome A) → ((u v : State) → Goes s u → Goes t v → Sides bounds c P n ps u v → E (f u) (g v)) → E (turn s f) (turn t g)
     turn_by f g h = at s.counts.expansion t.counts.expansion i.like.counts.expansion
       where
@@ -91,13 +91,13 @@ module _ (c : Comparison) where
         on a b x y z = h _ _ (goes_with s a s.bindings x) (goes_with t b t.bindings y) (counts_sides n ps s t a b x y z i)
 
         run_at : (j k : ℕ) → j ≡ k → E (run_turn j s f) (run_turn k t g)
-        run_at zero zero e = stops _
+        run_at zero zero e = stops Turns tt
         run_at (suc j) (suc k) e = on _ _ refl refl (record { given = i.like.counts.given; turns = omega (arith, e); cells = i.like.counts.cells; expansion = i.like.counts.expansion })
         run_at zero (suc k) e = absurd (omega (arith, e))
         run_at (suc j) zero e = absurd (omega (arith, e))
 
         expansion_at : (j : ℕ) (e : Expansion) → E (expansion_turn j e s f) (expansion_turn j e t g)
-        expansion_at zero e = stops _
+        expansion_at zero e = stops (Expands e.macro) tt
         expansion_at (suc j) e = on _ _ refl refl (record { given = i.like.counts.given; turns = i.like.counts.turns; cells = i.like.counts.cells; expansion = same_open _ })
 
         at : (e x : Option Expansion) → SameExpansion e x → E (turn_of e s f) (turn_of x t g)
@@ -111,8 +111,8 @@ module _ (c : Comparison) where
     test_wider n l m le e = grind (arith, nat_tests)
 
     module _ (parts : (o p : Outcome A) → Parted bounds o p → E o p) (f g : Levels → Outcome A) (x : (l : Levels) → GoesOn s (f l)) (y : (l : Levels) → GoesOn t (g l)) (h : (l m : Levels) → Roomier bounds l m → E (f l) (g m)) where
-      right_stops : (l : Levels) → E (f l) (Stopped Depth t)
-      right_stops l = parts _ _ (ends.right_short (f l) Depth t short_of_levels (shown_on s t i.like.outside _ (x l).goes))
+      right_stops : (l : Levels) → true ≡ bounds.levels → E (f l) (Stopped Depth t)
+      right_stops l w = parts _ _ (ends.right_short (f l) Depth t (meets_levels (sym w)) (shown_on s t i.like.outside _ (x l).goes))
 
       left_stops : (m : Levels) → bounds.levels ≡ false → E (Stopped Depth s) (g m)
       left_stops m b = parts _ _ (ends.left_short Depth s (g m) (lacks_levels b) (shown_on t s (sym i.like.outside) _ (y m).goes))
@@ -120,8 +120,8 @@ module _ (c : Comparison) where
       entered_by : (b d : Bool) (l m : ℕ) → (d ≡ true → b ≡ true) → m ≤ l → true ≡ bounds.levels → E (entered b l s f) (entered d m t g)
       entered_by true true l m e le w = h (Some l) (Some m) (record { is = le; bound = w })
       entered_by false true l m e le w = absurd (let z : false ≡ true = e refl in cc)
-      entered_by true false l m e le w = right_stops (Some l)
-      entered_by false false l m e le w = stops Depth
+      entered_by true false l m e le w = right_stops (Some l) w
+      entered_by false false l m e le w = stops Depth (sym w)
 
       left_entered : (b : Bool) (l : ℕ) → false ≡ bounds.levels → E (entered b l s f) (g None)
       left_entered true l w = h (Some l) None (record { is = tt; bound = w })
@@ -129,7 +129,7 @@ module _ (c : Comparison) where
 
       right_entered : (d : Bool) (m : ℕ) → true ≡ bounds.levels → E (f None) (entered d m t g)
       right_entered true m w = h None (Some m) (record { is = tt; bound = w })
-      right_entered false m w = right_stops None
+      right_entered false m w = right_stops None w
 
       pub deeper_by : (k : ℕ) (l m : Levels) → Roomier bounds l m → E (deeper k l s f) (deeper k m t g)
       deeper_by k None None r = h None None r
@@ -140,11 +140,11 @@ module _ (c : Comparison) where
   module _ {bounds : Bounds} where
     pub turn_ends : {A : Type 0} {R : Names → A → A → Type 0} {P : List Place → Type 0} (n : Names) (ps : List Place) (s t : State) (f g : State → Outcome A) → Sides bounds c P n ps s t
         → ((u v : State) → Goes s u → Goes t v → Sides bounds c P n ps u v → Alike bounds R n ps (f u) (g v)) → Alike bounds R n ps (turn s f) (turn t g)
-    turn_ends {R = R} n ps s t f g i h = turn_by (Alike bounds R n ps) n ps s t i (λ why. stopped_here c n ps why s t i) f g h
+    turn_ends {R = R} n ps s t f g i h = turn_by (Alike bounds R n ps) n ps s t i (λ why may. stopped_here c n ps why s t may i) f g h
 
     pub deeper_ends : {A : Type 0} {R : Names → A → A → Type 0} {P : List Place → Type 0} (n : Names) (ps : List Place) (s t : State) (f g : Levels → Outcome A) → Sides bounds c P n ps s t → ((l : Levels) → GoesOn s (f l)) → ((l : Levels) → GoesOn t (g l)) → ((l m : Levels) → Roomier bounds l m → Alike bounds R n ps (f l) (g m))
         → (k : ℕ) (l m : Levels) → Roomier bounds l m → Alike bounds R n ps (deeper k l s f) (deeper k m t g)
-    deeper_ends {R = R} n ps s t f g i x y h = deeper_by (Alike bounds R n ps) n ps s t i (λ why. stopped_here c n ps why s t i) (λ o p a. parted o p a) f g x y h
+    deeper_ends {R = R} n ps s t f g i x y h = deeper_by (Alike bounds R n ps) n ps s t i (λ why may. stopped_here c n ps why s t may i) (λ o p a. parted o p a) f g x y h
 
 -- ---- what prints nothing
 

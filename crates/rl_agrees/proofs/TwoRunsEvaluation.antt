@@ -6,7 +6,7 @@ use Rattle.rl_tree.specs.declared.held.Kind.{Kind}
 use Rattle.rl_tree.specs.declared.held.Kind.TheVariants.{Expr, Fexpr, Macro}
 use Rattle.rl_meaning.specs.Names.{Native, Special, arguments_of, Eval, Errorset, Apply, Putd, Compile, Faslout, Load}
 use Rattle.rl_meaning.specs.State.{State, Tree, Held, Pointer, Definition, Symbol, Function, Expansion}
-use Rattle.rl_meaning.specs.Outcome.{Outcome, Done, Failed, Went, Returned, Stopped, then_do, Levels, deeper, made_pair}
+use Rattle.rl_meaning.specs.Outcome.{Outcome, Done, Failed, Went, Returned, Stopped, Expands, then_do, Levels, deeper, made_pair}
 use Rattle.rl_meaning.specs.Opening.{state_of}
 use Rattle.rl_meaning.specs.Symbols.{nil, is_nil, lambda_id, pair_at}
 use Rattle.rl_meaning.specs.Errors.{fail, undefined, wrong_count, wrong_type, misplaced, system_name}
@@ -400,7 +400,7 @@ module _ {bounds : Bounds} {compiler : Compiler} (c : Comparison) (cr : Compiler
       (λ k f g s t w e i'. expanded_ends k ps here m position f g _ _ s t r e.linked (function_now k ps f g s t e.linked i') i' h)
 
   pub chain_ends : (n : Names) (ps : List Place) (chain i : ℕ) (s t : State) (f g : ℕ → State → Outcome Value) → CleanSides bounds c n ps s t → ((c : ℕ) → Alike bounds SameValue n ps (f c s) (g c t)) → Alike bounds SameValue n ps (in_chain rec chain i s f) (in_chain rec' chain i t g)
-  chain_ends n ps zero i s t f g e h = stopped_here c n ps _ s t e
+  chain_ends n ps zero i s t f g e h = stopped_here c n ps (Expands i) s t tt e
   chain_ends n ps (suc j) i s t f g e h = h j
 
   -- ---- PROG

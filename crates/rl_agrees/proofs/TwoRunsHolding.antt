@@ -15,7 +15,7 @@ use Rattle.rl_meaning.specs.TwoRunsStates.{Bounds, Place, SameFunctions, Like, R
 use Rattle.rl_meaning.specs.TwoRunsEnds.{done}
 use Rattle.rl_agrees.proofs.TwoRunsLinked.{linked_cases, one_more, within_more, get_left, get_last}
 use Rattle.rl_agrees.proofs.TwoRunsGrowth.{grows_trans, value_grows, object_grows, tree_grows, function_grows, symbol_grows, aligned_grows, maybe_grows, each_grows, compilation_grows}
-use Rattle.rl_agrees.proofs.TwoRunsWays.{Beside, Is, is, then_related, then_is, done_now, choose_same, stopped_now, turn_related, pair_turn_related, room_related, left_same, reading_like, objects_read_like}
+use Rattle.rl_agrees.proofs.TwoRunsWays.{Beside, Is, is, then_related, then_is, done_now, choose_same, turns_out, turn_related, pair_turn_related, room_related, left_same, reading_like, objects_read_like}
 use Rattle.rl_agrees.proofs.TwoRunsObjects.{pair_same, nil_same, symbol_same, each_append, fail_related}
 use Rattle.rl_agrees.proofs.TwoRunsForms.{identifiers_same, pairs_same, identifiers_in_same, body_same, plain_same, numbered_same}
 use Rattle.rl_agrees.proofs.TwoRunsWalks.{same_goes, SameWalked, then_walked, walk_related}
@@ -78,7 +78,7 @@ module _ {bounds : Bounds} where
   element_related i within n ps b l m v w s t r h z = read_quoted_related _ _ (list_within i) (list_within i) within n ps b l m v w s t r (quoted_part_same n ps s t v w z h) h z
 
   list_within_related : (i : ℕ) → Reads bounds (list_within i) (list_within i)
-  list_within_related zero n ps b l m v w s t r h z = stopped_now n ps _ s t z
+  list_within_related zero n ps b l m v w s t r h z = turns_out n ps s t z
   list_within_related (suc i) n ps b l m v w s t r h z =
       read_parts_related _ _ (list_within i) (list_within i) (element_related i (list_within_related i)) (list_within_related i) n ps _ _ b l m v w s t r (pair_same n ps s t v w z h) h z
 

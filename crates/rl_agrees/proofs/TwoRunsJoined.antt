@@ -9,7 +9,7 @@ use Rattle.rl_meaning.specs.TwoRunsValues.{Names, Grows, Maybe, nothing, just, E
 use Rattle.rl_meaning.specs.TwoRunsStates.{Bounds, SameStore, SameFunctions, Place, Aligned, bottom, both, both_mark, hidden, hidden_mark, SameExpansion, same_none, same_open, IsRoomier, SameCounts, SameCompilation, Like}
 use Rattle.rl_meaning.specs.Outcome.{Outcome, Done, Failed, Went, Returned, Stopped, Stop}
 use Rattle.rl_meaning.specs.Opening.{state_of}
-use Rattle.rl_meaning.specs.TwoRunsEnds.{Begins, HasShown, IsShort, IsLacking, OneBegins, Parted, by_event, right_short, left_short, short_by_event, both_short, SameSeen, Related, done, failed, went, returned, stopped, parted, Ends}
+use Rattle.rl_meaning.specs.TwoRunsEnds.{Begins, HasShown, IsShort, short_of_cells, short_of_levels, IsLacking, IsMeeting, meets_cells, meets_levels, MayStop, OneBegins, Parted, by_event, right_short, left_short, short_by_event, both_short, SameStop, Related, done, failed, went, returned, stopped, parted, Ends}
 use Rattle.rl_meaning.specs.Right.{Leaves, at_event, at_bound, IsForeseen, as_event, past_bound}
 use Rattle.rl_agrees.specs.TwoRunsJobs.{IsWhole, EventWithin}
 use Rattle.rl_agrees.proofs.TwoRunsLinked.{linked_cases}
@@ -315,14 +315,14 @@ shown_at x y p o e h = subst (λ w. HasShown x y w) e h
 
 -- the second and the third from one state
 abbrev pub Follows : Bounds → Names → List Place → Outcome Value → Outcome Value → Type 0
-Follows bounds known qs = Related bounds Leaves SameValue known qs
+Follows bounds known qs = Related bounds (Leaves bounds) SameValue known qs
 
 -- what was printed and noted by an event
 abbrev Front : Recorded → State → Outside → Type 0
 Front r t o = HasShown (take r.printed t.outside.output) (take r.noted t.outside.notes) o
 
 module _ {bounds : Bounds} where
-  seen_by_right : (o p q : Outcome Value) → (state_of p).outside ≡ (state_of o).outside → Leaves p q → Parted bounds o q
+  seen_by_right : (o p q : Outcome Value) → (state_of p).outside ≡ (state_of o).outside → Leaves bounds p q → Parted bounds o q
   seen_by_right o p q e (at_event _ _ r x h) = by_event o q r x (shown_at _ _ _ _ e h)
   seen_by_right o p q e (at_bound _ why t x h) = right_short o why t x (shown_at _ _ _ _ e h)
 
@@ -354,35 +354,41 @@ either_front : (x y z : List ℕ) → Begins x y → OneBegins y z → OneBegins
 either_front x y z h (inl g) = inl (begins_trans x y z h g)
 either_front x y z h (inr g) = both_begin x z y h g
 
+module _ {bounds : Bounds} where
+  -- a stop of both for cells or levels is one for a bound of the right run
+  pub meeting : (why : Stop) → IsShort why → MayStop bounds why → IsMeeting bounds why
+  meeting _ short_of_cells may = meets_cells may
+  meeting _ short_of_levels may = meets_levels may
+
 module _ (known : Names) (qs : List Place) where
   -- what a third that met its bound had printed and noted, the second had by its event, or else the third has an event
-  data Past (c : Recorded) (p : Outcome Value) (t : State) : Type 0 where
-    past_all : Begins t.outside.output (take c.printed (state_of p).outside.output) → Begins t.outside.notes (take c.noted (state_of p).outside.notes) → Past c p t
-    past_event : (r : Recorded) → t.watched.event ≡ Some r → Begins (take r.printed t.outside.output) (take c.printed (state_of p).outside.output) → Begins (take r.noted t.outside.notes) (take c.noted (state_of p).outside.notes) → Past c p t
+  data Past (bounds : Bounds) (why : Stop) (c : Recorded) (p : Outcome Value) (t : State) : Type 0 where
+    past_all : IsMeeting bounds why → Begins t.outside.output (take c.printed (state_of p).outside.output) → Begins t.outside.notes (take c.noted (state_of p).outside.notes) → Past bounds why c p t
+    past_event : (r : Recorded) → t.watched.event ≡ Some r → Begins (take r.printed t.outside.output) (take c.printed (state_of p).outside.output) → Begins (take r.noted t.outside.notes) (take c.noted (state_of p).outside.notes) → Past bounds why c p t
 
   module _ {bounds : Bounds} where
-    past : (c : Recorded) (p : Outcome Value) (why : Stop) (t : State) → length t.outside.output ≤ c.printed → length t.outside.notes ≤ c.noted → EventWithin t → Follows bounds known qs p (Stopped why t) → Past c p t
-    past c p why t a b w (stopped _ s _ x) =
+    past : (c : Recorded) (p : Outcome Value) (why : Stop) (t : State) → IsShort why → length t.outside.output ≤ c.printed → length t.outside.notes ≤ c.noted → EventWithin t → Follows bounds known qs p (Stopped why t) → Past bounds why c p t
+    past c p why t short a b w (stopped _ s _ x) =
         let h : HasShown t.outside.output t.outside.notes s.outside = shown_at _ _ _ _ (sym x.outside) (shown_refl t.outside) in
-        past_all (begins_cut c.printed _ _ h.output a) (begins_cut c.noted _ _ h.notes b)
-    past c p why t a b w (parted _ _ (at_event _ _ r e h)) =
+        past_all (meeting why short x.may) (begins_cut c.printed _ _ h.output a) (begins_cut c.noted _ _ h.notes b)
+    past c p why t short a b w (parted _ _ (at_event _ _ r e h)) =
         let f : Begins (take r.printed t.outside.output) (take c.printed (state_of p).outside.output) × Begins (take r.noted t.outside.notes) (take c.noted (state_of p).outside.notes) =
         front_of_front c r p (Stopped why t) (omega (arith, w.printed r e, a)) (omega (arith, w.noted r e, b)) h in
         past_event r e f.0 f.1
-    past c p why t a b w (parted _ _ (at_bound _ _ _ x h)) = past_all (begins_cut c.printed _ _ h.output a) (begins_cut c.noted _ _ h.notes b)
+    past c p why t short a b w (parted _ _ (at_bound _ _ _ x h)) = past_all x (begins_cut c.printed _ _ h.output a) (begins_cut c.noted _ _ h.notes b)
 
-    join_past : (o p : Outcome Value) (c : Recorded) (why : Stop) (t : State) → IsShort why → Front c (state_of p) (state_of o).outside → Past c p t → Parted bounds o (Stopped why t)
-    join_past o p c why t x h (past_all a b) = right_short o why t x (record { output = begins_trans _ _ _ a h.output; notes = begins_trans _ _ _ b h.notes })
-    join_past o p c why t x h (past_event r e a b) = by_event o (Stopped why t) r e (record { output = begins_trans _ _ _ a h.output; notes = begins_trans _ _ _ b h.notes })
+    join_past : (o p : Outcome Value) (c : Recorded) (why : Stop) (t : State) → Front c (state_of p) (state_of o).outside → Past bounds why c p t → Parted bounds o (Stopped why t)
+    join_past o p c why t h (past_all x a b) = right_short o why t x (record { output = begins_trans _ _ _ a h.output; notes = begins_trans _ _ _ b h.notes })
+    join_past o p c why t h (past_event r e a b) = by_event o (Stopped why t) r e (record { output = begins_trans _ _ _ a h.output; notes = begins_trans _ _ _ b h.notes })
 
     join_event : (o p q : Outcome Value) (c : Recorded) → EventWithin (state_of q) → Front c (state_of p) (state_of o).outside → IsForeseen c q → Follows bounds known qs p q → Parted bounds o q
     join_event o p q c v h (as_event _ w e a b) g =
         let f : Begins (take w.printed (state_of q).outside.output) (take c.printed (state_of p).outside.output) × Begins (take w.noted (state_of q).outside.notes) (take c.noted (state_of p).outside.notes) =
         front_of_front c w p q a b (second_shows known qs p q w e g) in
         by_event o q w e (record { output = begins_trans _ _ _ f.0 h.output; notes = begins_trans _ _ _ f.1 h.notes })
-    join_event o p q c v h (past_bound why t x a b) g = join_past o p c why t x h (past c p why t a b v g)
+    join_event o p q c v h (past_bound why t x a b) g = join_past o p c why t h (past c p why t x a b v g)
 
-    join_right_short : (o q : Outcome Value) (why : Stop) (t : State) → IsShort why → HasShown t.outside.output t.outside.notes (state_of o).outside → Follows bounds known qs (Stopped why t) q → Parted bounds o q
+    join_right_short : (o q : Outcome Value) (why : Stop) (t : State) → IsMeeting bounds why → HasShown t.outside.output t.outside.notes (state_of o).outside → Follows bounds known qs (Stopped why t) q → Parted bounds o q
     join_right_short o q why t x h (stopped _ _ u f) = right_short o why u x (subst (λ (w : Outside). HasShown w.output w.notes (state_of o).outside) f.outside h)
     join_right_short o q why t x h (parted _ _ (at_event _ _ r y g)) = by_event o q r y (shown_trans _ _ t.outside _ g h)
     join_right_short o q why t x h (parted _ _ (at_bound _ other u y g)) = right_short o other u y (shown_trans _ _ t.outside _ g h)
@@ -396,10 +402,10 @@ module _ (known : Names) (qs : List Place) where
     join_left_short why s p q x h (parted _ _ (at_event _ _ r y g)) = short_by_event why s q r x y (both_begin _ _ _ g.output h.output) (both_begin _ _ _ g.notes h.notes)
     join_left_short why s p q x h (parted _ _ (at_bound _ other u y g)) = both_short why other s u x y (both_begin _ _ _ g.output h.output) (both_begin _ _ _ g.notes h.notes)
 
-    short_past : (why : Stop) (s : State) (p : Outcome Value) (c : Recorded) (other : Stop) (t : State) → IsLacking bounds why → IsShort other
-        → OneBegins (take c.printed (state_of p).outside.output) s.outside.output → OneBegins (take c.noted (state_of p).outside.notes) s.outside.notes → Past c p t → Parted bounds {A = Value} (Stopped why s) (Stopped other t)
-    short_past why s p c other t x y a b (past_all f g) = both_short why other s t x y (either_front _ _ _ f a) (either_front _ _ _ g b)
-    short_past why s p c other t x y a b (past_event r e f g) = short_by_event why s (Stopped other t) r x e (either_front _ _ _ f a) (either_front _ _ _ g b)
+    short_past : (why : Stop) (s : State) (p : Outcome Value) (c : Recorded) (other : Stop) (t : State) → IsLacking bounds why
+        → OneBegins (take c.printed (state_of p).outside.output) s.outside.output → OneBegins (take c.noted (state_of p).outside.notes) s.outside.notes → Past bounds other c p t → Parted bounds {A = Value} (Stopped why s) (Stopped other t)
+    short_past why s p c other t x a b (past_all y f g) = both_short why other s t x y (either_front _ _ _ f a) (either_front _ _ _ g b)
+    short_past why s p c other t x a b (past_event r e f g) = short_by_event why s (Stopped other t) r x e (either_front _ _ _ f a) (either_front _ _ _ g b)
 
     join_short_event : (why : Stop) (s : State) (p q : Outcome Value) (c : Recorded) → IsLacking bounds why → EventWithin (state_of q)
         → OneBegins (take c.printed (state_of p).outside.output) s.outside.output → OneBegins (take c.noted (state_of p).outside.notes) s.outside.notes → IsForeseen c q → Follows bounds known qs p q → Parted bounds (Stopped why s) q
@@ -407,9 +413,9 @@ module _ (known : Names) (qs : List Place) where
         let f : Begins (take w.printed (state_of q).outside.output) (take c.printed (state_of p).outside.output) × Begins (take w.noted (state_of q).outside.notes) (take c.noted (state_of p).outside.notes) =
         front_of_front c w p q i j (second_shows known qs p q w e g) in
         short_by_event why s q w x e (either_front _ _ _ f.0 a) (either_front _ _ _ f.1 b)
-    join_short_event why s p q c x v a b (past_bound other t y i j) g = short_past why s p c other t x y a b (past c p other t i j v g)
+    join_short_event why s p q c x v a b (past_bound other t y i j) g = short_past why s p c other t x a b (past c p other t y i j v g)
 
-    join_both_short : (why other : Stop) (s t : State) (q : Outcome Value) → IsLacking bounds why → IsShort other → OneBegins t.outside.output s.outside.output → OneBegins t.outside.notes s.outside.notes → Follows bounds known qs (Stopped other t) q → Parted bounds (Stopped why s) q
+    join_both_short : (why other : Stop) (s t : State) (q : Outcome Value) → IsLacking bounds why → IsMeeting bounds other → OneBegins t.outside.output s.outside.output → OneBegins t.outside.notes s.outside.notes → Follows bounds known qs (Stopped other t) q → Parted bounds (Stopped why s) q
     join_both_short why other s t q x y a b (stopped _ _ u f) = both_short why other s u x y (subst (λ (w : Outside). OneBegins w.output s.outside.output) f.outside a) (subst (λ (w : Outside). OneBegins w.notes s.outside.notes) f.outside b)
     join_both_short why other s t q x y a b (parted _ _ (at_event _ _ r z g)) = short_by_event why s q r x z (either_front _ _ _ g.output a) (either_front _ _ _ g.notes b)
     join_both_short why other s t q x y a b (parted _ _ (at_bound _ last u z g)) = both_short why last s u x z (either_front _ _ _ g.output a) (either_front _ _ _ g.notes b)
@@ -456,8 +462,8 @@ module _ (n known : Names) (covers : Covers n known) where
         returned (names_through m k) a c s u (grows_through m k once g h) (value_joined m k once a b c r r') (like_joined m k ps qs s t u e w v l l')
     join_returned m a b s t q e g r l (parted _ _ x) = parted _ _ (seen_by_right (Returned a s) (Returned b t) q (sym l.outside) x)
 
-    join_stopped : (why : Stop) (s t : State) (q : Outcome Value) → SameSeen s t → Follows bounds known qs (Stopped why t) q → Ends bounds n qs (Stopped why s) q
-    join_stopped why s t q e (stopped _ _ u f) = stopped why s u (record { outside = e.outside ∙ f.outside; turns = e.turns ∙ f.turns })
+    join_stopped : (why : Stop) (s t : State) (q : Outcome Value) → SameStop bounds why s t → Follows bounds known qs (Stopped why t) q → Ends bounds n qs (Stopped why s) q
+    join_stopped why s t q e (stopped _ _ u f) = stopped why s u (record { outside = e.outside ∙ f.outside; turns = e.turns ∙ f.turns; may = f.may })
     join_stopped why s t q e (parted _ _ x) = parted _ _ (seen_by_right (Stopped why s) (Stopped why t) q (sym e.outside) x)
 
     -- one run beside a second, and the second, from one state, beside a third

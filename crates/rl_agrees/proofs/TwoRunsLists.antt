@@ -11,7 +11,7 @@ use Rattle.rl_meaning.specs.Copying.{with_object}
 use Rattle.rl_meaning.specs.TwoRunsValues.{Names, Grows, Maybe, nothing, just, Each, end, more, SameValue, same_int, same_id, same_str, SameParts, same_parts, same_pair, same_vector}
 use Rattle.rl_meaning.specs.TwoRunsStates.{Bounds, Place, Like, Roomier}
 use Rattle.rl_agrees.proofs.TwoRunsGrowth.{value_grows, values_grow}
-use Rattle.rl_agrees.proofs.TwoRunsWays.{Beside, Is, is, then_related, then_value, then_is, done_now, choose_related, stopped_now, turn_related, deeper_related, descends_related, pair_turn_related, reading_like, pair_read_like, whole_read_like, objects_read_like, changing_like}
+use Rattle.rl_agrees.proofs.TwoRunsWays.{Beside, Is, is, then_related, then_value, then_is, done_now, choose_related, turns_out, turn_related, deeper_related, descends_related, pair_turn_related, reading_like, pair_read_like, whole_read_like, objects_read_like, changing_like}
 use Rattle.rl_agrees.proofs.TwoRunsObjects.{pair_same, same_same, made_pair_related, made_string_related, made_vector_related, interned_related, raise_related, fail_related, with_object_like}
 use Rattle.rl_agrees.proofs.TwoRunsWalks.{then_walked, SameFurther, same_goes, same_ends, walk_related, equal_related}
 
@@ -19,7 +19,7 @@ pub ruleset values = (same_int, same_id, same_str, same_pair, same_vector, same_
 
 pub ruleset likes = (reading_like, pair_read_like, whole_read_like, objects_read_like, changing_like, with_object_like)
 
-pub ruleset ways = (done_now, then_value, then_is, choose_related, stopped_now, turn_related, deeper_related, descends_related, pair_turn_related)
+pub ruleset ways = (done_now, then_value, then_is, choose_related, turns_out, turn_related, deeper_related, descends_related, pair_turn_related)
 
 pub ruleset renaming = (values, likes, ways, made_pair_related, made_string_related, made_vector_related, interned_related, raise_related, fail_related)
 

@@ -21,10 +21,10 @@ use Rattle.rl_meaning.specs.Run.{Ending, Finished, Stops, Ran, held_evaluated, s
 use Rattle.rl_meaning.specs.TwoRunsLinks.{Linked, OneToOne, Within}
 use Rattle.rl_meaning.specs.TwoRunsValues.{Names, Maybe, Each, SameValue, same_id, SameTree, SameFunction, same_special, same_native, same_held_function, same_held, same_pointer, SameNumber}
 use Rattle.rl_meaning.specs.TwoRunsStates.{Bounds, bounds_of, Place, all_both, SameExpansion, same_none, same_open, IsRoomier, Roomier, Like}
-use Rattle.rl_meaning.specs.TwoRunsEnds.{Begins, HasShown, IsShort, short_of_cells, short_of_levels, IsLacking, lacks_cells, lacks_levels, OneBegins, Parted, by_event, right_short, left_short, short_by_event, both_short, Related, done, failed, went, returned, stopped, parted, Ends}
+use Rattle.rl_meaning.specs.TwoRunsEnds.{Begins, HasShown, IsShort, short_of_cells, short_of_levels, IsLacking, lacks_cells, lacks_levels, IsMeeting, meets_cells, meets_levels, OneBegins, Parted, by_event, right_short, left_short, short_by_event, both_short, Related, done, failed, went, returned, stopped, parted, Ends}
 use Rattle.rl_meaning.specs.Right.{Stood, AllAsTheyStood}
 use Rattle.rl_agrees.specs.TwoRunsJobs.{Goes, SameHere, same_here, same_in, ReadyCode, Ready}
-use Rattle.rl_agrees.specs.TwoRunsRuns.{StopsLacking, RunsAgree, alike, until_event, until_right_stop, until_left_stop, until_either, until_both_stop, StopsShort, HasRoom, HasNoEvent, SameRun, printed_by, noted_by, printed_first, noted_first, each_itself, names_of, IsSound, running, walking}
+use Rattle.rl_agrees.specs.TwoRunsRuns.{StopsLacking, StopsMeeting, MayEnd, RunsAgree, alike, until_event, until_right_stop, until_left_stop, until_either, until_both_stop, HasRoom, HasNoEvent, SameRun, printed_by, noted_by, printed_first, noted_first, each_itself, names_of, IsSound, running, walking}
 use Rattle.rl_agrees.specs.Laws.{CodeAgrees}
 use Rattle.rl_agrees.proofs.TwoRunsLinked.{linked_cases}
 use Rattle.rl_agrees.proofs.TwoRunsGrowth.{grows_refl}
@@ -33,7 +33,7 @@ use Rattle.rl_agrees.proofs.TwoRunsObjects.{each_get}
 use Rattle.rl_agrees.proofs.TwoRunsForms.{function_same}
 use Rattle.rl_agrees.proofs.TwoRunsPrinting.{mark_like, fresh_like}
 use Rattle.rl_agrees.proofs.TwoRunsKnown.{all_both_whole}
-use Rattle.rl_agrees.proofs.TwoRunsJoined.{begins_refl, begins_trans, take_begins, both_begin, shown_refl}
+use Rattle.rl_agrees.proofs.TwoRunsJoined.{begins_refl, begins_trans, take_begins, both_begin, shown_refl, meeting}
 use Rattle.rl_agrees.proofs.TwoRunsFacts.{AskGoes, GoesOn, OneRunFacts, TwoRunsFacts}
 use Rattle.rl_agrees.proofs.TwoRunsReading.{SameReading, same_form, same_end, same_unreadable}
 use Rattle.rl_agrees.proofs.TwoRunsAsked.{Respects}
@@ -111,10 +111,10 @@ module _ {bounds : Bounds} where
       → CleanSides bounds code_and_walk n ps s t → Goes s (state_of o) → Goes t (state_of p) → ((a : A) (t : State) → Goes t (f a t).state) → ((a : A) (t : State) → Goes t (g a t).state) → Related bounds {A = A} (Parted bounds) R n ps o p
       → ((m : Names) (a b : A) (u v : State) → R m a b → CleanSides bounds code_and_walk m ps u v → RunsAgree bounds (f a u) (g b v)) → RunsAgree bounds (goes_on o f) (goes_on p g)
   goes_on_agrees n ps s t o p f g i d w x y (done m a b u v k r l) h = h m a b u v r (sides_on code_and_walk n m ps s t u v i d w l)
-  goes_on_agrees n ps s t o p f g i d w x y (failed m z a b u v k r l) h = alike _ _ refl l.outside l.counts.turns
-  goes_on_agrees n ps s t o p f g i d w x y (went m z u v k l) h = alike _ _ refl l.outside l.counts.turns
-  goes_on_agrees n ps s t o p f g i d w x y (returned m a b u v k r l) h = alike _ _ refl l.outside l.counts.turns
-  goes_on_agrees n ps s t o p f g i d w x y (stopped why u v e) h = alike _ _ refl e.outside e.turns
+  goes_on_agrees n ps s t o p f g i d w x y (failed m z a b u v k r l) h = alike _ _ refl l.outside l.counts.turns tt
+  goes_on_agrees n ps s t o p f g i d w x y (went m z u v k l) h = alike _ _ refl l.outside l.counts.turns tt
+  goes_on_agrees n ps s t o p f g i d w x y (returned m a b u v k r l) h = alike _ _ refl l.outside l.counts.turns tt
+  goes_on_agrees n ps s t o p f g i d w x y (stopped why u v e) h = alike _ _ refl e.outside e.turns e.may
   goes_on_agrees n ps s t o p f g i d w x y (parted _ _ a) h =
       ran_agrees (goes_on o f) (goes_on p g) _ _ refl refl (parted_in (λ o. as_outcome (goes_on o f)) (λ o. as_outcome (goes_on o g)) o p (goes_on_context f x) (goes_on_context g y) (w.within i.ready.event) a)
 
@@ -204,11 +204,11 @@ module _ {bounds : Bounds} (facts : LoopFacts bounds) where
   reading_agrees n ps l m size f g _ _ s t r d e h (same_form v w rest x) i =
       goes_on_agrees {R = Is} n ps s t _ _ _ _ i (after_goes l v s) (after_goes m w t) (λ z u. d rest u) (λ z u. e rest u)
       (after_ends n ps l m s t _ _ r i (statement_on m w t) (statement_ends n ps l m v w s t r x i)) (λ k a b u v z j. h k rest u v j)
-  reading_agrees n ps l m size f g _ _ s t r d e h same_end i = alike _ _ refl i.like.outside i.like.counts.turns
+  reading_agrees n ps l m size f g _ _ s t r d e h same_end i = alike _ _ refl i.like.outside i.like.counts.turns tt
   reading_agrees n ps l m size f g _ _ s t r d e h (same_unreadable k from) i = h n (behind_line from) _ _ (sides_on code_and_walk n n ps s t _ _ i (facts.one.unreadable_goes (size - length from) s) (facts.one.unreadable_goes (size - length from) t) (unreadable_like n ps (size - length from) s t i.like))
 
   run_agrees : (i : ℕ) (n : Names) (ps : List Place) (l m : Levels) (size : ℕ) (bytes : List ℕ) (s t : State) → Roomier bounds l m → CleanSides bounds code_and_walk n ps s t → RunsAgree bounds (run_within i l size bytes s) (run_within i m size bytes t)
-  run_agrees zero n ps l m size bytes s t r i = alike _ _ refl i.like.outside i.like.counts.turns
+  run_agrees zero n ps l m size bytes s t r i = alike _ _ refl i.like.outside i.like.counts.turns tt
   run_agrees (suc i) n ps l m size bytes s t r x =
       goes_on_agrees {R = SameReading} n ps s t _ _ _ _ x (read_goes l bytes s) (read_goes m bytes t)
       (λ reading u. reading_goes l size (λ rest s. run_within i l size rest s) (λ rest s. run_goes i l size rest s) reading u)
@@ -221,7 +221,7 @@ module _ {bounds : Bounds} (facts : LoopFacts bounds) where
   bytes_agree n ps l m bytes s t r i = run_agrees (suc (length bytes)) n ps l m (length bytes) bytes s t r i
 
   pub file_agrees : (n : Names) (ps : List Place) (l m : Levels) (name : Name) (file : Option (List ℕ)) (s t : State) → Roomier bounds l m → CleanSides bounds code_and_walk n ps s t → RunsAgree bounds (run_file l name file s) (run_file m name file t)
-  file_agrees n ps l m name None s t r i = alike _ _ refl i.like.outside i.like.counts.turns
+  file_agrees n ps l m name None s t r i = alike _ _ refl i.like.outside i.like.counts.turns tt
   file_agrees n ps l m name (Some file) s t r i = bytes_agree n ps l m (source_of file) s t r i
 
 -- ---- the state in which both begin
@@ -313,29 +313,34 @@ module _ {bounds : Bounds} where
   lacking_short _ (lacks_cells e) = short_of_cells
   lacking_short _ (lacks_levels e) = short_of_levels
 
+  -- so does one that stops for a bound that it has
+  meeting_short : (why : Stop) → IsMeeting bounds why → IsShort why
+  meeting_short _ (meets_cells e) = short_of_cells
+  meeting_short _ (meets_levels e) = short_of_levels
+
   same_run : (o p : Ran) → RunsAgree bounds o p → HasNoEvent p → HasRoom o → HasRoom p → SameRun o p
-  same_run _ _ (alike o p e x y) n a b = record { ending = e; outside = x; turns = y }
+  same_run _ _ (alike o p e x y may) n a b = record { ending = e; outside = x; turns = y }
   same_run _ _ (until_event o p r e h) n a b = absurd (cc)
-  same_run _ _ (until_right_stop o p why e i h) n a b = absurd (b (record { why = why; is = e; short = i }))
+  same_run _ _ (until_right_stop o p why e i h) n a b = absurd (b (record { why = why; is = e; short = meeting_short why i }))
   same_run _ _ (until_left_stop o p why e i h) n a b = absurd (a (record { why = why; is = e; short = lacking_short why i }))
   same_run _ _ (until_either o p why r e i x h k) n a b = absurd (cc)
   same_run _ _ (until_both_stop o p why other e x i j h k) n a b = absurd (a (record { why = why; is = e; short = lacking_short why i }))
 
   front_of : (o p : Ran) → RunsAgree bounds o p → HasNoEvent p → HasRoom p → HasShown o.state.outside.output o.state.outside.notes p.state.outside
-  front_of _ _ (alike o p e x y) n b = subst (λ z. HasShown o.state.outside.output o.state.outside.notes z) x (shown_refl o.state.outside)
+  front_of _ _ (alike o p e x y may) n b = subst (λ z. HasShown o.state.outside.output o.state.outside.notes z) x (shown_refl o.state.outside)
   front_of _ _ (until_event o p r e h) n b = absurd (cc)
-  front_of _ _ (until_right_stop o p why e i h) n b = absurd (b (record { why = why; is = e; short = i }))
+  front_of _ _ (until_right_stop o p why e i h) n b = absurd (b (record { why = why; is = e; short = meeting_short why i }))
   front_of _ _ (until_left_stop o p why e i h) n b = h
   front_of _ _ (until_either o p why r e i x h k) n b = absurd (cc)
-  front_of _ _ (until_both_stop o p why other e x i j h k) n b = absurd (b (record { why = other; is = x; short = j }))
+  front_of _ _ (until_both_stop o p why other e x i j h k) n b = absurd (b (record { why = other; is = x; short = meeting_short other j }))
 
-  bound_met : (o p : Ran) (why : Stop) → RunsAgree bounds o p → HasNoEvent p → o.ending ≡ Stops why → IsShort why → IsLacking bounds why ⊎ StopsShort p
-  bound_met _ _ why (alike o p e x y) n w short = inr (record { why = why; is = sym e ∙ w; short = short })
+  bound_met : (o p : Ran) (why : Stop) → RunsAgree bounds o p → HasNoEvent p → o.ending ≡ Stops why → IsShort why → IsLacking bounds why ⊎ StopsMeeting bounds p
+  bound_met _ _ why (alike o p e x y may) n w short = let f : p.ending ≡ Stops why = sym e ∙ w in inr (record { why = why; is = f; meets = meeting why short (subst (λ z. MayEnd bounds z) f may) })
   bound_met _ _ why (until_event o p r e h) n w short = absurd (cc)
-  bound_met _ _ why (until_right_stop o p other e i h) n w short = inr (record { why = other; is = e; short = i })
+  bound_met _ _ why (until_right_stop o p other e i h) n w short = inr (record { why = other; is = e; meets = i })
   bound_met _ _ why (until_left_stop o p other e i h) n w short = inl (subst (λ w. IsLacking bounds w) (stops_is o why other w e) i)
   bound_met _ _ why (until_either o p other r e i x h k) n w short = absurd (cc)
-  bound_met _ _ why (until_both_stop o p other last e x i j h k) n w short = inr (record { why = last; is = x; short = j })
+  bound_met _ _ why (until_both_stop o p other last e x i j h k) n w short = inr (record { why = last; is = x; meets = j })
 
 printed_begins : (r : Option Recorded) (xs : List ℕ) → Begins (printed_by r xs) xs
 printed_begins None xs = begins_refl xs
@@ -354,7 +359,7 @@ shown_at_event o p r e h = subst (λ w. HasShown (printed_by w p.state.outside.o
 
 module _ {bounds : Bounds} where
   event_shown : (o p : Ran) → RunsAgree bounds o p → (StopsLacking bounds o → ⊥) → HasShown (printed_first p) (noted_first p) o.state.outside
-  event_shown _ _ (alike o p e x y) a = first_shown o p (subst (λ z. HasShown z.output z.notes o.state.outside) x (shown_refl o.state.outside))
+  event_shown _ _ (alike o p e x y may) a = first_shown o p (subst (λ z. HasShown z.output z.notes o.state.outside) x (shown_refl o.state.outside))
   event_shown _ _ (until_event o p r e h) a = shown_at_event o p r e h
   event_shown _ _ (until_right_stop o p why e i h) a = first_shown o p h
   event_shown _ _ (until_left_stop o p why e i h) a = absurd (a (record { why = why; is = e; lacks = i }))
@@ -368,7 +373,7 @@ front_begins x y z h (inr k) = both_begin x z y h k
 
 module _ {bounds : Bounds} where
   either_shown : (o p : Ran) → RunsAgree bounds o p → OneBegins (printed_first p) o.state.outside.output × OneBegins (noted_first p) o.state.outside.notes
-  either_shown _ _ (alike o p e x y) = let h : HasShown (printed_first p) (noted_first p) o.state.outside = first_shown o p (subst (λ z. HasShown z.output z.notes o.state.outside) x (shown_refl o.state.outside)) in (inl h.output, inl h.notes)
+  either_shown _ _ (alike o p e x y may) = let h : HasShown (printed_first p) (noted_first p) o.state.outside = first_shown o p (subst (λ z. HasShown z.output z.notes o.state.outside) x (shown_refl o.state.outside)) in (inl h.output, inl h.notes)
   either_shown _ _ (until_event o p r e h) = let k : HasShown (printed_first p) (noted_first p) o.state.outside = shown_at_event o p r e h in (inl k.output, inl k.notes)
   either_shown _ _ (until_right_stop o p why e i h) = let k : HasShown (printed_first p) (noted_first p) o.state.outside = first_shown o p h in (inl k.output, inl k.notes)
   either_shown _ _ (until_left_stop o p why e i h) =

@@ -8,7 +8,7 @@ use Rattle.rl_meaning.specs.Names.{Special, De, Df, Dm}
 use Rattle.rl_meaning.specs.State.{State, Code, Counts, Expansion, Tree, Kept, Held, Pointer, Definition, Function, Entry, Scope, Local, Fluid}
 use Rattle.rl_meaning.specs.CMacros.{Operand, CMacro, Alloc, Dealloc, Load, Store, SetVar, Move, Copy, Link, LinkE, Self, CallNative, Jump, JumpNil, JumpT, JumpEq, JumpNe, Label, GoTo, Bind, ProgBind, Free, Exit, Raise}
 use Rattle.rl_meaning.specs.CMacros as macros
-use Rattle.rl_meaning.specs.Outcome.{Outcome, Done, Stopped, Stop, Depth, then_do, choose, run_turn, expansion_turn, turn_of, turn, Levels, entered, deeper}
+use Rattle.rl_meaning.specs.Outcome.{Outcome, Done, Stopped, Stop, Turns, Depth, Expands, then_do, choose, run_turn, expansion_turn, turn_of, turn, Levels, entered, deeper}
 use Rattle.rl_meaning.specs.Symbols.{nil, nil_id, same, is_constant, symbol_at}
 use Rattle.rl_meaning.specs.Errors.{fail, wrong_count, wrong_type, badly_formed, not_bindable, system_name}
 use Rattle.rl_meaning.specs.Holding.{function_id, kept_kind, hold_function, form_at}
@@ -23,7 +23,7 @@ use Rattle.rl_meaning.specs.Jobs.{the_compiler}
 use Rattle.rl_meaning.specs.TwoRunsLinks.{OneToOne}
 use Rattle.rl_meaning.specs.TwoRunsValues.{Names, Grows, Maybe, nothing, just, Each, end, more, SameValue, same_int, same_id, same_str, same_ref, same_fun, SameTree, SameHeld, same_held, SameFunction, same_special, same_native, same_held_function, SamePointer, same_pointer, SameNumber, SameDefinition, same_definition, SameOperand, same_slot, same_constant, same_variable, same_register, SameMacro, same_load, same_copy, same_jump_eq, same_jump_ne, same_macro, SameCode, same_atom, same_quoted, same_node, same_literal}
 use Rattle.rl_meaning.specs.TwoRunsStates.{Bounds, Place, Both, BothMark, Hidden, HiddenMark, Aligned, bottom, both, both_mark, hidden, hidden_mark, SameExpansion, same_none, same_open, SameCounts, Like, Roomier}
-use Rattle.rl_meaning.specs.TwoRunsEnds.{HasShown, short_of_levels, Parted, Related, done, failed, went, returned, stopped, parted, Ends}
+use Rattle.rl_meaning.specs.TwoRunsEnds.{HasShown, MayStop, Parted, Related, done, failed, went, returned, stopped, parted, Ends}
 use Rattle.rl_meaning.specs.TwoRunsEnds as ends
 use Rattle.rl_agrees.specs.TwoRunsJobs.{Goes, SameBound, same_bound, SameMachine, same_machine, SameFrame, same_frame, same_onward, Ready, IsWhole, EndsSomewhere}
 use Rattle.rl_agrees.proofs.TwoRunsGrowth.{grows_refl, values_grow, maybe_grows, held_grows, pointer_grows, code_grows}
@@ -101,8 +101,8 @@ module _ {bounds : Bounds} where
   done_somewhere : {A : Type 0} {R : Names → A → A → Type 0} (n : Names) (a b : A) (s t : State) → R n a b → Abreast bounds n s t → Somewhere bounds R n (Done a s) (Done b t)
   done_somewhere n a b s t r x = record { places = x.places; whole = x.whole; ends = done n a b s t (grows_refl n) r x.like }
 
-  stopped_somewhere : {A : Type 0} {R : Names → A → A → Type 0} (n : Names) (why : Stop) (s t : State) → Abreast bounds n s t → Somewhere bounds {A = A} R n (Stopped why s) (Stopped why t)
-  stopped_somewhere n why s t x = record { places = x.places; whole = x.whole; ends = stopped why s t (record { outside = x.like.outside; turns = x.like.counts.turns }) }
+  stopped_somewhere : {A : Type 0} {R : Names → A → A → Type 0} (n : Names) (why : Stop) (s t : State) → MayStop bounds why → Abreast bounds n s t → Somewhere bounds {A = A} R n (Stopped why s) (Stopped why t)
+  stopped_somewhere n why s t may x = record { places = x.places; whole = x.whole; ends = stopped why s t (record { outside = x.like.outside; turns = x.like.counts.turns; may = may }) }
 
   fail_somewhere : {A : Type 0} {R : Names → A → A → Type 0} (n : Names) (i : ℕ) (v w : Value) (s t : State) → SameValue n v w → Abreast bounds n s t → Somewhere bounds {A = A} R n (fail i v s) (fail i w t)
   fail_somewhere n i v w s t r x = record { places = x.places; whole = x.whole; ends = fail_ends n x.places i v w s t r x.like }
@@ -135,13 +135,13 @@ module _ {bounds : Bounds} where
   turn_somewhere {R = R} n s t f g x h = at s.counts.expansion t.counts.expansion x.like.counts.expansion
     where
       run_at : (i j : ℕ) → i ≡ j → Somewhere bounds R n (run_turn i s f) (run_turn j t g)
-      run_at zero zero e = stopped_somewhere n _ s t x
+      run_at zero zero e = stopped_somewhere n Turns s t tt x
       run_at (suc i) (suc j) e = h _ _ (counts_abreast n s t _ _ (goes_with t _ t.bindings refl) (record { given = x.like.counts.given; turns = omega (arith, e); cells = x.like.counts.cells; expansion = x.like.counts.expansion }) x)
       run_at zero (suc j) e = absurd (omega (arith, e))
       run_at (suc i) zero e = absurd (omega (arith, e))
 
       expansion_at : (i : ℕ) (e : Expansion) → Somewhere bounds R n (expansion_turn i e s f) (expansion_turn i e t g)
-      expansion_at zero e = stopped_somewhere n _ s t x
+      expansion_at zero e = stopped_somewhere n (Expands e.macro) s t tt x
       expansion_at (suc i) e = h _ _ (counts_abreast n s t _ _ (goes_with t _ t.bindings refl) (record { given = x.like.counts.given; turns = x.like.counts.turns; cells = x.like.counts.cells; expansion = same_open _ }) x)
 
       at : (e y : Option Expansion) → SameExpansion e y → Somewhere bounds R n (turn_of e s f) (turn_of y t g)
@@ -153,8 +153,8 @@ test_wider n l m le e = grind (arith, nat_tests)
 
 -- of a run that stops for lack of levels no more is known than that the other goes on from there
 module _ {bounds : Bounds} {A : Type 0} {R : Names → A → A → Type 0} (n : Names) (s t : State) (f g : Levels → Outcome A) (x : Abreast bounds n s t) (left : (l : Levels) → GoesOn s (f l)) (right : (l : Levels) → GoesOn t (g l)) (h : (l m : Levels) → Roomier bounds l m → Somewhere bounds R n (f l) (g m)) where
-  right_stops : (l : Levels) → Somewhere bounds R n (f l) (Stopped Depth t)
-  right_stops l = record { places = x.places; whole = x.whole; ends = parted _ _ (ends.right_short (f l) Depth t short_of_levels (subst (λ y. HasShown y.output y.notes (state_of (f l)).outside) x.like.outside (later_shows s (f l) (left l).goes.later))) }
+  right_stops : (l : Levels) → true ≡ bounds.levels → Somewhere bounds R n (f l) (Stopped Depth t)
+  right_stops l w = record { places = x.places; whole = x.whole; ends = parted _ _ (ends.right_short (f l) Depth t (ends.meets_levels (sym w)) (subst (λ y. HasShown y.output y.notes (state_of (f l)).outside) x.like.outside (later_shows s (f l) (left l).goes.later))) }
 
   left_stops : (m : Levels) → bounds.levels ≡ false → Somewhere bounds R n (Stopped Depth s) (g m)
   left_stops m b = record { places = x.places; whole = x.whole; ends = parted _ _ (ends.left_short Depth s (g m) (ends.lacks_levels b) (subst (λ y. HasShown y.output y.notes (state_of (g m)).outside) (sym x.like.outside) (later_shows t (g m) (right m).goes.later))) }
@@ -162,8 +162,8 @@ module _ {bounds : Bounds} {A : Type 0} {R : Names → A → A → Type 0} (n : 
   entered_somewhere : (b c : Bool) (l m : ℕ) → (c ≡ true → b ≡ true) → m ≤ l → true ≡ bounds.levels → Somewhere bounds R n (entered b l s f) (entered c m t g)
   entered_somewhere true true l m e le w = h (Some l) (Some m) (record { is = le; bound = w })
   entered_somewhere false true l m e le w = absurd (let y : false ≡ true = e refl in cc)
-  entered_somewhere true false l m e le w = right_stops (Some l)
-  entered_somewhere false false l m e le w = stopped_somewhere n Depth s t x
+  entered_somewhere true false l m e le w = right_stops (Some l) w
+  entered_somewhere false false l m e le w = stopped_somewhere n Depth s t (sym w) x
 
   left_entered : (b : Bool) (l : ℕ) → false ≡ bounds.levels → Somewhere bounds R n (entered b l s f) (g None)
   left_entered true l w = h (Some l) None (record { is = tt; bound = w })
@@ -171,7 +171,7 @@ module _ {bounds : Bounds} {A : Type 0} {R : Names → A → A → Type 0} (n : 
 
   right_entered : (c : Bool) (m : ℕ) → true ≡ bounds.levels → Somewhere bounds R n (f None) (entered c m t g)
   right_entered true m w = h None (Some m) (record { is = tt; bound = w })
-  right_entered false m w = right_stops None
+  right_entered false m w = right_stops None w
 
   deeper_somewhere : (i : ℕ) (l m : Levels) → Roomier bounds l m → Somewhere bounds R n (deeper i l s f) (deeper i m t g)
   deeper_somewhere i None None r = h None None r

@@ -5,7 +5,7 @@ use Rattle.rl_tree.specs.Atoms as atoms
 use Rattle.rl_meaning.specs.Names.{Native, Tests, Eq, Equal, Part, Cons, Rplaca, Rplacd, Append, Reverse, Length, Member, Memq, Assoc, Nconc, Number, Error, Mkvect, Getv, Putv, Upbv, Gensym, Intern, Explode, Compress, Get, Flagp, Put, Remprop, Flag, Remflag, Getd, Putd, Remd, Fluid, Global, Unfluid, Set, Prin1, Prin2, Print, Terpri, Posn, Linelength, Read, Readch}
 use Rattle.rl_meaning.specs.Names as names
 use Rattle.rl_meaning.specs.State.{State}
-use Rattle.rl_meaning.specs.Outcome.{Done, Levels}
+use Rattle.rl_meaning.specs.Outcome.{Done, Unbuilt, Levels}
 use Rattle.rl_meaning.specs.Symbols.{nil, truth, same}
 use Rattle.rl_meaning.specs.Errors.{raise}
 use Rattle.rl_meaning.specs.Numbers.{with_integer}
@@ -145,7 +145,7 @@ module _ {bounds : Bounds} (d : DefinitionsAgree bounds) where
   native_related n ps Prin1 l m xs ys s t p q r h e = absurd (cc)
   native_related n ps Prin2 l m xs ys s t p q r h e = absurd (cc)
   native_related n ps Print l m xs ys s t p q r h e = absurd (cc)
-  native_related n ps other l m xs ys s t p q r h e = stopped_now n ps _ s t e
+  native_related n ps other l m xs ys s t p q r h e = stopped_now n ps Unbuilt s t tt e
 
   pub set_related : (n : Names) (ps : List Place) (l m : Levels) (xs ys : List Value) (s t : State) → Each (SameValue n) xs ys → Like bounds n ps s t → Related bounds (Parted bounds) SameValue n ps (native Set l xs s) (native Set m ys t)
   set_related n ps l m xs ys s t h e = d.set_ n ps _ _ _ _ s t (argument_same n xs ys 0 h) (argument_same n xs ys 1 h) e

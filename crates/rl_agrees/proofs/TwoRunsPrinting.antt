@@ -12,7 +12,7 @@ use Rattle.rl_meaning.specs.Printing as printing
 use Rattle.rl_meaning.specs.Printing.{Elements, dotted, message_rest, elements_within, message_object, message_printed, print_message, print_mark, print_end_of_line, fresh_line, print_error, print, terpri, with_page, setting_in, page_of, progress_in, levels_in, turns_taken, last_stop, ended_printing, after_printing, print_value}
 use Rattle.rl_meaning.specs.TwoRunsValues.{Names, Maybe, nothing, just, Each, end, more, SameValue, same_int, same_id, same_str, same_ref, same_fun, SameObject, same_pair, same_vector}
 use Rattle.rl_meaning.specs.TwoRunsStates.{Bounds, SameStore, SameExpansion, same_none, same_open, Place, Like, Roomier}
-use Rattle.rl_meaning.specs.TwoRunsEnds.{Begins, HasShown, lacks_levels, short_of_levels, Parted, right_short, left_short, Related, done, stopped, parted}
+use Rattle.rl_meaning.specs.TwoRunsEnds.{Begins, HasShown, lacks_levels, meets_levels, MayStop, Parted, right_short, left_short, Related, done, stopped, parted}
 use Rattle.rl_agrees.proofs.OneRunDepth.{printed_not_deep, message_not_deep}
 use Rattle.rl_agrees.proofs.TwoRunsGrowth.{grows_refl}
 use Rattle.rl_agrees.proofs.TwoRunsWays.{Is, is, with_counts_like, left_same, whole_read_like}
@@ -273,21 +273,25 @@ ended_shown act x TooDeep s adds = record { output = begins_refl _; notes = begi
 
 -- where what is done adds to what is to be seen
 module _ {bounds : Bounds} {A : Type 0} (R : Names → A → A → Type 0) (n : Names) (ps : List Place) (a b : A) (act : State → State) (r : R n a b) (keeps : (s t : State) → Like bounds n ps s t → Like bounds n ps (act s) (act t)) (adds : (s : State) → Shows s (act s)) where
-  same_ended : (e : Ending) (s t : State) → Like bounds n ps s t → Related bounds (Parted bounds) R n ps (behind act a (ended_printing e s)) (behind act b (ended_printing e t))
-  same_ended Whole s t l = done n a b (act s) (act t) (grows_refl n) r (keeps s t l)
-  same_ended TooDeep s t l = stopped Depth s t (record { outside = l.outside; turns = l.counts.turns })
-  same_ended NoTurn s t l = subst (λ why. Related bounds (Parted bounds) R n ps (Stopped (last_stop s.counts.expansion) s) (Stopped why t)) (at _ _ l.counts.expansion) (stopped _ s t (record { outside = l.outside; turns = l.counts.turns }))
+  same_ended : (e : Ending) (s t : State) → (e ≡ TooDeep → bounds.levels ≡ true) → Like bounds n ps s t → Related bounds (Parted bounds) R n ps (behind act a (ended_printing e s)) (behind act b (ended_printing e t))
+  same_ended Whole s t has l = done n a b (act s) (act t) (grows_refl n) r (keeps s t l)
+  same_ended TooDeep s t has l = stopped Depth s t (record { outside = l.outside; turns = l.counts.turns; may = has refl })
+  same_ended NoTurn s t has l = subst (λ why. Related bounds (Parted bounds) R n ps (Stopped (last_stop s.counts.expansion) s) (Stopped why t)) (at _ _ l.counts.expansion) (stopped _ s t (record { outside = l.outside; turns = l.counts.turns; may = may s.counts.expansion }))
     where
       at : (o p : Option Expansion) → SameExpansion o p → last_stop o ≡ last_stop p
       at _ _ same_none = refl
       at _ _ (same_open x) = refl
 
-  behind_related : {E : Type 0} (p q : Progress) (s t : State) → (E → p.ending ≡ TooDeep → bounds.levels ≡ false) → SameProgress E p q → Like bounds n ps s t → Related bounds (Parted bounds) R n ps (behind act a (after_printing p s)) (behind act b (after_printing q t))
-  behind_related _ _ s t lacks (same_progress p) l = same_ended p.ending _ _ (page_like n ps p.page _ _ (taken_like n ps p.turns _ _ s t l.counts.expansion refl refl l))
-  behind_related p q s t lacks (right_deep _ _ e h) l =
+      may : (o : Option Expansion) → MayStop bounds (last_stop o)
+      may None = tt
+      may (Some x) = tt
+
+  behind_related : {E : Type 0} (p q : Progress) (s t : State) → (E → p.ending ≡ TooDeep → bounds.levels ≡ false) → (q.ending ≡ TooDeep → bounds.levels ≡ true) → SameProgress E p q → Like bounds n ps s t → Related bounds (Parted bounds) R n ps (behind act a (after_printing p s)) (behind act b (after_printing q t))
+  behind_related _ _ s t lacks has (same_progress p) l = same_ended p.ending _ _ has (page_like n ps p.page _ _ (taken_like n ps p.turns _ _ s t l.counts.expansion refl refl l))
+  behind_related p q s t lacks has (right_deep _ _ e h) l =
       subst (λ x. Related bounds (Parted bounds) R n ps (behind act a (after_printing p s)) (behind act b (ended_printing x (state_after q t)))) (sym e)
-      (parted _ _ (right_short _ Depth (state_after q t) short_of_levels (shows_trans (state_after q t) (state_after p s) (state_of (behind act a (after_printing p s))) (front_shown q p t s (λ k. (sym l.outside k).notes) h) (ended_shown act a p.ending (state_after p s) adds))))
-  behind_related p q s t lacks (left_deep _ _ w e h) l =
+      (parted _ _ (right_short _ Depth (state_after q t) (meets_levels (has e)) (shows_trans (state_after q t) (state_after p s) (state_of (behind act a (after_printing p s))) (front_shown q p t s (λ k. (sym l.outside k).notes) h) (ended_shown act a p.ending (state_after p s) adds))))
+  behind_related p q s t lacks has (left_deep _ _ w e h) l =
       subst (λ x. Related bounds (Parted bounds) R n ps (behind act a (ended_printing x (state_after p s))) (behind act b (after_printing q t))) (sym e)
       (parted _ _ (left_short Depth (state_after p s) _ (lacks_levels (lacks w e)) (shows_trans (state_after p s) (state_after q t) (state_of (behind act b (after_printing q t))) (front_shown p q s t (λ k. (l.outside k).notes) h) (ended_shown act b q.ending (state_after q t) adds))))
 
@@ -310,14 +314,23 @@ module _ {bounds : Bounds} {A : Type 0} (R : Names → A → A → Type 0) (n : 
   message_lacks None v s (inl e) d = absurd (message_not_deep (setting_in Prin2 s) v (page_of s) (turns_left s) d)
   message_lacks (Some l) v s (inl e) d = absurd (let x : Some l ≡ None = e in cc)
 
+  -- the right printing stops for levels only where the right run has a bound
+  value_has : (style : Style) (l m : Levels) (w : Value) (t : State) → Roomier bounds l m → (printed (setting_in style t) w (levels_in m t) (progress_in t)).ending ≡ TooDeep → bounds.levels ≡ true
+  value_has style l None w t r d = absurd (printed_not_deep (setting_in style t) w (page_of t) (turns_left t) d)
+  value_has style l (Some m) w t r d = sym r.bound
+
+  message_has : (l m : Levels) (w : Value) (t : State) → Roomier bounds l m → (message_printed (setting_in Prin2 t) w (levels_in m t) (progress_in t)).ending ≡ TooDeep → bounds.levels ≡ true
+  message_has l None w t r d = absurd (message_not_deep (setting_in Prin2 t) w (page_of t) (turns_left t) d)
+  message_has l (Some m) w t r d = sym r.bound
+
   value_behind : (style : Style) (l m : Levels) (v w : Value) (s t : State) → Roomier bounds l m → SameValue n v w → Like bounds n ps s t → Related bounds (Parted bounds) R n ps (behind act a (print_value style l v s)) (behind act b (print_value style m w t))
   value_behind style l m v w s t r h e =
-      behind_related {E = HasFewer l} _ _ _ _ (value_lacks style l v s) (subst (λ p. SameProgress (HasFewer l) (printed (setting_in style s) v (levels_in l s) (progress_in s)) (printed (setting_in style t) w (levels_in m t) p)) (progress_one n ps s t e)
+      behind_related {E = HasFewer l} _ _ _ _ (value_lacks style l v s) (value_has style l m w t r) (subst (λ p. SameProgress (HasFewer l) (printed (setting_in style s) v (levels_in l s) (progress_in s)) (printed (setting_in style t) w (levels_in m t) p)) (progress_one n ps s t e)
       (printed_same n (setting_in style s) (setting_in style t) (setting_same style n ps s t e) v w (levels_in l s) (levels_in m t) (fewer n ps l m s t r e) h (progress_in s)).same) (whole_read_like n ps v w s t e)
 
   message_behind : (l m : Levels) (v w : Value) (s t : State) → Roomier bounds l m → SameValue n v w → Like bounds n ps s t → Related bounds (Parted bounds) R n ps (behind act a (print_message l v s)) (behind act b (print_message m w t))
   message_behind l m v w s t r h e =
-      behind_related {E = HasFewer l} _ _ _ _ (message_lacks l v s) (subst (λ p. SameProgress (HasFewer l) (message_printed (setting_in Prin2 s) v (levels_in l s) (progress_in s)) (message_printed (setting_in Prin2 t) w (levels_in m t) p)) (progress_one n ps s t e)
+      behind_related {E = HasFewer l} _ _ _ _ (message_lacks l v s) (message_has l m w t r) (subst (λ p. SameProgress (HasFewer l) (message_printed (setting_in Prin2 s) v (levels_in l s) (progress_in s)) (message_printed (setting_in Prin2 t) w (levels_in m t) p)) (progress_one n ps s t e)
       (message_same n (setting_in Prin2 s) (setting_in Prin2 t) (setting_same Prin2 n ps s t e) v w (levels_in l s) (levels_in m t) (fewer n ps l m s t r e) h (progress_in s)).same) (whole_read_like n ps v w s t e)
 
 module _ {bounds : Bounds} where

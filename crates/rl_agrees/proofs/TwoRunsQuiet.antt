@@ -145,27 +145,27 @@ entered_shows s f left true l = left (Some l)
 entered_shows {A = A} s f left false l = shows_same {A = A} s.outside (Stopped Depth s) refl
 
 module _ {bounds : Bounds} {A : Type 0} {R : Names → A → A → Type 0} (n : Names) (ps : List Place) (s t : State) (f g : Levels → Outcome A) (same : s.outside ≡ t.outside) (left : (l : Levels) → Shows s.outside (f l)) (right : (m : Levels) → Shows t.outside (g m)) where
-  right_depth : (o : Outcome A) → Shows s.outside o → Related bounds (Parted bounds) R n ps o (Stopped Depth t)
-  right_depth o h = parted o (Stopped Depth t) (ends.right_short o Depth t short_of_levels (subst (λ y. Shows y o) same h))
+  right_depth : (o : Outcome A) → true ≡ bounds.levels → Shows s.outside o → Related bounds (Parted bounds) R n ps o (Stopped Depth t)
+  right_depth o x h = parted o (Stopped Depth t) (ends.right_short o Depth t (ends.meets_levels (sym x)) (subst (λ y. Shows y o) same h))
 
   left_depth : (p : Outcome A) → bounds.levels ≡ false → Shows t.outside p → Related bounds (Parted bounds) R n ps (Stopped Depth s) p
   left_depth p x h = parted (Stopped Depth s) p (ends.left_short Depth s p (ends.lacks_levels x) (subst (λ y. Shows y p) (sym same) h))
 
-  entered_ends : (b c : Bool) (l m : ℕ) → (c ≡ true → b ≡ true) → Related bounds (Parted bounds) R n ps (f (Some l)) (g (Some m)) → Related bounds (Parted bounds) R n ps (entered b l s f) (entered c m t g)
-  entered_ends true true l m e h = h
-  entered_ends false true l m e h = absurd (let x : false ≡ true = e refl in cc)
-  entered_ends b false l m e h = right_depth (entered b l s f) (entered_shows s f left b l)
+  entered_ends : (b c : Bool) (l m : ℕ) → (c ≡ true → b ≡ true) → true ≡ bounds.levels → Related bounds (Parted bounds) R n ps (f (Some l)) (g (Some m)) → Related bounds (Parted bounds) R n ps (entered b l s f) (entered c m t g)
+  entered_ends true true l m e w h = h
+  entered_ends false true l m e w h = absurd (let x : false ≡ true = e refl in cc)
+  entered_ends b false l m e w h = right_depth (entered b l s f) w (entered_shows s f left b l)
 
   left_entered : (b : Bool) (l : ℕ) → bounds.levels ≡ false → Related bounds (Parted bounds) R n ps (f (Some l)) (g None) → Related bounds (Parted bounds) R n ps (entered b l s f) (g None)
   left_entered true l x h = h
   left_entered false l x h = left_depth (g None) x (right None)
 
-  right_entered : (c : Bool) (m : ℕ) → Related bounds (Parted bounds) R n ps (f None) (g (Some m)) → Related bounds (Parted bounds) R n ps (f None) (entered c m t g)
-  right_entered true m h = h
-  right_entered false m h = right_depth (f None) (left None)
+  right_entered : (c : Bool) (m : ℕ) → true ≡ bounds.levels → Related bounds (Parted bounds) R n ps (f None) (g (Some m)) → Related bounds (Parted bounds) R n ps (f None) (entered c m t g)
+  right_entered true m w h = h
+  right_entered false m w h = right_depth (f None) w (left None)
 
   pub deeper_ends : (i : ℕ) (l m : Levels) → Roomier bounds l m → ((l m : Levels) → Roomier bounds l m → Related bounds (Parted bounds) R n ps (f l) (g m)) → Related bounds (Parted bounds) R n ps (deeper i l s f) (deeper i m t g)
   deeper_ends i None None r h = h None None r
   deeper_ends i (Some l) None r h = left_entered (nat_le i l) (l - i) (sym r.bound) (h (Some (l - i)) None (record { is = tt; bound = r.bound }))
-  deeper_ends i None (Some m) r h = right_entered (nat_le i m) (m - i) (h None (Some (m - i)) (record { is = tt; bound = r.bound }))
-  deeper_ends i (Some l) (Some m) r h = let le : m ≤ l = r.is in entered_ends (nat_le i l) (nat_le i m) (l - i) (m - i) (wider i l m le) (h (Some (l - i)) (Some (m - i)) (record { is = omega (arith, le); bound = r.bound }))
+  deeper_ends i None (Some m) r h = right_entered (nat_le i m) (m - i) r.bound (h None (Some (m - i)) (record { is = tt; bound = r.bound }))
+  deeper_ends i (Some l) (Some m) r h = let le : m ≤ l = r.is in entered_ends (nat_le i l) (nat_le i m) (l - i) (m - i) (wider i l m le) r.bound (h (Some (l - i)) (Some (m - i)) (record { is = omega (arith, le); bound = r.bound }))

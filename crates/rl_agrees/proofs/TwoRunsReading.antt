@@ -17,7 +17,7 @@ use Rattle.rl_meaning.specs.Lists.{Chain}
 use Rattle.rl_meaning.specs.Input.{Place as Spot, made_in, made_atom, byte_turn, entered_from, enter, outer_levels, leave, first_of, ended_chain, vector_of, quoted, in_state, Reading, Form, End, Unreadable, reading_of, read_bytes, with_input, byte_number, read_ended, read, character, readch_of, readch}
 use Rattle.rl_meaning.specs.TwoRunsValues.{Names, Grows, Maybe, nothing, just, Each, end, more, SameValue, same_int, same_id}
 use Rattle.rl_meaning.specs.TwoRunsStates.{Bounds, Place, Like, Roomier}
-use Rattle.rl_meaning.specs.TwoRunsEnds.{IsShort, IsLacking, SameSeen, done, failed, went, returned, stopped, parted}
+use Rattle.rl_meaning.specs.TwoRunsEnds.{IsLacking, IsMeeting, SameStop, done, failed, went, returned, stopped, parted}
 use Rattle.rl_agrees.proofs.TwoRunsGrowth.{grows_refl, grows_trans, value_grows, each_grows}
 use Rattle.rl_agrees.proofs.TwoRunsWays.{right_short, left_short, Beside, Is, is, then_related, then_value, done_now, turn_related, deeper_related}
 use Rattle.rl_agrees.proofs.TwoRunsObjects.{made_pair_related, made_string_related, made_vector_related, interned_related, fail_related}
@@ -33,19 +33,19 @@ record SameSpot (bounds : Bounds) (n : Names) (ps : List Place) (p q : Spot) : T
 
 data SameMade (bounds : Bounds) {A : Type 0} (R : Names → A → A → Type 0) (n : Names) (ps : List Place) : Made Spot A Stop → Made Spot A Stop → Type 0 where
   same_has : (m : Names) (a b : A) (p q : Spot) → Grows n m → R m a b → SameSpot bounds m ps p q → SameMade bounds R n ps (Has a p) (Has b q)
-  same_wants : (why : Stop) (p q : Spot) → SameSeen p.state q.state → SameMade bounds R n ps (Wants why p) (Wants why q)
-  right_wants : (o : Made Spot A Stop) (why : Stop) (q : Spot) → IsShort why → SameMade bounds R n ps o (Wants why q)
+  same_wants : (why : Stop) (p q : Spot) → SameStop bounds why p.state q.state → SameMade bounds R n ps (Wants why p) (Wants why q)
+  right_wants : (o : Made Spot A Stop) (why : Stop) (q : Spot) → IsMeeting bounds why → SameMade bounds R n ps o (Wants why q)
   left_wants : (why : Stop) (p : Spot) (o : Made Spot A Stop) → IsLacking bounds why → SameMade bounds R n ps (Wants why p) o
 
 module _ {bounds : Bounds} where
-  seen_same : (n : Names) (ps : List Place) (s t : State) → Like bounds n ps s t → SameSeen s t
-  seen_same n ps s t l = record { outside = l.outside; turns = l.counts.turns }
+  turns_same : (n : Names) (ps : List Place) (s t : State) → Like bounds n ps s t → SameStop bounds Turns s t
+  turns_same n ps s t l = record { outside = l.outside; turns = l.counts.turns; may = tt }
 
   made_same : {A : Type 0} {R : Names → A → A → Type 0} (n : Names) (ps : List Place) (l m : Levels) (o p : Outcome A) → Roomier bounds l m → Beside bounds R n ps o p → SameMade bounds R n ps (made_in l o) (made_in m p)
   made_same n ps l m _ _ r (done k a b s t g h e) = same_has k a b _ _ g h (record { state = e; levels = r })
-  made_same n ps l m _ _ r (failed k z v w s t g h e) = same_wants Turns _ _ (seen_same k ps s t e)
-  made_same n ps l m _ _ r (went k x s t g e) = same_wants Turns _ _ (seen_same k ps s t e)
-  made_same n ps l m _ _ r (returned k v w s t g h e) = same_wants Turns _ _ (seen_same k ps s t e)
+  made_same n ps l m _ _ r (failed k z v w s t g h e) = same_wants Turns _ _ (turns_same k ps s t e)
+  made_same n ps l m _ _ r (went k x s t g e) = same_wants Turns _ _ (turns_same k ps s t e)
+  made_same n ps l m _ _ r (returned k v w s t g h e) = same_wants Turns _ _ (turns_same k ps s t e)
   made_same n ps l m _ _ r (stopped why s t e) = same_wants why _ _ e
   made_same n ps l m _ _ r (parted _ _ (right_short o why t e)) = right_wants _ why _ e
   made_same n ps l m _ _ r (parted _ _ (left_short why s p e)) = left_wants why _ _ e
@@ -56,9 +56,9 @@ RoomierIn bounds n l m = Roomier bounds l m
 module _ {bounds : Bounds} where
   entered_same : (n : Names) (ps : List Place) (l m : Levels) (o p : Outcome Levels) → Roomier bounds l m → Beside bounds (RoomierIn bounds) n ps o p → SameMade bounds {A = Unit {0}} Is n ps (entered_from l o) (entered_from m p)
   entered_same n ps l m _ _ r (done k a b s t g h e) = same_has k _ _ _ _ g (is _) (record { state = e; levels = h })
-  entered_same n ps l m _ _ r (failed k z v w s t g h e) = same_wants Turns _ _ (seen_same k ps s t e)
-  entered_same n ps l m _ _ r (went k x s t g e) = same_wants Turns _ _ (seen_same k ps s t e)
-  entered_same n ps l m _ _ r (returned k v w s t g h e) = same_wants Turns _ _ (seen_same k ps s t e)
+  entered_same n ps l m _ _ r (failed k z v w s t g h e) = same_wants Turns _ _ (turns_same k ps s t e)
+  entered_same n ps l m _ _ r (went k x s t g e) = same_wants Turns _ _ (turns_same k ps s t e)
+  entered_same n ps l m _ _ r (returned k v w s t g h e) = same_wants Turns _ _ (turns_same k ps s t e)
   entered_same n ps l m _ _ r (stopped why s t e) = same_wants why _ _ e
   entered_same n ps l m _ _ r (parted _ _ (right_short o why t e)) = right_wants _ why _ e
   entered_same n ps l m _ _ r (parted _ _ (left_short why s p e)) = left_wants why _ _ e
@@ -178,24 +178,24 @@ admits_same n _ _ (more _ _ fs gs same_quoting k) = refl
 data SameEnded (bounds : Bounds) (n : Names) (ps : List Place) : Ended Spot Value Chain Stop → Ended Spot Value Chain Stop → Type 0 where
   same_whole : (m : Names) (v w : Value) (p q : Spot) → Grows n m → SameValue m v w → SameSpot bounds m ps p q → SameEnded bounds n ps (Whole v p) (Whole w q)
   same_inside : (m : Names) (fs gs : List (Frame Chain)) (p q : Spot) → Grows n m → SameFrames m fs gs → SameSpot bounds m ps p q → SameEnded bounds n ps (Inside fs p) (Inside gs q)
-  same_lacks : (why : Stop) (p q : Spot) → SameSeen p.state q.state → SameEnded bounds n ps (Lacks why p) (Lacks why q)
-  right_lacks : (o : Ended Spot Value Chain Stop) (why : Stop) (q : Spot) → IsShort why → SameEnded bounds n ps o (Lacks why q)
+  same_lacks : (why : Stop) (p q : Spot) → SameStop bounds why p.state q.state → SameEnded bounds n ps (Lacks why p) (Lacks why q)
+  right_lacks : (o : Ended Spot Value Chain Stop) (why : Stop) (q : Spot) → IsMeeting bounds why → SameEnded bounds n ps o (Lacks why q)
   left_lacks : (why : Stop) (p : Spot) (o : Ended Spot Value Chain Stop) → IsLacking bounds why → SameEnded bounds n ps (Lacks why p) o
 
 data SameStep (bounds : Bounds) (n : Names) (ps : List Place) : Step Spot Value Chain Stop → Step Spot Value Chain Stop → Type 0 where
   same_goes : (m : Names) (mode : Mode) (fs gs : List (Frame Chain)) (p q : Spot) → Grows n m → SameFrames m fs gs → SameSpot bounds m ps p q → SameStep bounds n ps (Goes mode fs p) (Goes mode gs q)
   same_done : (m : Names) (v w : Value) (used : Bool) (p q : Spot) → Grows n m → SameValue m v w → SameSpot bounds m ps p q → SameStep bounds n ps (reader.Done v used p) (reader.Done w used q)
   same_refuses : (m : Names) (p q : Spot) → Grows n m → SameSpot bounds m ps p q → SameStep bounds n ps (Refuses p) (Refuses q)
-  same_halts : (why : Stop) (p q : Spot) → SameSeen p.state q.state → SameStep bounds n ps (Halts why p) (Halts why q)
-  right_halts : (o : Step Spot Value Chain Stop) (why : Stop) (q : Spot) → IsShort why → SameStep bounds n ps o (Halts why q)
+  same_halts : (why : Stop) (p q : Spot) → SameStop bounds why p.state q.state → SameStep bounds n ps (Halts why p) (Halts why q)
+  right_halts : (o : Step Spot Value Chain Stop) (why : Stop) (q : Spot) → IsMeeting bounds why → SameStep bounds n ps o (Halts why q)
   left_halts : (why : Stop) (p : Spot) (o : Step Spot Value Chain Stop) → IsLacking bounds why → SameStep bounds n ps (Halts why p) o
 
 data SameRead (bounds : Bounds) (n : Names) (ps : List Place) : reader.Outcome Spot Value Stop → reader.Outcome Spot Value Stop → Type 0 where
   same_read : (m : Names) (v w : Value) (p q : Spot) (rest : List ℕ) → Grows n m → SameValue m v w → SameSpot bounds m ps p q → SameRead bounds n ps (Read v p rest) (Read w q rest)
   same_none_left : (m : Names) (p q : Spot) → Grows n m → SameSpot bounds m ps p q → SameRead bounds n ps (NoneLeft p) (NoneLeft q)
   same_refused : (m : Names) (p q : Spot) (rest : List ℕ) → Grows n m → SameSpot bounds m ps p q → SameRead bounds n ps (Refused p rest) (Refused q rest)
-  same_stopped : (why : Stop) (p q : Spot) (rest : List ℕ) → SameSeen p.state q.state → SameRead bounds n ps (Stopped why p rest) (Stopped why q rest)
-  right_stopped : (o : reader.Outcome Spot Value Stop) (why : Stop) (q : Spot) (rest : List ℕ) → IsShort why → SameRead bounds n ps o (Stopped why q rest)
+  same_stopped : (why : Stop) (p q : Spot) (rest : List ℕ) → SameStop bounds why p.state q.state → SameRead bounds n ps (Stopped why p rest) (Stopped why q rest)
+  right_stopped : (o : reader.Outcome Spot Value Stop) (why : Stop) (q : Spot) (rest : List ℕ) → IsMeeting bounds why → SameRead bounds n ps o (Stopped why q rest)
   left_stopped : (why : Stop) (p : Spot) (rest : List ℕ) (o : reader.Outcome Spot Value Stop) → IsLacking bounds why → SameRead bounds n ps (Stopped why p rest) o
 
 module _ {bounds : Bounds} where

@@ -7,7 +7,7 @@ use Rattle.rl_meaning.specs.Walks.{Further, Goes, Ends, Walked, walk_on, walk_pa
 use Rattle.rl_meaning.specs.TwoRunsValues.{Names, Grows, Maybe, nothing, just, Each, end, more, SameValue, SameParts, same_parts}
 use Rattle.rl_meaning.specs.TwoRunsStates.{Bounds, Place, Like, Roomier}
 use Rattle.rl_agrees.proofs.TwoRunsGrowth.{grows_refl, grows_trans, value_grows, values_grow}
-use Rattle.rl_agrees.proofs.TwoRunsWays.{Beside, Is, is, then_related, then_is, done_now, choose_related, choose_same, stopped_now, turn_related, descends_related, pair_turn_related, left_same, reading_like}
+use Rattle.rl_agrees.proofs.TwoRunsWays.{Beside, Is, is, then_related, then_is, done_now, choose_related, choose_same, turns_out, turn_related, descends_related, pair_turn_related, left_same, reading_like}
 use Rattle.rl_agrees.proofs.TwoRunsObjects.{pair_same, vector_same, same_same, each_length}
 
 -- ---- along a list
@@ -39,7 +39,7 @@ module _ {bounds : Bounds} {A : Type 0} (R : Names → A → A → Type 0) (n : 
       walk_on_related f g h m' d c a' b' s t (grows_trans n m m' k k') (value_grows m m' d c j k') r' l))
 
   walk_within_related : (i : ℕ) → Steps (walk_within visit i) (walk_within visit' i)
-  walk_within_related zero m a b v w s t k r e l = stopped_now m ps _ s t l
+  walk_within_related zero m a b v w s t k r e l = turns_out m ps s t l
   walk_within_related (suc i) m a b v w s t k r e l = walk_pair_related (walk_within visit i) (walk_within visit' i) (walk_within_related i) m _ _ a b v w s t k (pair_same m ps s t v w l e) r e l
 
   pub walk_related : (a b : A) (v w : Value) (s t : State) → R n a b → SameValue n v w → Like bounds n ps s t → Beside bounds (SameWalked R) n ps (walk visit a v s) (walk visit' b w t)
@@ -99,7 +99,7 @@ module _ {bounds : Bounds} (f g : Comparison) (compares : Compares bounds f g) w
 
 module _ {bounds : Bounds} where
   equal_within_related : (i : ℕ) → Compares bounds (equal_within i) (equal_within i)
-  equal_within_related zero n ps b l m u v x y s t r p q k = stopped_now n ps _ s t k
+  equal_within_related zero n ps b l m u v x y s t r p q k = turns_out n ps s t k
   equal_within_related (suc i) n ps b l m u v x y s t r p q k = equal_at_related (equal_within i) (equal_within i) (equal_within_related i) n ps b l m u v x y s t r p q k
 
   pub equal_related : (n : Names) (ps : List Place) (l m : Levels) (u v x y : Value) (s t : State) → Roomier bounds l m → SameValue n u v → SameValue n x y → Like bounds n ps s t → Beside bounds Is n ps (equal l u x s) (equal m v y t)

@@ -4,16 +4,16 @@ use Rattle.std.specs.Prelude.{nat_le}
 use Rattle.std.proofs.lemmas.Bool.Decides.{nat_tests}
 use Rattle.rl_tree.specs.Value.{Value}
 use Rattle.rl_meaning.specs.State.{State, Counts, Expansion, Watched}
-use Rattle.rl_meaning.specs.Outcome.{Outcome, Done, Stopped, Stop, Cells, Depth, then_do, choose, run_turn, expansion_turn, turn_of, turn, turns_of, turns_left, Levels, entered, deeper, descends, pair_turn, cells_within, run_room, expansion_within, expansion_room, room}
+use Rattle.rl_meaning.specs.Outcome.{Outcome, Done, Stopped, Stop, Turns, Cells, Depth, Expands, then_do, choose, run_turn, expansion_turn, turn_of, turn, turns_of, turns_left, Levels, entered, deeper, descends, pair_turn, cells_within, run_room, expansion_within, expansion_room, room}
 use Rattle.rl_meaning.specs.Constants.{changing, objects_read, reading, reading_pair, reading_whole}
 use Rattle.rl_meaning.specs.TwoRunsValues.{Names, Grows, SameValue, same_int, same_id, same_str, same_ref, same_fun}
 use Rattle.rl_meaning.specs.TwoRunsStates.{Bounds, SameExpansion, same_none, same_open, SameCounts, Place, Like, IsRoomier, Roomier}
-use Rattle.rl_meaning.specs.TwoRunsEnds.{IsShort, IsLacking, lacks_cells, lacks_levels, short_of_cells, short_of_levels, Related, done, failed, went, returned, stopped, parted}
+use Rattle.rl_meaning.specs.TwoRunsEnds.{IsLacking, lacks_cells, lacks_levels, IsMeeting, meets_cells, meets_levels, MayStop, Related, done, failed, went, returned, stopped, parted}
 use Rattle.rl_agrees.proofs.TwoRunsGrowth.{grows_refl, grows_trans}
 
--- one of the two stops: the right one, as it has fewer cells or levels, or the left one where the right one has no such bound
+-- one of the two stops: the right one for a bound that it has, or the left one where the right one has no such bound
 pub data Short (bounds : Bounds) {A : Type 0} : Outcome A → Outcome A → Type 0 where
-  right_short : (o : Outcome A) (why : Stop) (t : State) → IsShort why → Short bounds o (Stopped why t)
+  right_short : (o : Outcome A) (why : Stop) (t : State) → IsMeeting bounds why → Short bounds o (Stopped why t)
   left_short : (why : Stop) (s : State) (p : Outcome A) → IsLacking bounds why → Short bounds (Stopped why s) p
 
 -- the outcomes are alike, or one of the two runs stops short
@@ -76,20 +76,23 @@ module _ {bounds : Bounds} where
   pub with_counts_like : (n : Names) (ps : List Place) (s t : State) (c d : Counts) → SameCounts bounds c d → Like bounds n ps s t → Like bounds n ps (record s { counts = c }) (record t { counts = d })
   with_counts_like n ps s t c d h l = record { store = l.store; functions = l.functions; symbols = l.symbols; bindings = l.bindings; counts = h; outside = l.outside; gensyms = l.gensyms; compilation = l.compilation }
 
-  pub stopped_now : {A : Type 0} {R : Names → A → A → Type 0} (n : Names) (ps : List Place) (why : Stop) (s t : State) → Like bounds n ps s t → Beside bounds {A = A} R n ps (Stopped why s) (Stopped why t)
-  stopped_now n ps why s t l = stopped why s t (record { outside = l.outside; turns = l.counts.turns })
+  pub stopped_now : {A : Type 0} {R : Names → A → A → Type 0} (n : Names) (ps : List Place) (why : Stop) (s t : State) → MayStop bounds why → Like bounds n ps s t → Beside bounds {A = A} R n ps (Stopped why s) (Stopped why t)
+  stopped_now n ps why s t may l = stopped why s t (record { outside = l.outside; turns = l.counts.turns; may = may })
+
+  pub turns_out : {A : Type 0} {R : Names → A → A → Type 0} (n : Names) (ps : List Place) (s t : State) → Like bounds n ps s t → Beside bounds {A = A} R n ps (Stopped Turns s) (Stopped Turns t)
+  turns_out n ps s t l = stopped_now n ps Turns s t tt l
 
   pub turn_related : {A : Type 0} {R : Names → A → A → Type 0} (n : Names) (ps : List Place) (s t : State) (f g : State → Outcome A) → Like bounds n ps s t → ((s t : State) → Like bounds n ps s t → Beside bounds R n ps (f s) (g t)) → Beside bounds R n ps (turn s f) (turn t g)
   turn_related {R = R} n ps s t f g l h = at s.counts.expansion t.counts.expansion l.counts.expansion
     where
       run_at : (i j : ℕ) → i ≡ j → Beside bounds R n ps (run_turn i s f) (run_turn j t g)
-      run_at zero zero e = stopped_now n ps _ s t l
+      run_at zero zero e = turns_out n ps s t l
       run_at (suc i) (suc j) e = h _ _ (with_counts_like n ps s t _ _ (record { given = l.counts.given; turns = omega (arith, e); cells = l.counts.cells; expansion = l.counts.expansion }) l)
       run_at zero (suc j) e = absurd (omega (arith, e))
       run_at (suc i) zero e = absurd (omega (arith, e))
 
       expansion_at : (i : ℕ) (e : Expansion) → Beside bounds R n ps (expansion_turn i e s f) (expansion_turn i e t g)
-      expansion_at zero e = stopped_now n ps _ s t l
+      expansion_at zero e = stopped_now n ps (Expands e.macro) s t tt l
       expansion_at (suc i) e = h _ _ (with_counts_like n ps s t _ _ (record { given = l.counts.given; turns = l.counts.turns; cells = l.counts.cells; expansion = same_open _ }) l)
 
       at : (e x : Option Expansion) → SameExpansion e x → Beside bounds R n ps (turn_of e s f) (turn_of x t g)
@@ -112,21 +115,21 @@ module _ {bounds : Bounds} where
   entered_related : {A : Type 0} {R : Names → A → A → Type 0} (n : Names) (ps : List Place) (b c : Bool) (l m : ℕ) (s t : State) (f g : Levels → Outcome A) → (c ≡ true → b ≡ true) → m ≤ l → true ≡ bounds.levels → ((l m : Levels) → Roomier bounds l m → Beside bounds R n ps (f l) (g m)) → Beside bounds R n ps (entered b l s f) (entered c m t g)
   entered_related n ps true true l m s t f g e le x h = h (Some l) (Some m) (record { is = le; bound = x })
   entered_related n ps false true l m s t f g e le x h = absurd (let y : false ≡ true = e refl in cc)
-  entered_related n ps b false l m s t f g e le x h = parted _ _ (right_short _ Depth t short_of_levels)
+  entered_related n ps b false l m s t f g e le x h = parted _ _ (right_short _ Depth t (meets_levels (sym x)))
 
   -- where only one side has a bound: the left one stops so only where the right one has none
   left_entered : {A : Type 0} {R : Names → A → A → Type 0} (n : Names) (ps : List Place) (b : Bool) (l : ℕ) (s : State) (f g : Levels → Outcome A) → bounds.levels ≡ false → Beside bounds R n ps (f (Some l)) (g None) → Beside bounds R n ps (entered b l s f) (g None)
   left_entered n ps true l s f g x h = h
   left_entered n ps false l s f g x h = parted _ _ (left_short Depth s _ (lacks_levels x))
 
-  right_entered : {A : Type 0} {R : Names → A → A → Type 0} (n : Names) (ps : List Place) (c : Bool) (m : ℕ) (t : State) (f g : Levels → Outcome A) → Beside bounds R n ps (f None) (g (Some m)) → Beside bounds R n ps (f None) (entered c m t g)
-  right_entered n ps true m t f g h = h
-  right_entered n ps false m t f g h = parted _ _ (right_short _ Depth t short_of_levels)
+  right_entered : {A : Type 0} {R : Names → A → A → Type 0} (n : Names) (ps : List Place) (c : Bool) (m : ℕ) (t : State) (f g : Levels → Outcome A) → true ≡ bounds.levels → Beside bounds R n ps (f None) (g (Some m)) → Beside bounds R n ps (f None) (entered c m t g)
+  right_entered n ps true m t f g x h = h
+  right_entered n ps false m t f g x h = parted _ _ (right_short _ Depth t (meets_levels (sym x)))
 
   pub deeper_related : {A : Type 0} {R : Names → A → A → Type 0} (n : Names) (ps : List Place) (i : ℕ) (l m : Levels) (s t : State) (f g : Levels → Outcome A) → Roomier bounds l m → ((l m : Levels) → Roomier bounds l m → Beside bounds R n ps (f l) (g m)) → Beside bounds R n ps (deeper i l s f) (deeper i m t g)
   deeper_related n ps i None None s t f g r h = h None None r
   deeper_related n ps i (Some l) None s t f g r h = left_entered n ps (nat_le i l) (l - i) s f g (sym r.bound) (h (Some (l - i)) None (record { is = tt; bound = r.bound }))
-  deeper_related n ps i None (Some m) s t f g r h = right_entered n ps (nat_le i m) (m - i) t f g (h None (Some (m - i)) (record { is = tt; bound = r.bound }))
+  deeper_related n ps i None (Some m) s t f g r h = right_entered n ps (nat_le i m) (m - i) t f g r.bound (h None (Some (m - i)) (record { is = tt; bound = r.bound }))
   deeper_related n ps i (Some l) (Some m) s t f g r h = let le : m ≤ l = r.is in entered_related n ps (nat_le i l) (nat_le i m) (l - i) (m - i) s t f g (test_wider i l m le) (omega (arith, le)) r.bound h
 
   pub descends_related : {A : Type 0} {R : Names → A → A → Type 0} (n : Names) (ps : List Place) (b : Bool) (l m : Levels) (s t : State) (f g : Levels → Outcome A) → Roomier bounds l m → ((l m : Levels) → Roomier bounds l m → Beside bounds R n ps (f l) (g m)) → Beside bounds R n ps (descends b l s f) (descends b m t g)
@@ -145,7 +148,7 @@ module _ {bounds : Bounds} where
   cells_counts : {A : Type 0} {R : Names → A → A → Type 0} (n : Names) (ps : List Place) (a b : Bool) (i j : ℕ) (s t : State) (f g : State → Outcome A) → (b ≡ true → a ≡ true) → j ≤ i → true ≡ bounds.cells → Like bounds n ps s t → Onwards bounds R n ps s t f g → Beside bounds R n ps (cells_within a i s f) (cells_within b j t g)
   cells_counts n ps true true i j s t f g e le x l h = h _ _ (with_counts_like n ps s t _ _ (record { given = l.counts.given; turns = l.counts.turns; cells = record { is = le; bound = x }; expansion = l.counts.expansion }) l)
   cells_counts n ps false true i j s t f g e le x l h = absurd (let y : false ≡ true = e refl in cc)
-  cells_counts n ps a false i j s t f g e le x l h = parted _ _ (right_short _ Cells t short_of_cells)
+  cells_counts n ps a false i j s t f g e le x l h = parted _ _ (right_short _ Cells t (meets_cells (sym x)))
 
   left_cells : {A : Type 0} {R : Names → A → A → Type 0} (n : Names) (ps : List Place) (a : Bool) (i : ℕ) (s t : State) (f g : State → Outcome A) → t.counts.cells ≡ None → bounds.cells ≡ false → Like bounds n ps s t → Onwards bounds R n ps s t f g → Beside bounds R n ps (cells_within a i s f) (g t)
   left_cells n ps true i s t f g e x l h = h _ t.counts (with_counts_like n ps s t _ t.counts (record { given = l.counts.given; turns = l.counts.turns; cells = record { is = subst (λ o. IsRoomier (Some i) o) (sym e) tt; bound = l.counts.cells.bound }; expansion = l.counts.expansion }) l)
@@ -153,7 +156,7 @@ module _ {bounds : Bounds} where
 
   right_cells : {A : Type 0} {R : Names → A → A → Type 0} (n : Names) (ps : List Place) (b : Bool) (j : ℕ) (s t : State) (f g : State → Outcome A) → s.counts.cells ≡ None → true ≡ bounds.cells → Like bounds n ps s t → Onwards bounds R n ps s t f g → Beside bounds R n ps (f s) (cells_within b j t g)
   right_cells n ps true j s t f g e x l h = h s.counts _ (with_counts_like n ps s t s.counts _ (record { given = l.counts.given; turns = l.counts.turns; cells = record { is = subst (λ o. IsRoomier o (Some j)) (sym e) tt; bound = x }; expansion = l.counts.expansion }) l)
-  right_cells n ps false j s t f g e x l h = parted _ _ (right_short _ Cells t short_of_cells)
+  right_cells n ps false j s t f g e x l h = parted _ _ (right_short _ Cells t (meets_cells (sym x)))
 
   run_room_counts : {A : Type 0} {R : Names → A → A → Type 0} (n : Names) (ps : List Place) (cost : ℕ) (s t : State) (f g : State → Outcome A) → Like bounds n ps s t → Onwards bounds R n ps s t f g → Beside bounds R n ps (run_room s.counts.cells cost s f) (run_room t.counts.cells cost t g)
   run_room_counts {R = R} n ps cost s t f g l h = at s.counts.cells t.counts.cells refl refl l.counts.cells.is l.counts.cells.bound
@@ -169,7 +172,7 @@ module _ {bounds : Bounds} where
     where
       within : (b : Bool) (e : Expansion) → Beside bounds R n ps (expansion_within b e cost s (λ s. run_room s.counts.cells cost s f)) (expansion_within b e cost t (λ s. run_room s.counts.cells cost s g))
       within true e = run_room_counts n ps cost _ _ f g (with_counts_like n ps s t _ _ (record { given = l.counts.given; turns = l.counts.turns; cells = l.counts.cells; expansion = same_open _ }) l) h
-      within false e = stopped_now n ps _ s t l
+      within false e = stopped_now n ps (Expands e.macro) s t tt l
 
       at : (e x : Option Expansion) → SameExpansion e x → Beside bounds R n ps (expansion_room e cost s (λ s. run_room s.counts.cells cost s f)) (expansion_room x cost t (λ s. run_room s.counts.cells cost s g))
       at _ _ same_none = run_room_counts n ps cost s t f g l h

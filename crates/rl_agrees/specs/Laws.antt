@@ -15,7 +15,7 @@ use Rattle.rl_agrees.specs.Later.{Later}
 use Rattle.rl_agrees.specs.Leaving.{IsPlain, is_statement}
 use Rattle.rl_agrees.specs.TwoRunsJobs.{EventWithin, SameJob, Ready, MayLack}
 use Rattle.rl_agrees.specs.Heads.{IsWalk, IsBelow, HeadsStayIn}
-use Rattle.rl_agrees.specs.TwoRunsRuns.{RunsAgree, StopsShort, StopsLacking, HasRoom, HasNoEvent, SameRun, printed_first, noted_first, IsSound, running, walking}
+use Rattle.rl_agrees.specs.TwoRunsRuns.{RunsAgree, StopsLacking, StopsMeeting, HasRoom, HasNoEvent, SameRun, printed_first, noted_first, IsSound, running, walking}
 
 -- the state behind a job, and behind a run, is later than the one before
 pub record RunsGoOn : Type 0 where
@@ -48,10 +48,10 @@ pub record CodeAgrees : Type 0 where
   pub front : (bounds : Bounds) (o p : Ran) → RunsAgree bounds o p → HasNoEvent p → HasRoom p → HasShown o.state.outside.output o.state.outside.notes p.state.outside
   -- and in any case, of what the run does and what the walk does until its first event, one begins with the other
   pub either : (bounds : Bounds) (o p : Ran) → RunsAgree bounds o p → OneBegins (printed_first p) o.state.outside.output × OneBegins (noted_first p) o.state.outside.notes
-  -- beside a walk with no event, a run stops for cells or levels only where the walk has no such bound, or stops for cells or levels too: so with the same bounds a stop of the run is one of the walk
-  pub bound : (bounds : Bounds) (o p : Ran) (why : Stop) → RunsAgree bounds o p → HasNoEvent p → o.ending ≡ Stops why → IsShort why → IsLacking bounds why ⊎ StopsShort p
+  -- beside a walk with no event, a run stops for cells or levels only where the walk has no such bound, or where the walk stops too, for a bound that it has: so with the same bounds a stop of the run is one of the walk, and a walk with one bound alone stops for that one
+  pub bound : (bounds : Bounds) (o p : Ran) (why : Stop) → RunsAgree bounds o p → HasNoEvent p → o.ending ≡ Stops why → IsShort why → IsLacking bounds why ⊎ StopsMeeting bounds p
 
--- two walks from states side by side, of which the left one may lack local bindings that code keeps in slots: they end side by side again, the same bindings lacking; or apart, where the right one has an event, or one of the two stopped for cells or levels, the left one only where the right one has no such bound
+-- two walks from states side by side, of which the left one may lack local bindings that code keeps in slots: they end side by side again, the same bindings lacking; or apart, where the right one has an event, or one of the two stopped for cells or levels, the right one only where it has such a bound, the left one only where the right one has none
 pub record WalksAgree : Type 0 where
   pub job_ : (bounds : Bounds) (n : Names) (ps : List Place) (j : Job) (s : State) (k : Job) (t : State) → SameJob bounds n j k → Like bounds n ps s t → MayLack j ps → s.compilation.runs_code ≡ false → EventWithin t
       → Ends bounds n ps (job the_compiler j s) (job the_compiler k t)

@@ -2,25 +2,30 @@
 use Rattle.std.specs.Prelude.{◌≡◌, ℕ, zero, suc, true, false, List, length, take, Option, Some, None}
 use Rattle.rl_meaning.specs.State.{State, Recorded}
 use Rattle.rl_meaning.specs.Outcome.{Stop}
-use Rattle.rl_meaning.specs.Run.{Ran, Stops}
+use Rattle.rl_meaning.specs.Run.{Ran, Ending, Finished, Stops}
 use Rattle.rl_meaning.specs.TwoRunsLinks.{Links, unlinked, link}
 use Rattle.rl_meaning.specs.TwoRunsValues.{Names, Each, SameObject, SameFunction, SameSymbol, SameCoded}
 use Rattle.rl_meaning.specs.TwoRunsStates.{Bounds, Aligned, all_both}
-use Rattle.rl_meaning.specs.TwoRunsEnds.{HasShown, IsShort, IsLacking, OneBegins}
+use Rattle.rl_meaning.specs.TwoRunsEnds.{HasShown, IsShort, IsLacking, IsMeeting, MayStop, OneBegins}
+
+-- an end of both runs: for cells or levels they stop only where the right one has such a bound
+abbrev pub MayEnd : Bounds → Ending → Type 0
+MayEnd bounds Finished = Unit {0}
+MayEnd bounds (Stops why) = MayStop bounds why
 
 pub data RunsAgree (bounds : Bounds) : Ran → Ran → Type 0 where
-  -- all that is to be seen is the same
-  alike : (o p : Ran) → o.ending ≡ p.ending → o.state.outside ≡ p.state.outside → o.state.counts.turns ≡ p.state.counts.turns → RunsAgree bounds o p
+  -- all that is to be seen is the same, and if they stop for cells or levels the right one has such a bound
+  alike : (o p : Ran) → o.ending ≡ p.ending → o.state.outside ≡ p.state.outside → o.state.counts.turns ≡ p.state.counts.turns → MayEnd bounds p.ending → RunsAgree bounds o p
   -- what the right run printed and noted until its first event, the left one printed and noted
   until_event : (o p : Ran) (r : Recorded) → p.state.watched.event ≡ Some r → HasShown (take r.printed p.state.outside.output) (take r.noted p.state.outside.notes) o.state.outside → RunsAgree bounds o p
-  -- one of the two stopped for cells or levels, and the other printed and noted all that it did: the left one only where the right one has no such bound
-  until_right_stop : (o p : Ran) (why : Stop) → p.ending ≡ Stops why → IsShort why → HasShown p.state.outside.output p.state.outside.notes o.state.outside → RunsAgree bounds o p
+  -- one of the two stopped for cells or levels, and the other printed and noted all that it did: the right one only where it has such a bound, the left one only where the right one has none
+  until_right_stop : (o p : Ran) (why : Stop) → p.ending ≡ Stops why → IsMeeting bounds why → HasShown p.state.outside.output p.state.outside.notes o.state.outside → RunsAgree bounds o p
   until_left_stop : (o p : Ran) (why : Stop) → o.ending ≡ Stops why → IsLacking bounds why → HasShown o.state.outside.output o.state.outside.notes p.state.outside → RunsAgree bounds o p
   -- the left run stopped so, and the right one has an event: of what each had shown then, one begins with the other
   until_either : (o p : Ran) (why : Stop) (r : Recorded) → o.ending ≡ Stops why → IsLacking bounds why → p.state.watched.event ≡ Some r
       → OneBegins (take r.printed p.state.outside.output) o.state.outside.output → OneBegins (take r.noted p.state.outside.notes) o.state.outside.notes → RunsAgree bounds o p
-  -- both stopped for cells or levels, the left one so: of what each had shown, one begins with the other
-  until_both_stop : (o p : Ran) (why other : Stop) → o.ending ≡ Stops why → p.ending ≡ Stops other → IsLacking bounds why → IsShort other
+  -- both stopped for cells or levels, the left one so, and the right one for a bound that it has: of what each had shown, one begins with the other
+  until_both_stop : (o p : Ran) (why other : Stop) → o.ending ≡ Stops why → p.ending ≡ Stops other → IsLacking bounds why → IsMeeting bounds other
       → OneBegins p.state.outside.output o.state.outside.output → OneBegins p.state.outside.notes o.state.outside.notes → RunsAgree bounds o p
 
 -- ---- what is to be seen of a run
@@ -36,6 +41,12 @@ pub record StopsLacking (bounds : Bounds) (o : Ran) : Type 0 where
   pub why : Stop
   pub is : o.ending ≡ Stops why
   pub lacks : IsLacking bounds why
+
+-- it stopped for one of these bounds, which are its own
+pub record StopsMeeting (bounds : Bounds) (p : Ran) : Type 0 where
+  pub why : Stop
+  pub is : p.ending ≡ Stops why
+  pub meets : IsMeeting bounds why
 
 abbrev pub HasRoom : Ran → Type 0
 HasRoom o = StopsShort o → ⊥

@@ -1,5 +1,5 @@
 -- When code is right for a held function: in every state in which its dependencies stand and its constants are as they were, what its c-macros do agrees with the walk, until the walk has an event (this project's).
-use Rattle.std.specs.Prelude.{◌≡◌, ◌⊎◌, ◌≤◌, ℕ, Bool, true, false, ◌&&◌, ◌||◌, ◌==◌, nat_lt, List, [], ◌∷◌, ◌++◌, length, map, flat_map, slice_get, take, Option, Some, None}
+use Rattle.std.specs.Prelude.{◌≡◌, ◌⊎◌, ◌≤◌, ℕ, Bool, true, false, ◌&&◌, ◌||◌, ◌==◌, nat_lt, List, [], ◌∷◌, ◌++◌, length, map, flat_map, slice_get, take, is_some, Option, Some, None}
 use Rattle.std.specs.List.{list_any}
 use Rattle.rl_tree.specs.Value.{Value, Int, Id, Ref, Fun, Object}
 use Rattle.rl_tree.specs.declared.held.VarKind.TheVariants as vars
@@ -19,7 +19,7 @@ use Rattle.rl_meaning.specs.Opening.{state_of}
 use Rattle.rl_meaning.specs.TwoRunsLinks.{Linked}
 use Rattle.rl_meaning.specs.TwoRunsValues.{Names, Each, SameValue, SameCode}
 use Rattle.rl_meaning.specs.TwoRunsStates.{Bounds, Like, all_both}
-use Rattle.rl_meaning.specs.TwoRunsEnds.{HasShown, IsShort, Related}
+use Rattle.rl_meaning.specs.TwoRunsEnds.{HasShown, IsShort, IsMeeting, Related}
 
 -- ---- constants as they stood
 
@@ -108,10 +108,10 @@ pub record IsIdentity (known : Names) : Type 0 where
   pub objects : (r q : ℕ) → Linked known.objects r q → r ≡ q
   pub functions : (f g : ℕ) → Linked known.functions f g → f ≡ g
 
--- where the code's run may leave the walk: the walk has an event, or has met its bound on cells or levels, and all that it printed and noted until then was so by the code. The code never meets these bounds first
-pub data Leaves : Outcome Value → Outcome Value → Type 0 where
-  at_event : (o p : Outcome Value) (r : Recorded) → (state_of p).watched.event ≡ Some r → HasShown (take r.printed (state_of p).outside.output) (take r.noted (state_of p).outside.notes) (state_of o).outside → Leaves o p
-  at_bound : (o : Outcome Value) (why : Stop) (t : State) → IsShort why → HasShown t.outside.output t.outside.notes (state_of o).outside → Leaves o (Stopped why t)
+-- where the code's run may leave the walk: the walk has an event, or has met a bound on cells or levels that it has, and all that it printed and noted until then was so by the code. The code never meets these bounds first
+pub data Leaves (bounds : Bounds) : Outcome Value → Outcome Value → Type 0 where
+  at_event : (o p : Outcome Value) (r : Recorded) → (state_of p).watched.event ≡ Some r → HasShown (take r.printed (state_of p).outside.output) (take r.noted (state_of p).outside.notes) (state_of o).outside → Leaves bounds o p
+  at_bound : (o : Outcome Value) (why : Stop) (t : State) → IsMeeting bounds why → HasShown t.outside.output t.outside.notes (state_of o).outside → Leaves bounds o (Stopped why t)
 
 -- an event of the code's run: the walk has one that comes no later, or has met its bound before
 pub data IsForeseen (c : Recorded) : Outcome Value → Type 0 where
@@ -120,7 +120,7 @@ pub data IsForeseen (c : Recorded) : Outcome Value → Type 0 where
 
 -- the code's run o and the walk p from a state with these bindings agree
 pub record AgreesWith (bounds : Bounds) (known : Names) (bindings : List Entry) (o p : Outcome Value) : Type 0 where
-  pub ends : Related bounds Leaves SameValue known (all_both bindings) o p
+  pub ends : Related bounds (Leaves bounds) SameValue known (all_both bindings) o p
   pub events : (c : Recorded) → (state_of o).watched.event ≡ Some c → IsForeseen c p
 
 -- a state, with a bound on cells or none, that comes to these objects and functions alone, and to these values
@@ -132,8 +132,10 @@ pub record Knows (bounds : Bounds) (known : Names) (vs : List Value) (code : Cod
 
 -- the code of a name, lowered in this state, for its held form, where these objects stood in its constants
 pub record Right (compiler : Compiler) (lowered : State) (entry : Coded) (held : Held) (stood : List Stood) : Type 0 where
+  -- with any bounds of the walk: that on levels is named here, that on cells by what is known of the state
   pub agrees : (bounds : Bounds) (known : Names) (levels : Levels) (vs : List Value) (s : State)
       → Knows bounds known vs entry.code s
+      → is_some levels ≡ bounds.levels
       → length vs ≡ length held.parameters
       → function_at s entry.function ≡ HeldFunction held
       → s.compilation.runs_code ≡ false
