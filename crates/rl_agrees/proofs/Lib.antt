@@ -30,7 +30,6 @@ mod OneRunPrinting
 mod OneRunReader
 mod OneRunReading
 mod OneRunNatives
-mod Heads
 mod OneRunEvaluation
 mod OneRunForms
 mod OneRunMachine
@@ -67,8 +66,8 @@ mod TwoRunsAsked
 mod TwoRunsEvaluation
 mod TwoRunsBlock
 mod TwoRunsMachine
-mod TwoRunsMixed
-mod TwoRunsGiven
+mod TwoRunsJobsAgree
+mod TwoRunsLaws
 mod TwoRunsLoop
 mod IdentityCode
 mod IdentityState

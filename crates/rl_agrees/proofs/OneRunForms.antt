@@ -12,7 +12,7 @@ use Rattle.rl_meaning.specs.Variables.{with_mark}
 use Rattle.rl_meaning.specs.Forms.{Form, Call, Applied, Bad, head_of, count_of, call_levels, fits, lambda_parameters}
 use Rattle.rl_meaning.specs.Errors.{badly_formed}
 use Rattle.rl_meaning.specs.Evaluation.{Position, Statement, Inside, Here, Rec, longest_chain, of_none, operation_of, atom_in, identifiers_in, eval, arguments, applied_lambda, progn, clauses, clause, conjunction, disjunction, setq, returning, prog, statements, listed, combined, combined_rest, walked}
-use Rattle.rl_agrees.proofs.Heads.{lambda_form, call_form, special_form, list_form}
+use Rattle.rl_meaning.specs.HeadCases.{lambda_form, call_form, special_form, list_form}
 use Rattle.rl_agrees.proofs.OneRun.{Follows, LeadsAt, Leads, anywhere, done_leads, then_leads, choose_leads, deeper_leads}
 use Rattle.rl_agrees.proofs.OneRunObjects.{fail_leads, pair_leads}
 use Rattle.rl_agrees.proofs.OneRunVariables.{mark_follows, variable_leads, assigned_leads, operated_leads, restored_leads, binding_leads}

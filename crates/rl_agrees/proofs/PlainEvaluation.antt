@@ -21,7 +21,7 @@ use Rattle.rl_agrees.proofs.PlainWays.{ends_weaken, Stays, Leaves, then_stays, w
 use Rattle.rl_agrees.proofs.PlainObjects.{choose_stays, fail_stays, pair_stays, turn_stays, deeper_stays}
 use Rattle.rl_agrees.proofs.PlainNatives.{operated_stays, native_stays}
 use Rattle.rl_agrees.proofs.PlainVariables.{Framed, variable_stays, assigned_stays, InFrame, binding_stays, Same, marked_stays}
-use Rattle.rl_agrees.proofs.Heads.{lambda_form, call_form, special_form, list_form}
+use Rattle.rl_meaning.specs.HeadCases.{lambda_form, call_form, special_form, list_form}
 use Rattle.rl_agrees.proofs.PlainHeads.{plain_special, plain_list, InRange, symbol_same, function_same, head_same}
 
 -- ---- tests

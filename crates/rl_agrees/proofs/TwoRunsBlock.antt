@@ -22,7 +22,7 @@ use Rattle.rl_meaning.specs.TwoRunsEnds.{went, returned}
 use Rattle.rl_agrees.proofs.TwoRunsGrowth.{grows_refl, grows_trans, value_grows, values_grow, tree_grows}
 use Rattle.rl_agrees.proofs.TwoRunsWays.{Is, is}
 use Rattle.rl_agrees.proofs.TwoRunsObjects.{nil_same, each_append}
-use Rattle.rl_agrees.proofs.Heads.{lambda_form, call_form, special_form, list_form}
+use Rattle.rl_meaning.specs.HeadCases.{lambda_form, call_form, special_form, list_form}
 use Rattle.rl_agrees.proofs.TwoRunsBinding.{level, over}
 use Rattle.rl_agrees.proofs.TwoRunsForms.{list_same, count_same, identifiers_same, fits_same, parameters_same, SameHead, same_form, same_call, same_applied, same_bad, head_same}
 use Rattle.rl_agrees.proofs.TwoRunsFacts.{Ask, AskGoes, GoesOn, RecGoes, OneRunFacts, TwoRunsFacts}

@@ -1,4 +1,4 @@
--- What is used of one run and of two, gathered: that each definition only goes on from its state, whatever its jobs do that go on; and that holding, copying, natives and variables keep two runs side by side. All of it is given in TwoRunsGiven.
+-- What is used of one run and of two, gathered: that each definition only goes on from its state, whatever its jobs do that go on; and that holding, copying, natives and variables keep two runs side by side. All of it is given in TwoRunsLaws.
 use Rattle.std.proofs.Common.{◌≡◌, ℕ, Bool, true, false, List, Option}
 use Rattle.rl_tree.specs.Value.{Value}
 use Rattle.rl_tree.specs.declared.held.Kind.{Kind}
@@ -27,7 +27,7 @@ use Rattle.rl_meaning.specs.TwoRunsStates.{Bounds, Place, Like, Roomier, Shown}
 use Rattle.rl_meaning.specs.TwoRunsEnds.{Parted, Related, Ends}
 use Rattle.rl_agrees.specs.Leaving.{IsPlain, is_statement}
 use Rattle.rl_agrees.specs.TwoRunsJobs.{Goes}
-use Rattle.rl_agrees.proofs.Heads.{special_form}
+use Rattle.rl_meaning.specs.HeadCases.{special_form}
 use Rattle.rl_agrees.proofs.TwoRunsWays.{Beside, Is}
 use Rattle.rl_agrees.proofs.TwoRunsWalks.{SameWalked}
 use Rattle.rl_agrees.proofs.TwoRunsReading.{SameReading}

@@ -19,6 +19,7 @@ use Rattle.rl_grammar.specs.Refusal.{BeginsToken, IsBadAt}
 use Rattle.rl_grammar.proofs.Gaps.{IsSolid, found_solid, solid_is_some}
 use Rattle.rl_grammar.proofs.Spelled.{spelling_solid, spelled_here, word_spelled, quote_spelled}
 use Rattle.rl_grammar.proofs.Lexed.{long_has_short, first_passed, first_is_found, found_is_first, none_found, blank_found}
+use Rattle.rl_grammar.proofs.OnePlace.{one_place}
 
 -- ---- lists
 
@@ -283,14 +284,7 @@ not_before bytes j k first second below =
     first.stops (omega arith) (shorter_begins bytes (suc j) k (omega arith) second.begins)
 
 same_place : (bytes : List ℕ) (j k : ℕ) → IsBadAt bytes j → IsBadAt bytes k → j ≡ k
-same_place bytes j k first second =
-    elim (cases_order j k) [
-      | inl e ↦ e
-      | inr other ↦ elim other [
-        | inl below ↦ absurd (not_before bytes j k first second below)
-        | inr above ↦ absurd (not_before bytes k j second first above)
-      ]
-    ]
+same_place bytes j k first second = one_place (λ i. IsBadAt bytes i) (not_before bytes) j k first second
 
 abbrev StopsAt : List ℕ → ℕ → Type 0
 StopsAt bytes k = (from : List ℕ) × (first_token bytes ≡ Stops from) × (k ≡ length bytes - length from)

@@ -6,6 +6,7 @@ use Rattle.rl_grammar.specs.Token.{Semicolon, Token}
 use Rattle.rl_grammar.specs.Statement.{Place, Start, PlaceStep, GoesTo, Ends, Fails, place_step, Result, Parsed, Syntax, after_place, run_place, parse_statement}
 use Rattle.rl_grammar.specs.Laws.{BeginsStatement, IsRefusedAt}
 use Rattle.rl_grammar.proofs.Whole.{parsed_is_statement, statement_is_parsed, by_place, place_live}
+use Rattle.rl_grammar.proofs.OnePlace.{one_place}
 
 -- all the tokens in front go on, whatever follows them, and the token behind them is refused, whatever follows it
 record Stops (s : Place) (ts from : List Token) : Type 0 where
@@ -69,14 +70,7 @@ not_before ts j k first second below =
     first.stops (omega arith) (shorter_begins ts (suc j) k (omega arith) second.begins)
 
 same_place : (ts : List Token) (j k : ℕ) → IsRefusedAt ts j → IsRefusedAt ts k → j ≡ k
-same_place ts j k first second =
-    elim (cases_order j k) [
-      | inl e ↦ e
-      | inr other ↦ elim other [
-        | inl below ↦ absurd (not_before ts j k first second below)
-        | inr above ↦ absurd (not_before ts k j second first above)
-      ]
-    ]
+same_place ts j k first second = one_place (λ i. IsRefusedAt ts i) (not_before ts) j k first second
 
 stops_at : (ts from : List Token) (s : Stops Start ts from) → length s.front < length (s.front ++ from) → BeginsStatement (take (suc (length s.front)) (s.front ++ from)) → ⊥
 stops_at ts [] s more begins = absurd (let e = length-append s.front [] in omega arith)

@@ -14,6 +14,7 @@ use Rattle.rl_grammar.proofs.Deep.{name_depth}
 use Rattle.rl_grammar.proofs.Counted.{told_place, owed, known_behind, known, statement_is_known}
 use Rattle.rl_grammar.proofs.Bounded.{small, Low, Passes, Taken, Passed, Ended, Failed, token_taken, by_step, by_within, known_by, all_parts, all_from, owed_small, owed_admits, told_small, taken, ends_within, name_low, parsed_within, within_parsed}
 use Rattle.rl_grammar.proofs.Whole.{parsed_is_statement, statement_is_parsed, LabelsPlace, place_live}
+use Rattle.rl_grammar.proofs.OnePlace.{one_place}
 
 -- ---- so many of the numbers belong to the tokens that were taken
 
@@ -207,14 +208,7 @@ not_before ts j k first second below =
     first.stops (omega arith) (shorter_begins ts (suc j) k (omega arith) second.begins)
 
 same_place : (ts : List Token) (j k : ℕ) → IsRefusedWithin ts j → IsRefusedWithin ts k → j ≡ k
-same_place ts j k first second =
-    elim (cases_order j k) [
-      | inl e ↦ e
-      | inr other ↦ elim other [
-        | inl below ↦ absurd (not_before ts j k first second below)
-        | inr above ↦ absurd (not_before ts k j second first above)
-      ]
-    ]
+same_place ts j k first second = one_place (λ i. IsRefusedWithin ts i) (not_before ts) j k first second
 
 stops_at : (ts from : List Token) (s : Stops Start ts from) → length s.front < length (s.front ++ from) → BeginsWithin (take (suc (length s.front)) (s.front ++ from)) → ⊥
 stops_at ts [] s more begins = absurd (let e = length-append s.front [] in omega arith)

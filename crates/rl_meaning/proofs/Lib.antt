@@ -11,7 +11,6 @@ mod Reading
 mod SpendingReading
 mod SpendingAll
 mod Alike
-mod Heads
 mod Fuel
 mod RunsFall
 mod Widening

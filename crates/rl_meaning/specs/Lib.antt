@@ -24,6 +24,7 @@ pub mod Natives
 pub mod Forms
 pub mod Evaluation
 pub mod Machine
+pub mod HeadCases
 pub mod Jobs
 pub mod Opening
 pub mod TwoRunsLinks

@@ -1,4 +1,4 @@
-use Rattle.rl_agrees.proofs.TwoRunsGiven.{code_agrees}
+use Rattle.rl_agrees.proofs.TwoRunsLaws.{code_agrees}
 use Rattle.rl_agrees.proofs.laws.code_agrees.Goals as goal
 
 pub returns : goal.returns

@@ -1,4 +1,4 @@
-use Rattle.rl_agrees.proofs.TwoRunsGiven.{walks_agree}
+use Rattle.rl_agrees.proofs.TwoRunsLaws.{walks_agree}
 use Rattle.rl_agrees.proofs.laws.walks_agree.Goals as goal
 
 pub returns : goal.returns

@@ -42,8 +42,8 @@ use Rattle.rl_agrees.proofs.TwoRunsPrinting.{mark_like, print_error_related}
 use Rattle.rl_agrees.proofs.TwoRunsReading.{read_bytes_related}
 use Rattle.rl_agrees.proofs.TwoRunsFacts.{GoesOn, AskGoes, RecGoes, OneRunFacts, Quiet, may_part, TwoRunsFacts}
 use Rattle.rl_agrees.proofs.TwoRunsGoes.{then_goes}
-use Rattle.rl_agrees.proofs.TwoRunsMixed.{jobs_agree}
-use Rattle.rl_agrees.proofs.TwoRunsMixed as mixed
+use Rattle.rl_agrees.proofs.TwoRunsJobsAgree.{jobs_agree}
+use Rattle.rl_agrees.proofs.TwoRunsJobsAgree as mixed
 use Rattle.rl_agrees.proofs.TwoRunsLoop as loop
 
 -- ---- one run
