@@ -1,6 +1,6 @@
 -- Bytes are bad exactly at the first with which no token goes on, or at their end inside a token.
 use Rattle.std.proofs.Common.{◌≡◌, ◌↔◌, ℕ, zero, suc, ◌+◌, ◌-◌, ◌^◌, ◌<◌, ◌≤◌, true, false, ◌==◌, nat_le, List, [], ◌∷◌, ◌++◌, length, take, drop, Option, Some, None, refl, ap, sym, subst, ◌∙◌, inl, inr, eqb-true, arith, append_assoc}
-use Rattle.std.proofs.lemmas.Bool.{cases_Bool, cases_order, cond-true, cond-false, and_from, and_parts, leb-true}
+use Rattle.std.proofs.lemmas.Bool.{cases_Bool, cond-true, cond-false, and_from, and_parts, leb-true}
 use Rattle.std.proofs.lemmas.List.{take-append-drop, take-take, length-append, length-take-le, length-drop, take_at}
 use Rattle.rl_tree.specs.Bytes.{is_digit, is_letter}
 use Rattle.rl_text.specs.Datum.{Datum, quoted}
