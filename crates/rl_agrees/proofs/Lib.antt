@@ -1,3 +1,4 @@
+mod TwoRunsKept
 mod TwoRunsLinked
 mod TwoRunsGrowth
 mod TwoRunsWays

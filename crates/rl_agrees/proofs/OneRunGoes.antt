@@ -9,7 +9,8 @@ use Rattle.rl_meaning.specs.Reach.{turns}
 use Rattle.rl_meaning.specs.Definitions.{with_definition}
 use Rattle.rl_meaning.specs.Printing.{turns_taken, note}
 use Rattle.rl_agrees.specs.Later.{Later}
-use Rattle.rl_agrees.specs.TwoRunsJobs.{EventWithin, Goes}
+use Rattle.rl_agrees.specs.TwoRunsJobs.{EventWithin}
+use Rattle.rl_agrees.proofs.TwoRunsKept.{Goes}
 use Rattle.rl_agrees.proofs.OneRun.{Steps, Prints}
 use Rattle.rl_agrees.proofs.OneRunLater.{later_steps, later_prints}
 use Rattle.rl_agrees.proofs.TwoRunsGoes.{goes_trans, more_length}

@@ -7,7 +7,8 @@ use Rattle.rl_meaning.specs.Evaluation.{Job, Run, Onward, Call_, From, In, Rec}
 use Rattle.rl_meaning.specs.Compiling.{Compiler, no_compiler}
 use Rattle.rl_meaning.specs.TwoRunsValues.{Names, Each, SameValue}
 use Rattle.rl_meaning.specs.TwoRunsStates.{Bounds, Place, Like}
-use Rattle.rl_agrees.specs.TwoRunsJobs.{Goes, SameJob, IsOfState, EndsOf}
+use Rattle.rl_agrees.specs.TwoRunsJobs.{SameJob}
+use Rattle.rl_agrees.proofs.TwoRunsKept.{Goes, IsOfState, EndsOf}
 use Rattle.rl_agrees.proofs.TwoRunsReady.{function_stays}
 use Rattle.rl_agrees.proofs.TwoRunsFacts.{Ask, AskGoes, GoesOn, IsPlainCompiler, RecGoes}
 use Rattle.rl_agrees.proofs.TwoRunsGoes.{goes_refl}

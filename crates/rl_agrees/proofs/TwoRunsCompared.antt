@@ -5,7 +5,8 @@ use Rattle.rl_meaning.specs.Evaluation.{Job, Run, Onward, Call_, From, In}
 use Rattle.rl_meaning.specs.Jobs.{the_compiler}
 use Rattle.rl_meaning.specs.TwoRunsValues.{Names}
 use Rattle.rl_meaning.specs.TwoRunsStates.{Bounds, Place, Both, BothMark, Hidden, HiddenMark, Shown, Like}
-use Rattle.rl_agrees.specs.TwoRunsJobs.{EventWithin, Goes, SameJob, Ready, IsOfState, IsWhole}
+use Rattle.rl_agrees.specs.TwoRunsJobs.{EventWithin, SameJob, Ready}
+use Rattle.rl_agrees.proofs.TwoRunsKept.{Goes, IsOfState, IsWhole}
 use Rattle.rl_agrees.proofs.TwoRunsReady.{ready_stays}
 
 pub record Comparison : Type 1 where

@@ -18,7 +18,8 @@ use Rattle.rl_meaning.specs.TwoRunsStates.{Bounds, Place, all_both, SameExpansio
 use Rattle.rl_meaning.specs.TwoRunsEnds.{stopped, Ends}
 use Rattle.rl_meaning.specs.Right.{AgreesWith, Right}
 use Rattle.rl_agrees.specs.Later.{IsIn, first, further}
-use Rattle.rl_agrees.specs.TwoRunsJobs.{SameHere, same_here, SameJob, same_run, same_onward, same_call, same_from, same_in, ReadyCode, Ready, IsWhole, EndsSomewhere, EndsOf}
+use Rattle.rl_agrees.specs.TwoRunsJobs.{SameHere, same_here, SameJob, same_run, same_onward, same_call, same_from, same_in, ReadyCode, Ready}
+use Rattle.rl_agrees.proofs.TwoRunsKept.{IsWhole, EndsSomewhere, EndsOf}
 use Rattle.rl_agrees.proofs.TwoRunsObjects.{linked_same}
 use Rattle.rl_agrees.proofs.TwoRunsKnown.{names_on_right, right_covers, knows, whole_places, all_both_whole}
 use Rattle.rl_agrees.proofs.TwoRunsJoined.{joined}

@@ -16,7 +16,8 @@ use Rattle.rl_meaning.specs.TwoRunsValues.{Names, Grows, Maybe, Each, end, more,
 use Rattle.rl_meaning.specs.TwoRunsStates.{Bounds, Place, Both, BothMark, SameExpansion, same_none, same_open, SameCounts, Like, Roomier}
 use Rattle.rl_meaning.specs.TwoRunsEnds.{Begins, HasShown, lacks_levels, meets_levels, MayStop, Parted, Related, done, failed, went, returned, stopped, parted, Ends}
 use Rattle.rl_meaning.specs.TwoRunsEnds as ends
-use Rattle.rl_agrees.specs.TwoRunsJobs.{EventWithin, Goes}
+use Rattle.rl_agrees.specs.TwoRunsJobs.{EventWithin}
+use Rattle.rl_agrees.proofs.TwoRunsKept.{Goes}
 use Rattle.rl_agrees.proofs.TwoRunsGrowth.{grows_refl, grows_trans}
 use Rattle.rl_agrees.proofs.TwoRunsWays.{Beside, Short, right_short, left_short, with_counts_like}
 use Rattle.rl_agrees.proofs.TwoRunsObjects.{fail_related}

@@ -28,7 +28,8 @@ use Rattle.rl_meaning.specs.TwoRunsLinks.{Linked}
 use Rattle.rl_meaning.specs.TwoRunsValues.{Names, Grows, Maybe, nothing, just, Each, end, more, SameValue, same_int, same_id, same_str, same_ref, same_fun, SameParts, same_parts, SameTree, same_atom, same_node, SameHeld, same_held, SameFunction, same_special, same_native, same_held_function, SamePointer, same_pointer, SameNumber, SameDefinition, same_definition, SameSymbol, same_symbol}
 use Rattle.rl_meaning.specs.TwoRunsStates.{Bounds, Place, BothMark, SameExpansion, same_none, same_open, Like, Roomier}
 use Rattle.rl_meaning.specs.TwoRunsEnds.{done, failed, went, returned, stopped, parted}
-use Rattle.rl_agrees.specs.TwoRunsJobs.{Goes, same_here, same_run, same_call, same_from, same_in, IsOfState}
+use Rattle.rl_agrees.specs.TwoRunsJobs.{same_here, same_run, same_call, same_from, same_in}
+use Rattle.rl_agrees.proofs.TwoRunsKept.{Goes, IsOfState}
 use Rattle.rl_agrees.proofs.TwoRunsGrowth.{grows_refl, value_grows, values_grow, tree_grows, pointer_grows}
 use Rattle.rl_agrees.proofs.TwoRunsWays.{Is, is, reading_like, pair_read_like, with_counts_like}
 use Rattle.rl_agrees.proofs.TwoRunsObjects.{pair_same, nil_same, symbol_same, each_length, each_at, made_pair_related}

@@ -26,7 +26,7 @@ use Rattle.rl_meaning.specs.TwoRunsValues.{Names, Maybe, Each, SameValue, SamePa
 use Rattle.rl_meaning.specs.TwoRunsStates.{Bounds, Place, Like, Roomier, Shown}
 use Rattle.rl_meaning.specs.TwoRunsEnds.{Parted, Related, Ends}
 use Rattle.rl_agrees.specs.Leaving.{IsPlain, is_statement}
-use Rattle.rl_agrees.specs.TwoRunsJobs.{Goes}
+use Rattle.rl_agrees.proofs.TwoRunsKept.{Goes}
 use Rattle.rl_meaning.specs.HeadCases.{special_form}
 use Rattle.rl_agrees.proofs.TwoRunsWays.{Beside, Is}
 use Rattle.rl_agrees.proofs.TwoRunsWalks.{SameWalked}

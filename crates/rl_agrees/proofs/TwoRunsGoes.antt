@@ -10,7 +10,8 @@ use Rattle.rl_meaning.specs.Evaluation.{closed}
 use Rattle.rl_meaning.specs.TwoRunsEnds.{Begins, HasShown, OneBegins, Parted, by_event, right_short, left_short, short_by_event, both_short}
 use Rattle.rl_meaning.specs.TwoRunsStates.{Bounds}
 use Rattle.rl_agrees.specs.Later.{IsMore, IsNoted, StaysOrNoted, NotedBefore, Later}
-use Rattle.rl_agrees.specs.TwoRunsJobs.{EventWithin, Goes}
+use Rattle.rl_agrees.specs.TwoRunsJobs.{EventWithin}
+use Rattle.rl_agrees.proofs.TwoRunsKept.{Goes}
 use Rattle.rl_agrees.proofs.TwoRunsJoined.{begins_trans}
 use Rattle.rl_agrees.proofs.TwoRunsFacts.{GoesOn}
 

@@ -12,7 +12,8 @@ use Rattle.rl_meaning.specs.TwoRunsStates.{Bounds, Place, Like, Roomier}
 use Rattle.rl_meaning.specs.TwoRunsEnds.{Ends}
 use Rattle.rl_agrees.specs.Laws.{WalksAgree}
 use Rattle.rl_agrees.specs.Leaving.{IsPlain, is_statement}
-use Rattle.rl_agrees.specs.TwoRunsJobs.{SameHere, same_here, SameJob, same_run, same_onward, same_call, same_from, same_in, EndsOf, SameMachine, SameFrame, EndsSomewhere, EventWithin, MayLack}
+use Rattle.rl_agrees.specs.TwoRunsJobs.{SameHere, same_here, SameJob, same_run, same_onward, same_call, same_from, same_in, SameMachine, SameFrame, EventWithin, MayLack}
+use Rattle.rl_agrees.proofs.TwoRunsKept.{EndsOf, EndsSomewhere}
 use Rattle.rl_agrees.proofs.TwoRunsGrowth.{grows_refl}
 use Rattle.rl_agrees.proofs.TwoRunsFacts.{Ask, AskGoes, GoesOn, OneRunFacts, TwoRunsFacts}
 use Rattle.rl_agrees.proofs.TwoRunsGoes.{goes_refl}

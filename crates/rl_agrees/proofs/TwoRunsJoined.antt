@@ -11,7 +11,8 @@ use Rattle.rl_meaning.specs.Outcome.{Outcome, Done, Failed, Went, Returned, Stop
 use Rattle.rl_meaning.specs.Opening.{state_of}
 use Rattle.rl_meaning.specs.TwoRunsEnds.{Begins, HasShown, IsShort, short_of_cells, short_of_levels, IsLacking, IsMeeting, meets_cells, meets_levels, MayStop, OneBegins, Parted, by_event, right_short, left_short, short_by_event, both_short, SameStop, Related, done, failed, went, returned, stopped, parted, Ends}
 use Rattle.rl_meaning.specs.Right.{Leaves, at_event, at_bound, IsForeseen, as_event, past_bound}
-use Rattle.rl_agrees.specs.TwoRunsJobs.{IsWhole, EventWithin}
+use Rattle.rl_agrees.specs.TwoRunsJobs.{EventWithin}
+use Rattle.rl_agrees.proofs.TwoRunsKept.{IsWhole}
 use Rattle.rl_agrees.proofs.TwoRunsLinked.{linked_cases}
 
 -- ---- links

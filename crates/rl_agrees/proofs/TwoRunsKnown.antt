@@ -7,7 +7,7 @@ use Rattle.rl_meaning.specs.TwoRunsLinks.{Links, unlinked, link, Linked, newest,
 use Rattle.rl_meaning.specs.TwoRunsValues.{Names, Maybe, nothing, just, Each, end, more, SameValue, same_int, same_id, same_str, same_ref, same_fun, SameObject, same_pair, same_vector, SameTree, same_atom, same_quoted, same_node, same_literal, SameHeld, same_held, SameFunction, same_special, same_native, same_held_function, SamePointer, same_pointer, SameDefinition, same_definition, SameSymbol, same_symbol, SameOperand, same_slot, same_constant, same_variable, same_register, SameMacro, same_load, same_copy, same_jump_eq, same_jump_ne, same_macro, SameCode, SameDependency, same_called, same_fexpr, same_whole, SameCoded, same_coded}
 use Rattle.rl_meaning.specs.TwoRunsStates.{Bounds, SameStore, SameFunctions, Place, Both, BothMark, Aligned, bottom, both, both_mark, hidden, hidden_mark, all_both, SameExpansion, same_none, same_open, IsRoomier, Like}
 use Rattle.rl_meaning.specs.Right.{IsIdentity, Knows}
-use Rattle.rl_agrees.specs.TwoRunsJobs.{IsWhole}
+use Rattle.rl_agrees.proofs.TwoRunsKept.{IsWhole}
 use Rattle.rl_agrees.proofs.TwoRunsLinked.{linked_cases}
 use Rattle.rl_agrees.proofs.TwoRunsJoined.{Covers}
 

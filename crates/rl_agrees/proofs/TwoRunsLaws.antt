@@ -13,7 +13,7 @@ use Rattle.rl_meaning.specs.TwoRunsValues.{Names, Each, SameValue, same_id}
 use Rattle.rl_meaning.specs.TwoRunsStates.{Bounds, Place, Like, Roomier}
 use Rattle.rl_meaning.specs.TwoRunsEnds.{Ends, done}
 use Rattle.rl_agrees.specs.Laws.{CodeAgrees, WalksAgree}
-use Rattle.rl_agrees.specs.TwoRunsJobs.{Goes}
+use Rattle.rl_agrees.proofs.TwoRunsKept.{Goes}
 use Rattle.rl_agrees.proofs.OneRun.{Follows, follows_same, LeadsAt, Leads}
 use Rattle.rl_agrees.proofs.OneRunQuiet as quiet
 use Rattle.rl_agrees.proofs.OneRunQuiet.{quiet_steps}

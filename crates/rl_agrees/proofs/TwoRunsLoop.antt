@@ -23,7 +23,8 @@ use Rattle.rl_meaning.specs.TwoRunsValues.{Names, Maybe, Each, SameValue, same_i
 use Rattle.rl_meaning.specs.TwoRunsStates.{Bounds, bounds_of, Place, all_both, SameExpansion, same_none, same_open, IsRoomier, Roomier, Like}
 use Rattle.rl_meaning.specs.TwoRunsEnds.{Begins, HasShown, IsShort, short_of_cells, short_of_levels, IsLacking, lacks_cells, lacks_levels, IsMeeting, meets_cells, meets_levels, OneBegins, Parted, by_event, right_short, left_short, short_by_event, both_short, Related, done, failed, went, returned, stopped, parted, Ends}
 use Rattle.rl_meaning.specs.Right.{Stood, AllAsTheyStood}
-use Rattle.rl_agrees.specs.TwoRunsJobs.{Goes, SameHere, same_here, same_in, ReadyCode, Ready}
+use Rattle.rl_agrees.specs.TwoRunsJobs.{SameHere, same_here, same_in, ReadyCode, Ready}
+use Rattle.rl_agrees.proofs.TwoRunsKept.{Goes}
 use Rattle.rl_agrees.specs.TwoRunsRuns.{StopsLacking, StopsMeeting, MayEnd, RunsAgree, alike, until_event, until_right_stop, until_left_stop, until_either, until_both_stop, HasRoom, HasNoEvent, SameRun, printed_by, noted_by, printed_first, noted_first, each_itself, names_of, IsSound, running, walking}
 use Rattle.rl_agrees.specs.Laws.{CodeAgrees}
 use Rattle.rl_agrees.proofs.TwoRunsLinked.{linked_cases}

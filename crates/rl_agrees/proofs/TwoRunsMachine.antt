@@ -25,7 +25,8 @@ use Rattle.rl_meaning.specs.TwoRunsValues.{Names, Grows, Maybe, nothing, just, E
 use Rattle.rl_meaning.specs.TwoRunsStates.{Bounds, Place, Both, BothMark, Hidden, HiddenMark, Aligned, bottom, both, both_mark, hidden, hidden_mark, SameExpansion, same_none, same_open, SameCounts, Like, Roomier}
 use Rattle.rl_meaning.specs.TwoRunsEnds.{HasShown, MayStop, Parted, Related, done, failed, went, returned, stopped, parted, Ends}
 use Rattle.rl_meaning.specs.TwoRunsEnds as ends
-use Rattle.rl_agrees.specs.TwoRunsJobs.{Goes, SameBound, same_bound, SameMachine, same_machine, SameFrame, same_frame, same_onward, Ready, IsWhole, EndsSomewhere}
+use Rattle.rl_agrees.specs.TwoRunsJobs.{SameBound, same_bound, SameMachine, same_machine, SameFrame, same_frame, same_onward, Ready}
+use Rattle.rl_agrees.proofs.TwoRunsKept.{Goes, IsWhole, EndsSomewhere}
 use Rattle.rl_agrees.proofs.TwoRunsGrowth.{grows_refl, values_grow, maybe_grows, held_grows, pointer_grows, code_grows}
 use Rattle.rl_agrees.proofs.TwoRunsWays.{Beside, Is, is, with_counts_like}
 use Rattle.rl_agrees.proofs.TwoRunsObjects.{nil_same, linked_same, same_same, each_at, each_set, each_append, each_length, symbol_same}

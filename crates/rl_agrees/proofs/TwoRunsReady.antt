@@ -10,7 +10,8 @@ use Rattle.rl_meaning.specs.Standing.{all_stand}
 use Rattle.rl_meaning.specs.Compiling.{Compiler}
 use Rattle.rl_meaning.specs.Right.{Stood, is_later, AsItStood, AllAsTheyStood}
 use Rattle.rl_agrees.specs.Later.{IsMore, IsNoted, StaysOrNoted, NotedBefore, IsIn, first, further, Later}
-use Rattle.rl_agrees.specs.TwoRunsJobs.{Goes, ReadyCode, Ready}
+use Rattle.rl_agrees.specs.TwoRunsJobs.{ReadyCode, Ready}
+use Rattle.rl_agrees.proofs.TwoRunsKept.{Goes}
 
 -- ---- functions
 

@@ -1,18 +1,17 @@
--- When two jobs of two runs side by side are the same, and how they end: the left run may run code, the right one walks all functions (this project's).
-use Rattle.std.specs.Prelude.{◌≡◌, ◌≤◌, ◌<◌, ℕ, true, is_some, List, [], ◌∷◌, length, Option, Some}
+-- When two jobs of two runs side by side are the same, of which the left one may run code and the right one walks all functions; and when the codes of a state are ready (this project's).
+use Rattle.std.specs.Prelude.{◌≡◌, ◌≤◌, ◌<◌, ℕ, true, List, length, Option, Some}
 use Rattle.rl_tree.specs.Value.{Value}
 use Rattle.rl_meaning.specs.State.{State, Code, Coded, Kept, Held, Pointer, Tree, HeldFunction, Recorded}
-use Rattle.rl_meaning.specs.Outcome.{Outcome, Levels}
+use Rattle.rl_meaning.specs.Outcome.{Levels}
 use Rattle.rl_meaning.specs.Holding.{function_at}
 use Rattle.rl_meaning.specs.Standing.{all_stand}
 use Rattle.rl_meaning.specs.Evaluation.{Position, Here, Bound, Machine, Frame, Job, Run, Onward, Call_, From, In}
 use Rattle.rl_meaning.specs.Compiling.{Compiler}
 use Rattle.rl_meaning.specs.TwoRunsLinks.{Linked}
 use Rattle.rl_meaning.specs.TwoRunsValues.{Names, Maybe, Each, SameValue, SameTree, SameHeld, SamePointer, SameCode}
-use Rattle.rl_meaning.specs.TwoRunsStates.{Bounds, Place, Both, BothMark, Shown, Roomier}
-use Rattle.rl_meaning.specs.TwoRunsEnds.{Ends}
+use Rattle.rl_meaning.specs.TwoRunsStates.{Bounds, Place, Shown, Roomier}
 use Rattle.rl_meaning.specs.Right.{Stood, AllAsTheyStood, Right}
-use Rattle.rl_agrees.specs.Later.{Later, IsIn}
+use Rattle.rl_agrees.specs.Later.{IsIn}
 
 -- ---- on one run
 
@@ -20,13 +19,6 @@ use Rattle.rl_agrees.specs.Later.{Later, IsIn}
 pub record EventWithin (s : State) : Type 0 where
   pub printed : (r : Recorded) → s.watched.event ≡ Some r → r.printed ≤ length s.outside.output
   pub noted : (r : Recorded) → s.watched.event ≡ Some r → r.noted ≤ length s.outside.notes
-
--- what a run does from one state to another, whatever it does
-pub record Goes (s t : State) : Type 0 where
-  pub later : Later s t
-  pub within : EventWithin s → EventWithin t
-  pub bounded : is_some s.counts.cells ≡ is_some t.counts.cells
-  pub runs_code : s.compilation.runs_code ≡ t.compilation.runs_code
 
 -- ---- jobs
 
@@ -70,19 +62,7 @@ pub record Ready (compiler : Compiler) (t : State) : Type 0 where
   pub codes : (c : Coded) → IsIn c t.compilation.coded → ReadyCode compiler t c
   pub event : EventWithin t
 
--- an application of a function that its mark names is that of a function of the state
-abbrev pub IsOfState : Job → State → Type 0
-IsOfState (Run name l holder (Some p) held vs) t = (function_at t p ≡ HeldFunction held) × (holder ≡ p.function) × (length vs ≡ length held.parameters)
-IsOfState j t = Unit {0}
-
 -- ---- two jobs side by side
-
--- no binding is lacking
-abbrev pub IsWhole : List Place → Type 0
-IsWhole [] = Unit {0}
-IsWhole (Both ∷ ps) = IsWhole ps
-IsWhole (BothMark ∷ ps) = IsWhole ps
-IsWhole (p ∷ ps) = ⊥
 
 -- what two walks ask of the places: where a function begins, nothing, as it pushes a mark over them; where a form is walked, that no binding is lacking above the newest mark. No code goes on
 abbrev pub MayLack : Job → List Place → Type 0
@@ -91,13 +71,3 @@ MayLack (Onward f m code) ps = ⊥
 MayLack (Call_ name l f vs) ps = Unit {0}
 MayLack (From here whole rest) ps = Shown ps
 MayLack (In here position body) ps = Shown ps
-
--- code that goes on may leave other bindings, of which all are there on both sides
-pub record EndsSomewhere (bounds : Bounds) (n : Names) (o p : Outcome Value) : Type 0 where
-  pub places : List Place
-  pub whole : IsWhole places
-  pub ends : Ends bounds n places o p
-
-abbrev pub EndsOf : Bounds → Job → Names → List Place → Outcome Value → Outcome Value → Type 0
-EndsOf bounds (Onward f m code) n ps o p = EndsSomewhere bounds n o p
-EndsOf bounds j n ps o p = Ends bounds n ps o p
