@@ -214,10 +214,18 @@ impl Model for Val {
 
     ghost inverse = { λ v. record { word = word_of v } };
 
-    ghost use Rattle.rl_tags.specs.TaggedLaws.{word_of-tagged_of};
-    ghost use Rattle.std.proofs.Common.{ap};
+    ghost use Rattle.std.specs.Prelude.{◌≡◌, ◌+◌, ◌*◌, ◌/◌};
+    ghost use Rattle.std.proofs.Common.{ap, arith, ◌∙◌};
+    ghost use Rattle.std.proofs.lemmas.Bool.Decides.{nat_tests};
+    ghost use Rattle.rl_tags.specs.Tagged.{tagged_at, signed60, unsigned60};
 
-    ghost inverse_ok = { λ a h. ap (λ (w : ℕ). record { word = w }) (word_of-tagged_of a.word h.0 h.1) };
+    // the tag and the rest of a word give the word back
+    ghost inverse_ok = { λ a h.
+        let number : (i : ℕ) → i < 2 ^ 60 → unsigned60 (signed60 i) ≡ i = λ i l. Prim.grind (arith, nat_tests) in
+        let parts : (t i : ℕ) → t ≤ 6 → i < 2 ^ 60 → word_of (tagged_at t i) ≡ 16 * i + t = λ t i l k. Prim.grind (arith, nat_tests, number) in
+        let few : a.word / 16 < 2 ^ 60 = omega (arith, h.1) in
+        let whole : 16 * (a.word / 16) + a.word % 16 ≡ a.word = omega arith in
+        ap (λ (w : ℕ). record { word = w }) (parts (a.word % 16) (a.word / 16) h.0 few ∙ whole) };
 }
 
 impl Val {
