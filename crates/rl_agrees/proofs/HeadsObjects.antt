@@ -4,27 +4,27 @@ use Rattle.std.proofs.lemmas.Bool.{eqb-true, eq-eqb}
 use Rattle.std.proofs.lemmas.List.Sums.{sum_by-cons}
 use Rattle.rl_tree.specs.Value.{Value, Int, Id, Str, Ref, Fun, Object, Store}
 use Rattle.rl_meaning.specs.Constants.{is_among, values_in, size_of, objects_within, objects_of}
-use Rattle.rl_agrees.specs.Later.{IsIn, first, further}
+use Rattle.rl_agrees.specs.Later.{IsMemberOf, first, further}
 use Rattle.rl_agrees.proofs.LaterStands.{in_none, in_list}
 use Rattle.rl_agrees.proofs.HeadsReach.{or_first, or_second, or_either}
 
 -- ---- two lists
 
-pub in_front : {A : Type 0} (a : A) (xs ys : List A) → IsIn a xs → IsIn a (xs ++ ys)
+pub in_front : {A : Type 0} (a : A) (xs ys : List A) → IsMemberOf a xs → IsMemberOf a (xs ++ ys)
 in_front a [] ys h = absurd (in_none a h)
 in_front a (x ∷ xs) ys h = elim (in_list a x xs h) [
-  | inl e ↦ subst (λ y. IsIn a (y ∷ (xs ++ ys))) (sym e) (first (xs ++ ys))
+  | inl e ↦ subst (λ y. IsMemberOf a (y ∷ (xs ++ ys))) (sym e) (first (xs ++ ys))
   | inr k ↦ further x (xs ++ ys) (in_front a xs ys k)
 ]
 
-pub in_behind : {A : Type 0} (a : A) (xs ys : List A) → IsIn a ys → IsIn a (xs ++ ys)
+pub in_behind : {A : Type 0} (a : A) (xs ys : List A) → IsMemberOf a ys → IsMemberOf a (xs ++ ys)
 in_behind a [] ys h = h
 in_behind a (x ∷ xs) ys h = further x (xs ++ ys) (in_behind a xs ys h)
 
-pub in_either : {A : Type 0} (a : A) (xs ys : List A) → IsIn a (xs ++ ys) → IsIn a xs ⊎ IsIn a ys
+pub in_either : {A : Type 0} (a : A) (xs ys : List A) → IsMemberOf a (xs ++ ys) → IsMemberOf a xs ⊎ IsMemberOf a ys
 in_either a [] ys h = inr h
 in_either a (x ∷ xs) ys h = elim (in_list a x (xs ++ ys) h) [
-  | inl e ↦ inl (subst (λ y. IsIn a (y ∷ xs)) (sym e) (first xs))
+  | inl e ↦ inl (subst (λ y. IsMemberOf a (y ∷ xs)) (sym e) (first xs))
   | inr k ↦ elim (in_either a xs ys k) [
     | inl l ↦ inl (further x xs l)
     | inr r ↦ inr r
@@ -94,7 +94,7 @@ module _ (store : Store) where
   same_number r q e = sym (ap number_of e)
 
   -- a value that names no object is none of those that do
-  other_value : (v : Value) (q : ℕ) (vs : List Value) → (v ≡ Ref q → ⊥) → IsIn (Ref q) (v ∷ vs) → IsIn (Ref q) vs
+  other_value : (v : Value) (q : ℕ) (vs : List Value) → (v ≡ Ref q → ⊥) → IsMemberOf (Ref q) (v ∷ vs) → IsMemberOf (Ref q) vs
   other_value v q vs other h = elim (in_list (Ref q) v vs h) [
     | inl e ↦ absurd (other e)
     | inr k ↦ k
@@ -107,9 +107,9 @@ module _ (store : Store) where
   no_ref q (Str bytes) h e = absurd (cc)
   no_ref q (Fun f place) h e = absurd (cc)
 
-  followed_step : (n r q : ℕ) (seen : List ℕ) (vs : List Value) (b : Bool) → is_among r seen ≡ b → (Ref r ≡ Ref q) ⊎ IsIn (Ref q) vs
-      → (IsIn (Ref q) vs → is_among q (objects_within n store seen vs) ≡ true)
-      → (is_among r seen ≡ false → IsIn (Ref q) vs → is_among q (objects_within n store (r ∷ seen) (values_at r ++ vs)) ≡ true)
+  followed_step : (n r q : ℕ) (seen : List ℕ) (vs : List Value) (b : Bool) → is_among r seen ≡ b → (Ref r ≡ Ref q) ⊎ IsMemberOf (Ref q) vs
+      → (IsMemberOf (Ref q) vs → is_among q (objects_within n store seen vs) ≡ true)
+      → (is_among r seen ≡ false → IsMemberOf (Ref q) vs → is_among q (objects_within n store (r ∷ seen) (values_at r ++ vs)) ≡ true)
       → is_among q (if b then objects_within n store seen vs else objects_within n store (r ∷ seen) (values_at r ++ vs)) ≡ true
   followed_step n r q seen vs true e (inl k) old new = seen_stays n seen vs q (subst (λ x. is_among x seen ≡ true) (sym (same_number r q k)) e)
   followed_step n r q seen vs true e (inr k) old new = old k
@@ -120,7 +120,7 @@ module _ (store : Store) where
   followed_less r seen vs h = omega (arith, length-append (values_at r) vs, room_less 0 store r r seen (omega arith) h)
 
   -- the objects that stand to be followed
-  pub followed : (n : ℕ) (seen : List ℕ) (vs : List Value) → Enough n seen vs → (q : ℕ) → IsIn (Ref q) vs → is_among q (objects_within n store seen vs) ≡ true
+  pub followed : (n : ℕ) (seen : List ℕ) (vs : List Value) → Enough n seen vs → (q : ℕ) → IsMemberOf (Ref q) vs → is_among q (objects_within n store seen vs) ≡ true
   followed n seen [] enough q h = absurd (in_none (Ref q) h)
   followed zero seen (v ∷ vs) enough q h = absurd (omega (arith, enough))
   followed (suc n) seen (Ref r ∷ vs) enough q h =
@@ -134,7 +134,7 @@ module _ (store : Store) where
 
   -- what the objects that were seen name is seen or stands to be followed
   abbrev Within : List ℕ → List Value → Type 0
-  Within seen vs = (r q : ℕ) → is_among r seen ≡ true → IsIn (Ref q) (values_at r) → (is_among q seen ≡ true) ⊎ IsIn (Ref q) vs
+  Within seen vs = (r q : ℕ) → is_among r seen ≡ true → IsMemberOf (Ref q) (values_at r) → (is_among q seen ≡ true) ⊎ IsMemberOf (Ref q) vs
 
   within_old : (r : ℕ) (seen : List ℕ) (vs : List Value) → is_among r seen ≡ true → Within seen (Ref r ∷ vs) → Within seen vs
   within_old r seen vs e w p q h k = elim (w p q h k) [
@@ -147,7 +147,7 @@ module _ (store : Store) where
 
   within_new : (r : ℕ) (seen : List ℕ) (vs : List Value) → Within seen (Ref r ∷ vs) → Within (r ∷ seen) (values_at r ++ vs)
   within_new r seen vs w p q h k = elim (or_either (p == r) (is_among p seen) h) [
-    | inl same ↦ inr (in_front (Ref q) (values_at r) vs (subst (λ x. IsIn (Ref q) (values_at x)) (eqb-true p r same) k))
+    | inl same ↦ inr (in_front (Ref q) (values_at r) vs (subst (λ x. IsMemberOf (Ref q) (values_at x)) (eqb-true p r same) k))
     | inr old ↦ elim (w p q old k) [
       | inl a ↦ inl (or_second _ _ a)
       | inr b ↦ elim (in_list (Ref q) (Ref r) vs b) [
@@ -163,7 +163,7 @@ module _ (store : Store) where
     | inr b ↦ inr (other_value v q vs (other q) b)
   ]
 
-  closed_end : (seen : List ℕ) (r q : ℕ) → Within seen [] → is_among r seen ≡ true → IsIn (Ref q) (values_at r) → is_among q seen ≡ true
+  closed_end : (seen : List ℕ) (r q : ℕ) → Within seen [] → is_among r seen ≡ true → IsMemberOf (Ref q) (values_at r) → is_among q seen ≡ true
   closed_end seen r q w h k = elim (w r q h k) [
     | inl a ↦ a
     | inr b ↦ absurd (in_none (Ref q) b)
@@ -178,7 +178,7 @@ module _ (store : Store) where
   closed_step n r p q seen vs false e old new h = new e h
 
   -- what the objects that are followed name is followed
-  pub closed_followed : (n : ℕ) (seen : List ℕ) (vs : List Value) → Enough n seen vs → Within seen vs → (p q : ℕ) → IsIn (Ref q) (values_at p) → is_among p (objects_within n store seen vs) ≡ true → is_among q (objects_within n store seen vs) ≡ true
+  pub closed_followed : (n : ℕ) (seen : List ℕ) (vs : List Value) → Enough n seen vs → Within seen vs → (p q : ℕ) → IsMemberOf (Ref q) (values_at p) → is_among p (objects_within n store seen vs) ≡ true → is_among q (objects_within n store seen vs) ≡ true
   closed_followed zero seen [] enough w p q k h = closed_end seen p q w h k
   closed_followed (suc n) seen [] enough w p q k h = closed_end seen p q w h k
   closed_followed zero seen (v ∷ vs) enough w p q k h = absurd (omega (arith, enough))
@@ -197,7 +197,7 @@ module _ (store : Store) where
   pub object_first : (q : ℕ) → is_among q (objects_of store (Ref q ∷ [])) ≡ true
   object_first q = followed (suc (1 + size_of store)) [] (Ref q ∷ []) (omega (arith, room_first 0 store)) q (first [])
 
-  pub object_next : (v : Value) (p q : ℕ) → is_among p (objects_of store (v ∷ [])) ≡ true → IsIn (Ref q) (values_in (slice_get store p)) → is_among q (objects_of store (v ∷ [])) ≡ true
+  pub object_next : (v : Value) (p q : ℕ) → is_among p (objects_of store (v ∷ [])) ≡ true → IsMemberOf (Ref q) (values_in (slice_get store p)) → is_among q (objects_of store (v ∷ [])) ≡ true
   object_next v p q h k = closed_followed (suc (1 + size_of store)) [] (v ∷ []) (omega (arith, room_first 0 store)) (λ r q h k. absurd (nothing h)) p q k h
     where
       nothing : false ≡ true → ⊥

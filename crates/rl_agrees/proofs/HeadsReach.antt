@@ -7,9 +7,9 @@ use Rattle.std.proofs.lemmas.Bool.{eqb-true, eq-eqb}
 use Rattle.std.proofs.lemmas.Bool.Decides.{eqb_tells}
 use Rattle.rl_tree.specs.Value.{Store, Id}
 use Rattle.rl_meaning.specs.State.{State, Symbol, Tree, Atom, Quoted, Pair, Literal, Kept, Pointer, Definition, Function, SpecialForm, NativeFunction, HeldFunction}
-use Rattle.rl_meaning.specs.Symbols.{t_id, nil, nil_id, progn_id, new_symbol, symbol_at}
+use Rattle.rl_meaning.specs.Symbols.{t_number, nil_value_of_state, nil_number, progn_number, new_symbol, symbol_at}
 use Rattle.rl_meaning.specs.Constants.{values_in, size_of, objects_within}
-use Rattle.rl_meaning.specs.Holding.{when, function_id, nodes_in, either_part, part_at, body_of, forms_of, function_part, no_function, function_in, function_at}
+use Rattle.rl_meaning.specs.Holding.{when, function_number, nodes_in, either_part, part_at, body_of, forms_of, function_part, no_function, function_in, function_at}
 use Rattle.rl_meaning.specs.Reach.{identifier_in, value_identifiers, tree_mentions, Reached, same_bool, is_reached, all_through, body_mentions, is_opened, opened_names, reach_within, body_size, reach_bound, reach_of}
 use Rattle.rl_agrees.proofs.LaterStands.{and_first, and_second}
 
@@ -116,14 +116,14 @@ one : (store : Store) (i : ℕ) → length (tree_mentions store (Atom (Id i))) �
 one store i = ap length (alone store i)
 
 body_of_fits : (store : Store) (t : Tree) → length (tree_mentions store (body_of t)) ≤ suc (length (tree_mentions store t))
-body_of_fits store (Pair a (Pair b d)) = omega (arith, one store progn_id, length-append (tree_mentions store (Atom (Id progn_id))) (tree_mentions store (Pair a (Pair b d))))
+body_of_fits store (Pair a (Pair b d)) = omega (arith, one store progn_number, length-append (tree_mentions store (Atom (Id progn_number))) (tree_mentions store (Pair a (Pair b d))))
 body_of_fits store (Pair a end) = omega (arith, length-append (tree_mentions store a) (tree_mentions store end))
-body_of_fits store t = omega (arith, one store nil_id)
+body_of_fits store t = omega (arith, one store nil_number)
 
 -- the function of a FUNCTION form mentions no more than that form
 body_fits : (store : Store) (e : Tree) → length (tree_mentions store (body_of (forms_of e))) ≤ suc (length (tree_mentions store e))
 body_fits store (Pair l (Pair parameters forms)) = omega (arith, body_of_fits store forms, length-append (tree_mentions store l) (tree_mentions store (Pair parameters forms)), length-append (tree_mentions store parameters) (tree_mentions store forms))
-body_fits store e = omega (arith, one store nil_id)
+body_fits store e = omega (arith, one store nil_number)
 
 abbrev Fits : Store → ℕ → Option Tree → Type 0
 Fits store n None = Unit {0}
@@ -137,8 +137,8 @@ fits_more : (store : Store) (m n : ℕ) (o : Option Tree) → m ≤ n → Fits s
 fits_more store m n None le h = tt
 fits_more store m n (Some t) le h = omega (arith, le, h)
 
-when_fits : (store : Store) (n : ℕ) (b : Bool) → 1 ≤ n → Fits store n (when b (Atom nil))
-when_fits store n true h = omega (arith, h, one store nil_id)
+when_fits : (store : Store) (n : ℕ) (b : Bool) → 1 ≤ n → Fits store n (when b (Atom nil_value_of_state))
+when_fits store n true h = omega (arith, h, one store nil_number)
 when_fits store n false h = tt
 
 -- a part mentions no more than the whole
@@ -148,8 +148,8 @@ part_fits store (suc i) (Pair a d) =
     let n : ℕ = length (tree_mentions store (Pair a d)) in
     let long = length-append (tree_mentions store a) (tree_mentions store d) in
     either_fits store n (nat_lt i (nodes_in a)) _ _ (fits_more store _ n _ (omega (arith, long)) (part_fits store i a)) (fits_more store _ n _ (omega (arith, long)) (part_fits store (i - nodes_in a) d))
-part_fits store (suc zero) (Literal m e) = omega (arith, one store function_id)
-part_fits store (suc (suc zero)) (Literal m e) = omega (arith, one store nil_id, length-append (tree_mentions store e) (tree_mentions store (Atom nil)))
+part_fits store (suc zero) (Literal m e) = omega (arith, one store function_number)
+part_fits store (suc (suc zero)) (Literal m e) = omega (arith, one store nil_number, length-append (tree_mentions store e) (tree_mentions store (Atom nil_value_of_state)))
 part_fits store (suc (suc (suc i))) (Literal m e) =
     let n : ℕ = suc (length (tree_mentions store e)) in
     either_fits store n (nat_lt i (nodes_in e)) _ _ (fits_more store _ n _ (omega arith) (part_fits store i e)) (when_fits store n (i == nodes_in e) (omega arith))
@@ -300,12 +300,12 @@ module _ (s : State) where
   -- ---- the reach of a function
 
   abbrev firsts : Function → List Reached
-  firsts f = all_through false (t_id ∷ body_mentions s f)
+  firsts f = all_through false (t_number ∷ body_mentions s f)
 
   bound_enough : (f : Function) → Enough (reach_bound s (length (firsts f))) [] (firsts f)
   bound_enough f = grind (arith, left_first (size_of_bodies s) (length s.symbols))
 
-  pub reach_first : (f : Function) (y : Reached) → is_reached y (all_through false (t_id ∷ body_mentions s f)) ≡ true → is_reached y (reach_of s f) ≡ true
+  pub reach_first : (f : Function) (y : Reached) → is_reached y (all_through false (t_number ∷ body_mentions s f)) ≡ true → is_reached y (reach_of s f) ≡ true
   reach_first f y h = pending_reached (reach_bound s (length (firsts f))) [] (firsts f) (bound_enough f) y h
 
   pub reach_opened : (f : Function) (y z : Reached) → is_reached y (reach_of s f) ≡ true → is_reached z (opened_names s y (symbol_at s y.name).definition) ≡ true → is_reached z (reach_of s f) ≡ true

@@ -2,10 +2,10 @@
 use Rattle.std.proofs.Common.{◌≡◌, ◌⊎◌, inl, inr, ◌&&◌, ◌||◌, not, if◌then◌else◌, ℕ, Bool, true, false, List, [], ◌∷◌, Option, refl, sym, subst, ◌==◌}
 use Rattle.rl_tree.specs.Value.{Value, Int, Id, Str, Ref, Fun, Store}
 use Rattle.rl_meaning.specs.State.{State, Tree, Atom, Quoted, Pair, Literal, Pointer, Definition, Function, SpecialForm, NativeFunction, HeldFunction}
-use Rattle.rl_meaning.specs.Symbols.{t_id, symbol_at}
-use Rattle.rl_meaning.specs.Holding.{function_id, function_at}
+use Rattle.rl_meaning.specs.Symbols.{t_number, symbol_at}
+use Rattle.rl_meaning.specs.Holding.{function_number, function_at}
 use Rattle.rl_meaning.specs.Reach.{identifier_in, value_identifiers, tree_mentions, Reached, is_reached, all_through, body_mentions, opened_names, reach_of, same_definition, running, expands, is_turned_by, turns_any, turns}
-use Rattle.rl_agrees.specs.Later.{IsMore, IsIn, first, further}
+use Rattle.rl_agrees.specs.Later.{IsMore, IsMemberOf, first, further}
 use Rattle.rl_agrees.specs.Heads.{leaves_in, leaves_of, Inside, inside_name, inside_object, RestsOn, on_truth, on_name, on_opened, Stays}
 use Rattle.rl_agrees.proofs.LaterStands.{in_none, in_list, same_definition_more}
 use Rattle.rl_agrees.proofs.HeadsReach.{or_either, or_second, reached_self, alone, reach_first, reach_opened}
@@ -18,24 +18,24 @@ use Rattle.std.proofs.lemmas.Bool.{eqb-true}
 
 -- ---- the identifiers in a value
 
-identifier_kept : (i : ℕ) (vs : List Value) → IsIn (Id i) vs → IsIn i (filter_map identifier_in vs)
+identifier_kept : (i : ℕ) (vs : List Value) → IsMemberOf (Id i) vs → IsMemberOf i (filter_map identifier_in vs)
 identifier_kept i [] h = absurd (in_none (Id i) h)
 identifier_kept i (v ∷ vs) h = elim (in_list (Id i) v vs h) [
-  | inl e ↦ subst (λ w. IsIn i (filter_map identifier_in (w ∷ vs))) (sym e) (first (filter_map identifier_in vs))
+  | inl e ↦ subst (λ w. IsMemberOf i (filter_map identifier_in (w ∷ vs))) (sym e) (first (filter_map identifier_in vs))
   | inr k ↦ behind v (identifier_kept i vs k)
 ]
   where
-    behind : (v : Value) → IsIn i (filter_map identifier_in vs) → IsIn i (filter_map identifier_in (v ∷ vs))
+    behind : (v : Value) → IsMemberOf i (filter_map identifier_in vs) → IsMemberOf i (filter_map identifier_in (v ∷ vs))
     behind (Id j) k = further j (filter_map identifier_in vs) k
     behind (Int z) k = k
     behind (Str bytes) k = k
     behind (Ref r) k = k
     behind (Fun f place) k = k
 
-among_flat : (store : Store) (v : Value) (r : ℕ) (rs : List ℕ) → is_among r rs ≡ true → IsIn v (values_in (slice_get store r)) → IsIn v (flat_map (λ r. values_in (slice_get store r)) rs)
+among_flat : (store : Store) (v : Value) (r : ℕ) (rs : List ℕ) → is_among r rs ≡ true → IsMemberOf v (values_in (slice_get store r)) → IsMemberOf v (flat_map (λ r. values_in (slice_get store r)) rs)
 among_flat store v r [] h k = absurd (cc)
 among_flat store v r (q ∷ rs) h k = elim (or_either (r == q) (is_among r rs) h) [
-  | inl e ↦ in_front v (values_in (slice_get store q)) (flat_map (λ r. values_in (slice_get store r)) rs) (subst (λ x. IsIn v (values_in (slice_get store x))) (eqb-true r q e) k)
+  | inl e ↦ in_front v (values_in (slice_get store q)) (flat_map (λ r. values_in (slice_get store r)) rs) (subst (λ x. IsMemberOf v (values_in (slice_get store x))) (eqb-true r q e) k)
   | inr more ↦ in_behind v (values_in (slice_get store q)) (flat_map (λ r. values_in (slice_get store r)) rs) (among_flat store v r rs more k)
 ]
 
@@ -43,43 +43,43 @@ among_flat store v r (q ∷ rs) h k = elim (or_either (r == q) (is_among r rs) h
 record Under (store : Store) (root v : Value) : Type 0 where
   pub object : ℕ
   pub is : is_among object (objects_of store (root ∷ [])) ≡ true
-  pub has : IsIn v (values_in (slice_get store object))
+  pub has : IsMemberOf v (values_in (slice_get store object))
 
-inside_among : (s t : State) (root v : Value) (i : ℕ) → (v ≡ root) ⊎ Under s.store root v → Inside s t v i → IsIn (Id i) (root ∷ flat_map (λ r. values_in (slice_get s.store r)) (objects_of s.store (root ∷ [])))
-inside_among s t root _ _ (inl e) (inside_name i) = subst (λ v. IsIn (Id i) (v ∷ flat_map (λ r. values_in (slice_get s.store r)) (objects_of s.store (root ∷ [])))) e (first _)
+inside_among : (s t : State) (root v : Value) (i : ℕ) → (v ≡ root) ⊎ Under s.store root v → Inside s t v i → IsMemberOf (Id i) (root ∷ flat_map (λ r. values_in (slice_get s.store r)) (objects_of s.store (root ∷ [])))
+inside_among s t root _ _ (inl e) (inside_name i) = subst (λ v. IsMemberOf (Id i) (v ∷ flat_map (λ r. values_in (slice_get s.store r)) (objects_of s.store (root ∷ [])))) e (first _)
 inside_among s t root _ _ (inr under) (inside_name i) = further root _ (among_flat s.store (Id i) under.object (objects_of s.store (root ∷ [])) under.is under.has)
 inside_among s t root _ _ (inl e) (inside_object r i v has unnoted more) = inside_among s t root v i (inr (record { object = r; is = subst (λ w. is_among r (objects_of s.store (w ∷ [])) ≡ true) e (object_first s.store r); has = has })) more
 inside_among s t root _ _ (inr under) (inside_object r i v has unnoted more) = inside_among s t root v i (inr (record { object = r; is = object_next s.store root under.object r under.is under.has; has = has })) more
 
-inside_mentioned : (s t : State) (v : Value) (i : ℕ) → Inside s t v i → IsIn i (value_identifiers s.store v)
+inside_mentioned : (s t : State) (v : Value) (i : ℕ) → Inside s t v i → IsMemberOf i (value_identifiers s.store v)
 inside_mentioned s t v i h = identifier_kept i (v ∷ flat_map (λ r. values_in (slice_get s.store r)) (objects_of s.store (v ∷ []))) (inside_among s t v v i (inl refl) h)
 
 -- ---- those in a body
 
-one_leaf : (store : Store) (w v : Value) (i : ℕ) → IsIn v (w ∷ []) → IsIn i (value_identifiers store v) → IsIn i (value_identifiers store w)
+one_leaf : (store : Store) (w v : Value) (i : ℕ) → IsMemberOf v (w ∷ []) → IsMemberOf i (value_identifiers store v) → IsMemberOf i (value_identifiers store w)
 one_leaf store w v i h k = elim (in_list v w [] h) [
-  | inl e ↦ subst (λ x. IsIn i (value_identifiers store x)) (sym e) k
+  | inl e ↦ subst (λ x. IsMemberOf i (value_identifiers store x)) (sym e) k
   | inr none ↦ absurd (in_none v none)
 ]
 
-leaf_mentioned : (store : Store) (t : Tree) (v : Value) (i : ℕ) → IsIn v (leaves_in t) → IsIn i (value_identifiers store v) → IsIn i (tree_mentions store t)
+leaf_mentioned : (store : Store) (t : Tree) (v : Value) (i : ℕ) → IsMemberOf v (leaves_in t) → IsMemberOf i (value_identifiers store v) → IsMemberOf i (tree_mentions store t)
 leaf_mentioned store (Atom w) v i h k = one_leaf store w v i h k
 leaf_mentioned store (Quoted w) v i h k = one_leaf store w v i h k
 leaf_mentioned store (Pair a d) v i h k = elim (in_either v (leaves_in a) (leaves_in d) h) [
   | inl l ↦ in_front i (tree_mentions store a) (tree_mentions store d) (leaf_mentioned store a v i l k)
   | inr r ↦ in_behind i (tree_mentions store a) (tree_mentions store d) (leaf_mentioned store d v i r k)
 ]
-leaf_mentioned store (Literal n e) v i h k = elim (in_list v (Id function_id) (leaves_in e) h) [
-  | inl same ↦ in_front i (function_id ∷ []) (tree_mentions store e) (subst (λ (xs : List ℕ). IsIn i xs) (alone store function_id) (subst (λ x. IsIn i (value_identifiers store x)) (sym same) k))
-  | inr more ↦ further function_id (tree_mentions store e) (leaf_mentioned store e v i more k)
+leaf_mentioned store (Literal n e) v i h k = elim (in_list v (Id function_number) (leaves_in e) h) [
+  | inl same ↦ in_front i (function_number ∷ []) (tree_mentions store e) (subst (λ (xs : List ℕ). IsMemberOf i xs) (alone store function_number) (subst (λ x. IsMemberOf i (value_identifiers store x)) (sym same) k))
+  | inr more ↦ further function_number (tree_mentions store e) (leaf_mentioned store e v i more k)
 ]
 
-function_mentions : (s t : State) (f : Function) (v : Value) (i : ℕ) → IsIn v (leaves_of f) → Inside s t v i → IsIn i (body_mentions s f)
+function_mentions : (s t : State) (f : Function) (v : Value) (i : ℕ) → IsMemberOf v (leaves_of f) → Inside s t v i → IsMemberOf i (body_mentions s f)
 function_mentions s t (HeldFunction held) v i h k = leaf_mentioned s.store held.body v i h (inside_mentioned s t v i k)
 function_mentions s t (SpecialForm form) v i h k = absurd (in_none v h)
 function_mentions s t (NativeFunction native) v i h k = absurd (in_none v h)
 
-all_reached : (through : Bool) (i : ℕ) (xs : List ℕ) → IsIn i xs → is_reached (record { name = i; through = through }) (all_through through xs) ≡ true
+all_reached : (through : Bool) (i : ℕ) (xs : List ℕ) → IsMemberOf i xs → is_reached (record { name = i; through = through }) (all_through through xs) ≡ true
 all_reached through i [] h = absurd (in_none i h)
 all_reached through i (x ∷ xs) h = elim (in_list i x xs h) [
   | inl e ↦ subst (λ y. is_reached (record { name = i; through = through }) (record { name = y; through = through } ∷ all_through through xs) ≡ true) (sym e) (reached_self (record { name = i; through = through }) (all_through through xs))
@@ -87,8 +87,8 @@ all_reached through i (x ∷ xs) h = elim (in_list i x xs h) [
 ]
 
 pub rests_reached : (s t : State) (f : Function) (i : ℕ) (through : Bool) → RestsOn s t f i through → is_reached (record { name = i; through = through }) (reach_of s f) ≡ true
-rests_reached s t f _ _ on_truth = reach_first s f (record { name = t_id; through = false }) (reached_self (record { name = t_id; through = false }) (all_through false (body_mentions s f)))
-rests_reached s t f _ _ (on_name v i h inside) = reach_first s f (record { name = i; through = false }) (all_reached false i (t_id ∷ body_mentions s f) (further t_id (body_mentions s f) (function_mentions s t f v i h inside)))
+rests_reached s t f _ _ on_truth = reach_first s f (record { name = t_number; through = false }) (reached_self (record { name = t_number; through = false }) (all_through false (body_mentions s f)))
+rests_reached s t f _ _ (on_name v i h inside) = reach_first s f (record { name = i; through = false }) (all_reached false i (t_number ∷ body_mentions s f) (further t_number (body_mentions s f) (function_mentions s t f v i h inside)))
 rests_reached s t f _ _ (on_opened i j through d v r e o h inside) =
     let z : Reached = record { name = j; through = true } in
     let all : List Reached = all_through true (body_mentions s (function_at s d.function)) in
@@ -110,7 +110,7 @@ not_both : (a b : Bool) → (a && b) ≡ false → b ≡ true → a ≡ false
 not_both true b h k = absurd (cc)
 not_both false b h k = refl
 
-none_turned : (s : State) (b : Bool) (i : ℕ) (ps : List Pointer) (p : Pointer) → turns_any s b i ps ≡ false → IsIn p ps → is_turned_by b i (reach_of s (function_at s p)) ≡ false
+none_turned : (s : State) (b : Bool) (i : ℕ) (ps : List Pointer) (p : Pointer) → turns_any s b i ps ≡ false → IsMemberOf p ps → is_turned_by b i (reach_of s (function_at s p)) ≡ false
 none_turned s b i [] p h k = absurd (in_none p k)
 none_turned s b i (q ∷ ps) p h k =
     let both : (is_turned_by b i (reach_of s (function_at s q)) ≡ false) × (turns_any s b i ps ≡ false) = or_none _ _ h in
@@ -131,7 +131,7 @@ same_stays u true old new h = h
 same_stays u false old new h = inl h
 
 -- the definition of a name changes and turns nothing
-pub unturned_stays : (s u : State) → IsMore s.functions u.functions → (i : ℕ) (d : Option Definition) → turns i d s ≡ false → (p : Pointer) → IsIn p (running s.bindings) → (through : Bool) → RestsOn s u (function_at s p) i through → Stays u through (symbol_at s i).definition d
+pub unturned_stays : (s u : State) → IsMore s.functions u.functions → (i : ℕ) (d : Option Definition) → turns i d s ≡ false → (p : Pointer) → IsMemberOf p (running s.bindings) → (through : Bool) → RestsOn s u (function_at s p) i through → Stays u through (symbol_at s i).definition d
 unturned_stays s u more i d h p run through r =
     let old : Option Definition = (symbol_at s i).definition in
     elim (neither (same_definition s old d) (turns_any s (expands old || expands d) i (running s.bindings)) h) [

@@ -9,11 +9,11 @@ use Rattle.rl_tree.specs.declared.held.VarKind.{VarKind}
 use Rattle.rl_tree.specs.declared.held.VarKind.TheVariants as variable
 use Rattle.rl_meaning.specs.State.{State, Tree, Atom, Quoted, Pair, Literal, Kept, Held, Pointer, Definition, Function, SpecialForm, NativeFunction, HeldFunction}
 use Rattle.rl_meaning.specs.Symbols.{same_integer, same, symbol_at}
-use Rattle.rl_meaning.specs.Holding.{function_id, with_identifier, with_identifiers, kept_kind, no_function, function_in, function_at}
+use Rattle.rl_meaning.specs.Holding.{function_number, with_identifier, with_identifiers, kept_kind, no_function, function_in, function_at}
 use Rattle.rl_meaning.specs.Reach.{is_opened, same_kind, same_var_kind, same_tree, same_names, same_kept, same_held, same_function, same_definition, expands}
 use Rattle.rl_meaning.specs.Forms.{Head, Form, Call, head_in}
-use Rattle.rl_agrees.specs.Later.{IsMore, IsNoted, IsIn, Later}
-use Rattle.rl_agrees.specs.Heads.{leaves_in, leaves_of, Inside, inside_name, inside_object, RestsOn, on_truth, on_name, on_opened, Stays, kind_of, IsThere}
+use Rattle.rl_agrees.specs.Later.{IsMore, IsNoted, IsMemberOf, Later}
+use Rattle.rl_agrees.specs.Heads.{leaves_in, leaves_of, Inside, inside_name, inside_object, RestsOn, on_truth, on_name, on_opened, Stays, kind_as_head, IsThere}
 use Rattle.rl_agrees.proofs.LaterStands.{in_none, and_first, and_second, and_both, nat_is, function_same, pointer_is, same_definition_more, function_more}
 use Rattle.rl_agrees.proofs.OneRunLater.{more_length, noted_on}
 use Rattle.rl_meaning.specs.Constants.{values_in}
@@ -73,14 +73,14 @@ tree_leaves : (t u : Tree) → same_tree t u ≡ true → leaves_in t ≡ leaves
 tree_leaves (Atom v) (Atom w) h = ap (λ x. x ∷ []) (value_is v w h)
 tree_leaves (Quoted v) (Quoted w) h = ap (λ x. x ∷ []) (value_is v w h)
 tree_leaves (Pair a d) (Pair b e) h = ap (λ xs. xs ++ leaves_in d) (tree_leaves a b (and_first _ _ h)) ∙ ap (λ ys. leaves_in b ++ ys) (tree_leaves d e (and_second (same_tree a b) _ h))
-tree_leaves (Literal n e) (Literal m f) h = ap (λ xs. Id function_id ∷ xs) (tree_leaves e f h)
+tree_leaves (Literal n e) (Literal m f) h = ap (λ xs. Id function_number ∷ xs) (tree_leaves e f h)
 tree_leaves t u h = absurd (cc)
 
 tree_identifiers : (xs : List ℕ) (t u : Tree) → same_tree t u ≡ true → with_identifiers xs t ≡ with_identifiers xs u
 tree_identifiers xs (Atom v) (Atom w) h = ap (λ x. with_identifiers xs (Atom x)) (value_is v w h)
 tree_identifiers xs (Quoted v) (Quoted w) h = refl
 tree_identifiers xs (Pair a d) (Pair b e) h = ap (λ ys. with_identifiers ys d) (tree_identifiers xs a b (and_first _ _ h)) ∙ tree_identifiers (with_identifiers xs b) d e (and_second (same_tree a b) _ h)
-tree_identifiers xs (Literal n e) (Literal m f) h = tree_identifiers (with_identifier xs function_id) e f h
+tree_identifiers xs (Literal n e) (Literal m f) h = tree_identifiers (with_identifier xs function_number) e f h
 tree_identifiers xs t u h = absurd (cc)
 
 tree_then : (t u v : Tree) → same_tree t u ≡ true → same_tree u v ≡ true → same_tree t v ≡ true
@@ -199,10 +199,10 @@ function_leaves t p q h = elim (leaves_or p q (function_at t p) (function_at t q
   | inr e ↦ ap (λ x. leaves_of (function_at t x)) e
 ]
 
-leaves_more : (s t : State) → IsMore s.functions t.functions → (p : Pointer) (v : Value) → IsIn v (leaves_of (function_at s p)) → IsIn v (leaves_of (function_at t p))
+leaves_more : (s t : State) → IsMore s.functions t.functions → (p : Pointer) (v : Value) → IsMemberOf v (leaves_of (function_at s p)) → IsMemberOf v (leaves_of (function_at t p))
 leaves_more s t more p v h = elim (function_more s t more p) [
-  | inl e ↦ subst (λ (f : Function). IsIn v (leaves_of f)) (sym e) h
-  | inr e ↦ absurd (in_none v (subst (λ (f : Function). IsIn v (leaves_of f)) e h))
+  | inl e ↦ subst (λ (f : Function). IsMemberOf v (leaves_of f)) (sym e) h
+  | inr e ↦ absurd (in_none v (subst (λ (f : Function). IsMemberOf v (leaves_of f)) e h))
 ]
 
 -- ---- constants
@@ -227,11 +227,11 @@ there_or (x ∷ xs) (suc r) = elim (there_or xs r) [
 ]
 
 -- an object that is not noted has what it had
-has_still : (s t : State) → Later s t → (r : ℕ) (v : Value) → (IsNoted t r (length s.functions) → ⊥) → IsIn v (values_in (slice_get s.store r)) → IsIn v (values_in (slice_get t.store r))
+has_still : (s t : State) → Later s t → (r : ℕ) (v : Value) → (IsNoted t r (length s.functions) → ⊥) → IsMemberOf v (values_in (slice_get s.store r)) → IsMemberOf v (values_in (slice_get t.store r))
 has_still s t h r v unnoted has = elim (there_or s.store r) [
-  | inr e ↦ absurd (in_none v (subst (λ (o : Option Object). IsIn v (values_in o)) e has))
+  | inr e ↦ absurd (in_none v (subst (λ (o : Option Object). IsMemberOf v (values_in o)) e has))
   | inl lt ↦ elim (h.stay r lt) [
-    | inl same ↦ subst (λ (o : Option Object). IsIn v (values_in o)) (sym same) has
+    | inl same ↦ subst (λ (o : Option Object). IsMemberOf v (values_in o)) (sym same) has
     | inr noted ↦ absurd (unnoted noted)
   ]
 ]
@@ -285,11 +285,11 @@ rests_on s t u h k f stay _ _ (on_name v i has inside) = on_name v i has (inside
 rests_on s t u h k f stay _ _ (on_opened i j through d v r e o has inside) =
     let still : StillOpened t through d (symbol_at t i).definition = still_opened t through d (symbol_at t i).definition o (subst (λ x. Stays t through x (symbol_at t i).definition) e (stay i through (rests_before s t u (noted_still s t u h k) f i through r))) in
     on_opened i j through still.new v (rests_on s t u h k f stay i through r) still.is still.opens
-    (subst (λ xs. IsIn v xs) (function_leaves t d.function still.new.function still.same) (leaves_more s t h.functions d.function v has))
+    (subst (λ xs. IsMemberOf v xs) (function_leaves t d.function still.new.function still.same) (leaves_more s t h.functions d.function v has))
     (inside_later s t u h k v j inside)
 
 -- a body rests on no less than one with fewer leaves does
-rests_less : (t u : State) (f g : Function) → ((v : Value) → IsIn v (leaves_of f) → IsIn v (leaves_of g)) → (i : ℕ) (through : Bool) → RestsOn t u f i through → RestsOn t u g i through
+rests_less : (t u : State) (f g : Function) → ((v : Value) → IsMemberOf v (leaves_of f) → IsMemberOf v (leaves_of g)) → (i : ℕ) (through : Bool) → RestsOn t u f i through → RestsOn t u g i through
 rests_less t u f g leaves _ _ on_truth = on_truth
 rests_less t u f g leaves _ _ (on_name v i has inside) = on_name v i (leaves v has) inside
 rests_less t u f g leaves _ _ (on_opened i j through d v r e o has inside) = on_opened i j through d v (rests_less t u f g leaves i through r) e o has inside
@@ -299,7 +299,7 @@ rests_more s t u h k p stay i through r = rests_less t u (function_at s p) (func
 
 -- ---- heads
 
-same_kinds : (t : State) (o p : Option Definition) → same_definition t o p ≡ true → kind_of p ≡ kind_of o
+same_kinds : (t : State) (o p : Option Definition) → same_definition t o p ≡ true → kind_as_head p ≡ kind_as_head o
 same_kinds t None None h = refl
 same_kinds t (Some d) (Some e) h = sym (kind_is d.kind e.kind (and_first _ _ h))
 same_kinds t None (Some e) h = absurd (cc)
@@ -310,11 +310,11 @@ no_expr Expr h = refl
 no_expr Fexpr h = absurd (cc)
 no_expr Macro h = absurd (cc)
 
-expr_kind : (o : Option Definition) → expands o ≡ false → kind_of o ≡ Expr
+expr_kind : (o : Option Definition) → expands o ≡ false → kind_as_head o ≡ Expr
 expr_kind None h = refl
 expr_kind (Some d) h = no_expr d.kind h
 
-pub stays_kind : (t : State) (through : Bool) (o p : Option Definition) → Stays t through o p → kind_of p ≡ kind_of o
+pub stays_kind : (t : State) (through : Bool) (o p : Option Definition) → Stays t through o p → kind_as_head p ≡ kind_as_head o
 stays_kind t true o p h = same_kinds t o p h
 stays_kind t false o p (inl h) = same_kinds t o p h
 stays_kind t false o p (inr h) = expr_kind p h.1 ∙ sym (expr_kind o h.0)

@@ -3,19 +3,19 @@ use Rattle.std.proofs.Common.{◌≡◌, ◌-◌, ◌∙◌, ◌==◌, ℕ, zero
 use Rattle.std.proofs.lemmas.Bool.Decides.{nat_tests}
 use Rattle.rl_tree.specs.Value.{Value, Id}
 use Rattle.rl_meaning.specs.State.{State, Kept, Held, Pointer, Entry, Binding, Mark, Local}
-use Rattle.rl_meaning.specs.Outcome.{Outcome, Done, Stopped, Depth, then_do, choose, Levels, entered}
+use Rattle.rl_meaning.specs.Outcome.{Outcome, Done, Stopped, Depth, then_do, choose, Levels, in_levels}
 use Rattle.rl_meaning.specs.Errors.{fail, not_bindable}
 use Rattle.rl_meaning.specs.Holding.{kept_kind}
-use Rattle.rl_meaning.specs.Variables.{Nearest, nearest_from, used, variable, with_binding, with_mark, bound_as, bind, bind_all, with_oldest, restored}
+use Rattle.rl_meaning.specs.Variables.{Nearest, nearest_from, variable_used, variable, with_binding, with_mark, bound_as, bind, bind_all, with_oldest, restored}
 use Rattle.rl_meaning.specs.Compiling.{Compiler}
 use Rattle.rl_meaning.specs.Evaluation.{walked}
 use Rattle.rl_meaning.specs.Machine.{run_code}
 use Rattle.rl_meaning.specs.Jobs.{jobs}
 use Rattle.rl_meaning.specs.TwoRunsValues.{Names, Each, more, SameValue}
 use Rattle.rl_meaning.specs.TwoRunsStates.{Bounds, Like, all_both}
-use Rattle.rl_meaning.specs.TwoRunsEnds.{Begins, meets_levels, done, parted}
+use Rattle.rl_meaning.specs.TwoRunsEnds.{IsBegunBy, meets_levels, done, parted}
 use Rattle.rl_meaning.specs.Right.{at_bound, as_event, AgreesWith, Right}
-use Rattle.rl_agrees.specs.Identity.{identity_of, identity_code, identity_coded, IsFree}
+use Rattle.rl_agrees.specs.Identity.{identity_of, identity_code, identity_coded, IsPlainVariable}
 use Rattle.rl_agrees.proofs.TwoRunsGrowth.{grows_refl}
 
 -- ---- former bindings
@@ -32,7 +32,7 @@ binding_gone s x v = ap (λ es. record s { bindings = es }) (over_gone (Binding 
 
 -- ---- the walk
 
-bind_free : (kept : List Kept) (x : ℕ) (v : Value) (s : State) → IsFree kept x → bind kept x v s ≡ Done tt (with_binding x Local v s)
+bind_free : (kept : List Kept) (x : ℕ) (v : Value) (s : State) → IsPlainVariable kept x → bind kept x v s ≡ Done tt (with_binding x Local v s)
 bind_free kept x v s free = ap (λ b. choose b s (λ s. fail not_bindable (Id x) s) (λ s. bound_as (kept_kind kept x) x v s)) free.constant ∙ ap (λ kind. bound_as kind x v s) free.plain
 
 pub itself_equal : (x : ℕ) → (x == x) ≡ true
@@ -42,13 +42,13 @@ newest_found : (x : ℕ) (v : Value) (s : State) → variable x (with_binding x 
 newest_found x v s =
     let t : State = with_binding x Local v s in
     let found : Nearest = record { scope = Local; value = v; below = false } in
-    ap (λ b. used (if b then Some found else nearest_from false x s.bindings) x t) (itself_equal x)
+    ap (λ b. variable_used (if b then Some found else nearest_from false x s.bindings) x t) (itself_equal x)
 
 -- what is walked where the level is there
 walk_inside : Value → List Kept → ℕ → Pointer → State → Outcome Value
 walk_inside v kept x p s = restored (length s.bindings) (restored (suc (length s.bindings)) (then_do (bind_all kept (x ∷ []) (v ∷ []) (with_mark (Some p) s)) (λ done t. variable x t)))
 
-inside_done : (v : Value) (kept : List Kept) (x : ℕ) (p : Pointer) (s : State) → IsFree kept x → walk_inside v kept x p s ≡ Done v s
+inside_done : (v : Value) (kept : List Kept) (x : ℕ) (p : Pointer) (s : State) → IsPlainVariable kept x → walk_inside v kept x p s ≡ Done v s
 unfolding walk_inside
 inside_done v kept x p s free =
     let t : State = with_mark (Some p) s in
@@ -59,11 +59,11 @@ inside_done v kept x p s free =
     ∙ ap (λ u. Done v u) (mark_gone s p)
 
 -- with no bound the walk has the argument for its value
-pub walk_unbounded : (c : Compiler) (kept : List Kept) (x : ℕ) (p : Pointer) (v : Value) (s : State) → IsFree kept x → walked (jobs c) None p.function (Some p) (identity_of x kept) (v ∷ []) s ≡ Done v s
+pub walk_unbounded : (c : Compiler) (kept : List Kept) (x : ℕ) (p : Pointer) (v : Value) (s : State) → IsPlainVariable kept x → walked (jobs c) None p.function (Some p) (identity_of x kept) (v ∷ []) s ≡ Done v s
 unfolding walk_inside
 walk_unbounded c kept x p v s free = inside_done v kept x p s free
 
-module _ (c : Compiler) (i x : ℕ) (p : Pointer) (kept : List Kept) (free : IsFree kept x) where
+module _ (c : Compiler) (i x : ℕ) (p : Pointer) (kept : List Kept) (free : IsPlainVariable kept x) where
   abbrev held : Held
   held = identity_of x kept
 
@@ -93,9 +93,9 @@ module _ (c : Compiler) (i x : ℕ) (p : Pointer) (kept : List Kept) (free : IsF
   unfolding walk_inside
   walk_ends None v s = has_level (inside_done v kept x p s free)
   walk_ends (Some zero) v s = no_level refl refl
-  walk_ends (Some (suc l)) v s = has_level (ap (λ b. restored (length s.bindings) (entered b (suc l - 1) (with_mark (Some p) s) (λ levels. inner v s))) (one_there l) ∙ inside_done v kept x p s free)
+  walk_ends (Some (suc l)) v s = has_level (ap (λ b. restored (length s.bindings) (in_levels b (suc l - 1) (with_mark (Some p) s) (λ levels. inner v s))) (one_there l) ∙ inside_done v kept x p s free)
 
-  nothing_more : (xs : List ℕ) → Begins xs xs
+  nothing_more : (xs : List ℕ) → IsBegunBy xs xs
   nothing_more xs = record { rest = []; is = sym (append-nil xs) }
 
   module _ {bounds : Bounds} where

@@ -8,7 +8,7 @@ use Rattle.rl_tree.specs.Value.{Id}
 use Rattle.rl_tree.specs.declared.held.VarKind.TheVariants.{Plain}
 use Rattle.rl_meaning.specs.Names.{Special, Native, special_named, native_named}
 use Rattle.rl_meaning.specs.State.{State, Definition, Symbol, Function, NativeFunction, HeldFunction}
-use Rattle.rl_meaning.specs.Symbols.{nil, nil_id, message_id, is_constant}
+use Rattle.rl_meaning.specs.Symbols.{nil_value_of_state, nil_number, message_id, is_constant}
 use Rattle.rl_meaning.specs.Holding.{kept_kind, function_at, no_function, pointer_to, with_function}
 use Rattle.rl_meaning.specs.Compiling.{Compiler}
 use Rattle.rl_meaning.specs.Jobs.{code_of}
@@ -17,7 +17,7 @@ use Rattle.rl_meaning.specs.TwoRunsLinks.{Linked}
 use Rattle.rl_meaning.specs.TwoRunsValues.{Names, Maybe, nothing, just, Each, end, more, SameValue, same_id, SameTree, same_atom, same_held, SameFunction, same_special, same_native, same_held_function, same_pointer, same_definition, SameSymbol, same_symbol}
 use Rattle.rl_meaning.specs.TwoRunsStates.{bottom}
 use Rattle.rl_agrees.specs.TwoRunsJobs.{Ready}
-use Rattle.rl_agrees.specs.TwoRunsRuns.{names_of, IsSound, running}
+use Rattle.rl_agrees.specs.TwoRunsRuns.{names_of, IsSoundState, with_running_code}
 use Rattle.rl_agrees.specs.Identity.{identity_of, identity_code, identity_pointer, identity_name, identity_kept, identity_symbol, identity_state}
 use Rattle.rl_agrees.proofs.IdentityCode.{itself_equal}
 use Rattle.rl_agrees.proofs.IdentityState.{ready_with, linked_itself, sound_with}
@@ -36,18 +36,18 @@ from_here i f name names o = elim o [
 ]
 
 module _ (n : Names) where
-  top_by : (i : ℕ) (b c : Bool) → Maybe (SameValue n) (if b then Some (Id i) else (if c then Some nil else None)) (if b then Some (Id i) else (if c then Some nil else None))
+  top_by : (i : ℕ) (b c : Bool) → Maybe (SameValue n) (if b then Some (Id i) else (if c then Some nil_value_of_state else None)) (if b then Some (Id i) else (if c then Some nil_value_of_state else None))
   top_by i true c = just (Id i) (Id i) (same_id i)
-  top_by i false true = just nil nil (same_id nil_id)
+  top_by i false true = just nil_value_of_state nil_value_of_state (same_id nil_number)
   top_by i false false = nothing
 
   top_same : (i : ℕ) → Maybe (SameValue n) (top_at_opening i) (top_at_opening i)
   top_same i = top_by i (is_constant i) (i == message_id)
 
   opening_same : (i : ℕ) (name : Name) (d : Option Definition) → Maybe (λ a b. Linked n.functions a.function.function b.function.function) d d → SameSymbol n (symbol_at_opening i name d) (symbol_at_opening i name d)
-  opening_same i name None h = same_symbol name true false (kind_at_opening i) (top_at_opening i) (top_at_opening i) nil nil None None (top_same i) (same_id nil_id) nothing
+  opening_same i name None h = same_symbol name true false (kind_at_opening i) (top_at_opening i) (top_at_opening i) nil_value_of_state nil_value_of_state None None (top_same i) (same_id nil_number) nothing
   opening_same i name (Some d) (just _ _ h) =
-      same_symbol name true true (kind_at_opening i) (top_at_opening i) (top_at_opening i) nil nil (Some d) (Some d) (top_same i) (same_id nil_id)
+      same_symbol name true true (kind_at_opening i) (top_at_opening i) (top_at_opening i) nil_value_of_state nil_value_of_state (Some d) (Some d) (top_same i) (same_id nil_number)
       (just d d (same_definition d.kind d.function d.function (same_pointer d.function.function d.function.function d.function.place h)))
 
   -- so many functions are linked, each to itself
@@ -70,7 +70,7 @@ module _ (n : Names) where
 
   bytes_same : (names : List Name) → Each (SameSymbol n) (byte_symbols names) (byte_symbols names)
   bytes_same [] = end
-  bytes_same (name ∷ names) = more _ _ _ _ (same_symbol name true false Plain None None nil nil None None nothing (same_id nil_id) nothing) (bytes_same names)
+  bytes_same (name ∷ names) = more _ _ _ _ (same_symbol name true false Plain None None nil_value_of_state nil_value_of_state None None nothing (same_id nil_number) nothing) (bytes_same names)
 
   -- ---- the functions of opening
 
@@ -112,7 +112,7 @@ before_ready : (c : Compiler) (x : ℕ) → Ready c (before x)
 unfolding before bare_state
 before_ready c x = record { codes = λ y h. absurd (elim h [ ]); event = record { printed = λ r e. absurd (cc); noted = λ r e. absurd (cc) } }
 
-pub before_sound : (x : ℕ) → IsSound (before x)
+pub before_sound : (x : ℕ) → IsSoundState (before x)
 unfolding before bare_state LinkedTo
 before_sound x =
     let count : ℕ = length (filter_map system_function opening_names) in
@@ -129,19 +129,19 @@ before_sound x =
     }
   where
     named : SameSymbol (names_of (before x)) identity_symbol identity_symbol
-    named = same_symbol _ true false Plain None None nil nil _ _ nothing (same_id nil_id) (just _ _ (same_definition _ identity_pointer identity_pointer (same_pointer _ _ 0 (linked_itself _ _ (omega (arith, length-append (filter_map system_function opening_names) (HeldFunction (identity_of x (identity_kept x)) ∷ [])))))))
+    named = same_symbol _ true false Plain None None nil_value_of_state nil_value_of_state _ _ nothing (same_id nil_number) (just _ _ (same_definition _ identity_pointer identity_pointer (same_pointer _ _ 0 (linked_itself _ _ (omega (arith, length-append (filter_map system_function opening_names) (HeldFunction (identity_of x (identity_kept x)) ∷ [])))))))
 
 pub ready_state : (c : Compiler) (x : ℕ) → is_constant x ≡ false → Ready c (identity_state x)
 unfolding before
 ready_state c x e = ready_with c (before x) identity_name x identity_pointer (identity_kept x) (record { constant = e; plain = kept_plain x }) (before_function x) (before_ready c x)
 
-pub sound_state : (x : ℕ) → IsSound (identity_state x)
+pub sound_state : (x : ℕ) → IsSoundState (identity_state x)
 unfolding before
 sound_state x = sound_with (before x) identity_name x identity_pointer (identity_kept x) (before_function x) (before_sound x)
 
 -- ---- the code runs
 
-pub code_runs : (x : ℕ) → code_of (Some identity_name) (Some identity_pointer) (running (identity_state x)) ≡ Some (identity_code identity_name)
+pub code_runs : (x : ℕ) → code_of (Some identity_name) (Some identity_pointer) (with_running_code (identity_state x)) ≡ Some (identity_code identity_name)
 unfolding bare_state
 code_runs x = both (identity_name == identity_name) (length bare_state.functions == length bare_state.functions) (itself_equal identity_name) (itself_equal (length bare_state.functions))
   where

@@ -4,7 +4,7 @@ use Rattle.rl_tree.specs.Value.{Value, Id}
 use Rattle.rl_meaning.specs.CMacros.{Constant, Entry, Exit}
 use Rattle.rl_meaning.specs.State.{State, Pointer, HeldFunction}
 use Rattle.rl_meaning.specs.Outcome.{Outcome, Done}
-use Rattle.rl_meaning.specs.Symbols.{nil, nil_id, t_id, is_constant}
+use Rattle.rl_meaning.specs.Symbols.{nil_value_of_state, nil_number, t_number, is_constant}
 use Rattle.rl_meaning.specs.Compiling.{Compiler}
 use Rattle.rl_meaning.specs.Holding.{function_at}
 use Rattle.rl_meaning.specs.Evaluation.{walked}
@@ -12,10 +12,10 @@ use Rattle.rl_meaning.specs.Machine.{run_code}
 use Rattle.rl_meaning.specs.Jobs.{jobs}
 use Rattle.rl_meaning.specs.Opening.{bare_state, state_of}
 use Rattle.rl_meaning.specs.TwoRunsValues.{Names, end, more, SameValue, same_int, same_id, same_str, same_ref, same_fun, SameCode, same_load, same_macro, same_constant}
-use Rattle.rl_meaning.specs.TwoRunsStates.{Bounds, bounds_of, Place, all_both}
+use Rattle.rl_meaning.specs.TwoRunsStates.{Bounds, bounds_of, EntryPlace, all_both}
 use Rattle.rl_meaning.specs.TwoRunsEnds.{Related, done, failed, went, returned, stopped, parted}
 use Rattle.rl_meaning.specs.Right.{Leaves, at_event, at_bound, AgreesWith, Knows, Right}
-use Rattle.rl_agrees.specs.TwoRunsRuns.{names_of, running, walking}
+use Rattle.rl_agrees.specs.TwoRunsRuns.{names_of, with_running_code, walking}
 use Rattle.rl_agrees.specs.Identity.{identity_of, identity_pointer, identity_name, identity_kept, nil_coded}
 use Rattle.rl_agrees.proofs.TwoRunsKnown.{names_on_right, knows, all_both_whole}
 use Rattle.rl_agrees.proofs.TwoRunsLoop.{begins_like}
@@ -25,9 +25,9 @@ use Rattle.rl_agrees.proofs.IdentitySound.{before, before_function, before_sound
 -- ---- two ends that are not alike
 
 abbrev truth_value : Value
-truth_value = Id t_id
+truth_value = Id t_number
 
-values_differ : (m : Names) (a b : Value) → SameValue m a b → a ≡ nil → b ≡ truth_value → ⊥
+values_differ : (m : Names) (a b : Value) → SameValue m a b → a ≡ nil_value_of_state → b ≡ truth_value → ⊥
 values_differ m _ _ (same_int z) e f = absurd (cc)
 values_differ m _ _ (same_id i) e f = absurd (cc)
 values_differ m _ _ (same_str bytes) e f = absurd (cc)
@@ -38,7 +38,7 @@ leaves_nowhere : {bounds : Bounds} (o p : Outcome Value) (t : State) → Leaves 
 leaves_nowhere _ _ t (at_event o p r e h) f none = let g : (state_of p).watched.event ≡ t.watched.event = ap (λ q. (state_of q).watched.event) f in absurd (cc)
 leaves_nowhere _ _ t (at_bound o why u h k) f none = absurd (cc)
 
-ends_differ : {bounds : Bounds} (n : Names) (ps : List Place) (o p : Outcome Value) (s t : State) → Related bounds (Leaves bounds) SameValue n ps o p → o ≡ Done nil s → p ≡ Done truth_value t → t.watched.event ≡ None → ⊥
+ends_differ : {bounds : Bounds} (n : Names) (ps : List EntryPlace) (o p : Outcome Value) (s t : State) → Related bounds (Leaves bounds) SameValue n ps o p → o ≡ Done nil_value_of_state s → p ≡ Done truth_value t → t.watched.event ≡ None → ⊥
 ends_differ n ps _ _ s t (done m a b u v g r l) e f none = values_differ m a b r (cc) (cc)
 ends_differ n ps _ _ s t (failed m z v w a b g r l) e f none = absurd (cc)
 ends_differ n ps _ _ s t (went m l a b g k) e f none = absurd (cc)
@@ -49,7 +49,7 @@ ends_differ n ps _ _ s t (parted o p h) e f none = leaves_nowhere o p t h f none
 -- ---- a state in which both run
 
 nil_code_same : (n : Names) (i : ℕ) (p : Pointer) → SameCode n (nil_coded i p).code (nil_coded i p).code
-nil_code_same n i p = more _ _ _ _ (same_macro (Entry i 1) refl) (more _ _ _ _ (same_load 1 (Constant nil) (Constant nil) (same_constant nil nil (same_id nil_id))) (more _ _ _ _ (same_macro Exit refl) end))
+nil_code_same n i p = more _ _ _ _ (same_macro (Entry i 1) refl) (more _ _ _ _ (same_load 1 (Constant nil_value_of_state) (Constant nil_value_of_state) (same_constant nil_value_of_state nil_value_of_state (same_id nil_number))) (more _ _ _ _ (same_macro Exit refl) end))
 
 -- on T, with no bound
 here : ℕ → State
@@ -59,8 +59,8 @@ here_known : (x : ℕ) → Knows (bounds_of None None) (names_on_right (names_of
 unfolding here before bare_state
 here_known x =
     let n : Names = names_of (before x) in
-    knows n (all_both (before x).bindings) (running (before x)) (here x) (truth_value ∷ []) (truth_value ∷ []) _ _ (all_both_whole (before x).bindings)
-    (begins_like (before x) None (before_sound x) tt refl) (more _ _ _ _ (same_id t_id) end) (nil_code_same n identity_name identity_pointer)
+    knows n (all_both (before x).bindings) (with_running_code (before x)) (here x) (truth_value ∷ []) (truth_value ∷ []) _ _ (all_both_whole (before x).bindings)
+    (begins_like (before x) None (before_sound x) tt refl) (more _ _ _ _ (same_id t_number) end) (nil_code_same n identity_name identity_pointer)
 
 here_function : (x : ℕ) → function_at (here x) identity_pointer ≡ HeldFunction (identity_of x (identity_kept x))
 unfolding here

@@ -13,7 +13,7 @@ use Rattle.rl_meaning.specs.Symbols.{same_integer, same, symbol_at}
 use Rattle.rl_meaning.specs.Holding.{kept_kind, with_identifiers, same_pointer, no_function, function_in, function_at}
 use Rattle.rl_meaning.specs.Reach.{same_var_kind, same_tree, same_names, same_kept, same_held, same_function, same_definition, expands}
 use Rattle.rl_meaning.specs.Standing.{is_fexpr, stands, all_stand, standing}
-use Rattle.rl_agrees.specs.Later.{IsMore, IsIn, first, further}
+use Rattle.rl_agrees.specs.Later.{IsMore, IsMemberOf, first, further}
 use Rattle.rl_agrees.proofs.LaterLists.{index_appended}
 
 -- ---- two tests
@@ -147,34 +147,34 @@ all_stand_more s t same more (d ∷ ds) h = and_both _ _ (stands_more s t same m
 -- ---- codes
 
 -- an empty list has nothing
-pub in_none : {A : Type 0} (a : A) → IsIn a [] → ⊥
+pub in_none : {A : Type 0} (a : A) → IsMemberOf a [] → ⊥
 in_none a h = elim h [ ]
 
 -- what is in a list is its first element or further
-pub in_list : {A : Type 0} (a b : A) (bs : List A) → IsIn a (b ∷ bs) → (b ≡ a) ⊎ IsIn a bs
+pub in_list : {A : Type 0} (a b : A) (bs : List A) → IsMemberOf a (b ∷ bs) → (b ≡ a) ⊎ IsMemberOf a bs
 in_list a b bs (first rest) = inl refl
 in_list a b bs (further c rest h) = inr h
 
 -- one more code, or none
-also_in : (x c : Coded) (ys cs : List Coded) → (IsIn c ys → IsIn c cs) → (b : Bool) → IsIn c (if b then x ∷ ys else ys) → IsIn c (x ∷ cs)
+also_in : (x c : Coded) (ys cs : List Coded) → (IsMemberOf c ys → IsMemberOf c cs) → (b : Bool) → IsMemberOf c (if b then x ∷ ys else ys) → IsMemberOf c (x ∷ cs)
 also_in x c ys cs k false h = further x cs (k h)
 also_in x c ys cs k true h = elim (in_list c x ys h) [
-  | inl e ↦ subst (λ (y : Coded). IsIn c (y ∷ cs)) (sym e) (first cs)
+  | inl e ↦ subst (λ (y : Coded). IsMemberOf c (y ∷ cs)) (sym e) (first cs)
   | inr h ↦ further x cs (k h)
 ]
 
-pub standing_fewer : (s : State) (i : ℕ) (cs : List Coded) (c : Coded) → IsIn c (standing s i cs) → IsIn c cs
+pub standing_fewer : (s : State) (i : ℕ) (cs : List Coded) (c : Coded) → IsMemberOf c (standing s i cs) → IsMemberOf c cs
 standing_fewer s i [] c h = h
 standing_fewer s i (x ∷ cs) c h = also_in x c (standing s i cs) cs (standing_fewer s i cs c) (not (x.name == i) && all_stand s x.dependencies) h
 
-also_stands : (s : State) (x c : Coded) (ys : List Coded) → (IsIn c ys → all_stand s c.dependencies ≡ true) → (b : Bool) → (b ≡ true → all_stand s x.dependencies ≡ true) → IsIn c (if b then x ∷ ys else ys) → all_stand s c.dependencies ≡ true
+also_stands : (s : State) (x c : Coded) (ys : List Coded) → (IsMemberOf c ys → all_stand s c.dependencies ≡ true) → (b : Bool) → (b ≡ true → all_stand s x.dependencies ≡ true) → IsMemberOf c (if b then x ∷ ys else ys) → all_stand s c.dependencies ≡ true
 also_stands s x c ys k false e h = k h
 also_stands s x c ys k true e h = elim (in_list c x ys h) [
   | inl same ↦ subst (λ (y : Coded). all_stand s y.dependencies ≡ true) same (e refl)
   | inr h ↦ k h
 ]
 
-pub standing_stand : (s : State) (i : ℕ) (cs : List Coded) (c : Coded) → IsIn c (standing s i cs) → all_stand s c.dependencies ≡ true
+pub standing_stand : (s : State) (i : ℕ) (cs : List Coded) (c : Coded) → IsMemberOf c (standing s i cs) → all_stand s c.dependencies ≡ true
 standing_stand s i [] c h = absurd (in_none c h)
 standing_stand s i (x ∷ cs) c h =
     also_stands s x c (standing s i cs) (standing_stand s i cs c) (not (x.name == i) && all_stand s x.dependencies) (and_second (not (x.name == i)) (all_stand s x.dependencies)) h

@@ -4,7 +4,7 @@ use Rattle.rl_tree.specs.Value.{Value, Ref, Object}
 use Rattle.rl_tree.specs.Name.{Name}
 use Rattle.rl_tree.specs.Printing.{Page}
 use Rattle.rl_meaning.specs.State.{State, Symbol, Definition, Function, Entry, Expansion, Event}
-use Rattle.rl_meaning.specs.Outcome.{Outcome, Done, Failed, Went, Returned, Stopped, Stop, Turns, then_do, choose, run_turn, expansion_turn, turn_of, turn, Levels, entered, deeper, descends, pair_turn, cells_within, run_room, expansion_within, expansion_room, room}
+use Rattle.rl_meaning.specs.Outcome.{Outcome, Done, Failed, Went, Returned, Stopped, Stop, Turns, then_do, choose, run_turn, expansion_turn, turn_of, turn, Levels, in_levels, deeper, descends, pair_turn, cells_within, run_room, expansion_within, expansion_room, room}
 use Rattle.rl_meaning.specs.Symbols.{new_symbol, symbol_at, with_symbol}
 use Rattle.rl_meaning.specs.Events.{with_event}
 use Rattle.rl_meaning.specs.Constants.{changing}
@@ -17,7 +17,7 @@ use Rattle.rl_meaning.specs.Input.{with_input}
 use Rattle.rl_meaning.specs.Evaluation.{Position, Statement, Inside, with_expansion, without_expansion}
 use Rattle.rl_meaning.specs.Opening.{state_of}
 use Rattle.rl_agrees.specs.Later.{IsMore}
-use Rattle.rl_agrees.specs.Leaving.{IsPlain}
+use Rattle.rl_agrees.specs.Leaving.{IsNoTransfer}
 
 -- ---- steps
 
@@ -76,7 +76,7 @@ pub record Follows (P : State → State → Type 0) (r s : State) : Type 0 where
 -- only as a statement of a PROG a form may leave by GO or RETURN
 abbrev pub PlainAt : {A : Type 0} → Position → Outcome A → Type 0
 PlainAt Statement o = Unit {0}
-PlainAt Inside o = IsPlain o
+PlainAt Inside o = IsNoTransfer o
 
 -- the outcome's state follows a state, and the outcome is as it may be at the position
 pub record LeadsAt {A : Type 0} (P : State → State → Type 0) (position : Position) (r : State) (o : Outcome A) : Type 0 where
@@ -239,7 +239,7 @@ module _ {freely : Bool} {P : State → State → Type 0} (steps : StepsAt freel
   pub turn_leads : {A : Type 0} (s : State) (next : State → Outcome A) → Follows P r s → ((t : State) → Follows P r t → LeadsAt P position r (next t)) → LeadsAt P position r (turn s next)
   turn_leads s next h k = turn_claims steps (λ o. LeadsAt P position r o) s next h (λ why. stopped_leads why s h) k
 
-  pub entered_leads : {A : Type 0} (b : Bool) (l : ℕ) (s : State) (next : Levels → Outcome A) → Follows P r s → ((l : Levels) → LeadsAt P position r (next l)) → LeadsAt P position r (entered b l s next)
+  pub entered_leads : {A : Type 0} (b : Bool) (l : ℕ) (s : State) (next : Levels → Outcome A) → Follows P r s → ((l : Levels) → LeadsAt P position r (next l)) → LeadsAt P position r (in_levels b l s next)
   entered_leads true l s next h k = k (Some l)
   entered_leads false l s next h k = stopped_leads _ s h
 

@@ -2,7 +2,7 @@
 use Rattle.std.proofs.Common.{◌≡◌, ◌≤◌, ◌+◌, ◌==◌, ℕ, zero, suc, Bool, true, false, if◌then◌else◌, List, [], ◌∷◌, slice_get, Option, Some, None, arith}
 use Rattle.rl_tree.specs.Value.{Value, Int, Id, Str, Ref, Fun, Object}
 use Rattle.rl_tree.specs.Value as object
-use Rattle.rl_tree.specs.Printing.{Page, Setting, Progress, Whole, NoTurn, TooDeep, Job, Element, Listed, Printer, marked, and_then, with_turn, with_level, places_printed, vector_printed, object_printed, value_printed, rest_object, rest_printed, job_printed, printed}
+use Rattle.rl_tree.specs.Printing.{Page, Setting, Progress, Whole, NoTurn, TooDeep, PrintingJob, Element, Listed, Printer, marked, and_then, with_turn, with_level, places_printed, vector_printed, object_printed, value_printed, rest_object, rest_printed, job_printed, printed}
 use Rattle.rl_meaning.specs.Printing.{Elements, message_rest, elements_within, message_object, message_printed}
 use Rattle.rl_meaning.specs.Printing as text
 
@@ -52,7 +52,7 @@ if_within false n p q h k = k
 -- ---- values
 
 abbrev Jobs : Printer → Type 0
-Jobs f = (j : Job) (n l : ℕ) → Deep 2 n l → (page : Page) (t : ℕ) → t ≤ n → Within n (f j l (at page t))
+Jobs f = (j : PrintingJob) (n l : ℕ) → Deep 2 n l → (page : Page) (t : ℕ) → t ≤ n → Within n (f j l (at page t))
 
 module _ (f : Printer) (jobs : Jobs f) where
   places_within : (first : Bool) (xs : List Value) (n l : ℕ) → Deep 1 n l → (page : Page) (t : ℕ) → t ≤ n → Within n (places_printed f first xs l (at page t))
@@ -114,7 +114,7 @@ printed_within s v n l deep page t k = value_within (job_printed s t) (job_withi
 abbrev Parts : Elements → Type 0
 Parts f = (a e : Value) (n l : ℕ) → Deep 2 n l → (page : Page) (t : ℕ) → t ≤ n → Within n (f a e l (at page t))
 
-message_object_rest : (s : Setting) (f : Elements) → Parts f → (o : Option Object) (n l : ℕ) → Deep 2 n l → (page : Page) (t : ℕ) → t ≤ n → Within n (text.rest_object s f o l (at page t))
+message_object_rest : (s : Setting) (f : Elements) → Parts f → (o : Option Object) (n l : ℕ) → Deep 2 n l → (page : Page) (t : ℕ) → t ≤ n → Within n (text.rest_of_object s f o l (at page t))
 message_object_rest s f parts (Some (object.Pair a e)) n l deep page t k = turn_within n page t k _ (λ t k. parts a e t l (deep_less 2 2 n t l (omega (arith, k)) deep) _ t (omega arith))
 message_object_rest s f parts (Some (object.Vector xs)) n l deep page t k = vector_within (job_printed s (suc t)) (job_within s (suc t)) xs n l (deep_less 2 1 n n l (omega arith) deep) _ t k
 message_object_rest s f parts None n l deep page t k = whole page t k

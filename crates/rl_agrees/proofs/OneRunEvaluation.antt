@@ -3,10 +3,10 @@ use Rattle.std.proofs.Common.{◌==◌, ◌/◌, ℕ, zero, suc, Bool, true, fal
 use Rattle.rl_tree.specs.Value.{Value, Id}
 use Rattle.rl_tree.specs.declared.held.Kind.TheVariants.{Expr}
 use Rattle.rl_meaning.specs.Names.{Native, Special, arguments_of, Putd, Eval, Errorset, Apply, Compile, Faslout, Load}
-use Rattle.rl_meaning.specs.Constants.{reading, reading_pair}
+use Rattle.rl_meaning.specs.Constants.{reading_object, reading_pair}
 use Rattle.rl_meaning.specs.State.{State, Tree, Atom, Quoted, Pair, Held, Pointer, Definition, Function, SpecialForm, NativeFunction, HeldFunction}
 use Rattle.rl_meaning.specs.Outcome.{Outcome, Done, Failed, Went, Returned, Stopped, Levels}
-use Rattle.rl_meaning.specs.Symbols.{nil, pair_at, symbol_at}
+use Rattle.rl_meaning.specs.Symbols.{nil_value_of_state, pair_at, symbol_at}
 use Rattle.rl_meaning.specs.Holding.{pointer_value, pointer_to, function_at}
 use Rattle.rl_meaning.specs.Variables.{with_mark}
 use Rattle.rl_meaning.specs.Forms.{after_label}
@@ -121,8 +121,8 @@ module _ {freely : Bool} {P : State → State → Type 0} {rec : Rec} (keeps : R
   pub form_evaluated_leads : (levels : Levels) (f : ℕ) (function : Function) (s : State) → Follows P r s → Leads P r (form_evaluated rec levels f function s)
   form_evaluated_leads levels f (HeldFunction held) s h =
       restored_leads keeps.steps s _ h (asked_leads (In (record { levels = levels; chain = longest_chain; kept = held.kept; holder = f }) Inside held.body) (with_mark None s) tt (mark_follows keeps.steps None s h))
-  form_evaluated_leads levels f (SpecialForm form) s h = done_leads nil s h
-  form_evaluated_leads levels f (NativeFunction native) s h = done_leads nil s h
+  form_evaluated_leads levels f (SpecialForm form) s h = done_leads nil_value_of_state s h
+  form_evaluated_leads levels f (NativeFunction native) s h = done_leads nil_value_of_state s h
 
   pub evaluated_leads : (levels : Levels) (u : Value) (s : State) → Follows P r s → Leads P r (evaluated rec levels u s)
   evaluated_leads levels u s h = turn_leads keeps.steps s _ h (λ t h. then_leads _ _ (hold_form_leads keeps.steps levels u t h) (λ f t h. form_evaluated_leads levels f (function_at t (pointer_to f)) t h))
@@ -133,14 +133,14 @@ module _ {freely : Bool} {P : State → State → Type 0} {rec : Rec} (keeps : R
 
   pub list_applied_leads : (levels : Levels) (f : ℕ) (function : Function) (vs : List Value) (s : State) → Follows P r s → Leads P r (list_applied rec levels f function vs s)
   list_applied_leads levels f (HeldFunction held) vs s h = counted_leads (length held.parameters == length vs) (pointer_value (pointer_to f)) s _ h (held_applied_leads None levels f None held vs s h)
-  list_applied_leads levels f (SpecialForm form) vs s h = done_leads nil s h
-  list_applied_leads levels f (NativeFunction native) vs s h = done_leads nil s h
+  list_applied_leads levels f (SpecialForm form) vs s h = done_leads nil_value_of_state s h
+  list_applied_leads levels f (NativeFunction native) vs s h = done_leads nil_value_of_state s h
 
   pub applied_to_leads : (levels : Levels) (target : Target) (vs : List Value) (s : State) → Follows P r s → Leads P r (applied_to rec levels target vs s)
   applied_to_leads levels (Function_ name f) vs s h = asked_leads (Call_ name levels f vs) s tt h
-  applied_to_leads levels (Lambda rest) vs s h = then_leads _ _ (hold_lambda_leads keeps.steps Expr levels (pair_at s rest) (reading rest s) (reading_follows keeps.steps rest s h)) (λ f t h. list_applied_leads levels f (function_at t (pointer_to f)) vs t h)
-  applied_to_leads levels Undefined vs s h = done_leads nil s h
-  applied_to_leads levels WrongType vs s h = done_leads nil s h
+  applied_to_leads levels (Lambda rest) vs s h = then_leads _ _ (hold_lambda_leads keeps.steps Expr levels (pair_at s rest) (reading_object rest s) (reading_follows keeps.steps rest s h)) (λ f t h. list_applied_leads levels f (function_at t (pointer_to f)) vs t h)
+  applied_to_leads levels Undefined vs s h = done_leads nil_value_of_state s h
+  applied_to_leads levels WrongType vs s h = done_leads nil_value_of_state s h
 
   pub apply_target_leads : (levels : Levels) (target : Target) (f l : Value) (s : State) → Follows P r s → Leads P r (apply_target rec levels target f l s)
   apply_target_leads levels Undefined f l s h = fail_leads keeps.steps undefined f s h
@@ -191,8 +191,8 @@ module _ {freely : Bool} {P : State → State → Type 0} {rec : Rec} (keeps : R
 
   pub expanded_body_leads : (here : Here) (position : Position) (f : ℕ) (function : Function) (s : State) → Follows P r s → LeadsAt P position r (expanded_body rec here position f function s)
   expanded_body_leads here position f (HeldFunction held) s h = asked_leads keeps (In (record here { holder = f }) position held.body) s tt h
-  expanded_body_leads here position f (SpecialForm form) s h = done_leads nil s h
-  expanded_body_leads here position f (NativeFunction native) s h = done_leads nil s h
+  expanded_body_leads here position f (SpecialForm form) s h = done_leads nil_value_of_state s h
+  expanded_body_leads here position f (NativeFunction native) s h = done_leads nil_value_of_state s h
 
   pub macro_called_leads : (i : ℕ) (here : Here) (position : Position) (form : Tree) (s : State) → Follows P r s → LeadsAt P position r (macro_called rec i here position form s)
   macro_called_leads i here position form s h = then_leads _ _ (anywhere position _ (expansion_of_leads i here form s h)) (λ f t h. expanded_body_leads here position f (function_at t (pointer_to f)) t h)
@@ -222,15 +222,15 @@ module _ {freely : Bool} {P : State → State → Type 0} {rec : Rec} (keeps : R
 
   pub going_leads : (position : Position) (args : Tree) (s : State) → Follows P r s → LeadsAt P position r (going rec position args s)
   going_leads position (Pair (Atom (Id l)) end) s h = misplaced_leads position (Id l) s _ h (record { moves = h.is; plain = tt })
-  going_leads position args s h = done_leads nil s h
+  going_leads position args s h = done_leads nil_value_of_state s h
 
   pub quoted_leads : (args : Tree) (s : State) → Follows P r s → Leads P r (quoted rec args s)
   quoted_leads (Pair (Quoted v) end) s h = done_leads v s h
-  quoted_leads args s h = done_leads nil s h
+  quoted_leads args s h = done_leads nil_value_of_state s h
 
   pub function_named_leads : (args : Tree) (s : State) → Follows P r s → Leads P r (function_named rec args s)
   function_named_leads (Pair (Atom v) end) s h = done_leads v s h
-  function_named_leads args s h = done_leads nil s h
+  function_named_leads args s h = done_leads nil_value_of_state s h
 
   pub function_defined_leads : (form : Special) (i : ℕ) (held : Outcome ℕ) → Leads P r held → Leads P r (function_defined rec form i held)
   function_defined_leads form i held h = then_leads _ _ h (λ f t h. done_leads _ _ (behind_follows keeps (Id i) _ (define_follows keeps.steps i (kind_of_definition form) (pointer_to f) t h)))
@@ -238,7 +238,7 @@ module _ {freely : Bool} {P : State → State → Type 0} {rec : Rec} (keeps : R
   pub define_function_leads : (form : Special) (levels : Levels) (args : Tree) (s : State) → Follows P r s → Leads P r (define_function rec form levels args s)
   define_function_leads form levels (Pair (Atom (Id i)) (Pair parameters forms)) s h =
       own_name_leads keeps.steps i s _ h (λ t h. function_defined_leads form i _ (hold_part_leads keeps.steps (kind_of_definition form) levels parameters forms t h))
-  define_function_leads form levels args s h = done_leads nil s h
+  define_function_leads form levels args s h = done_leads nil_value_of_state s h
 
   pub bad_leads : {position : Position} (culprit : Value) (here : Here) (s : State) → Follows P r s → LeadsAt {A = Value} P position r (deeper_here 1 here s (λ here. bad_form culprit s))
   bad_leads culprit here s h = deeper_leads keeps.steps 1 here.levels s _ h (λ l. fail_leads keeps.steps badly_formed culprit s h)

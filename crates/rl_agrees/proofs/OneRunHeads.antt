@@ -15,7 +15,7 @@ use Rattle.rl_meaning.specs.Printing.{turns_taken}
 use Rattle.rl_meaning.specs.Evaluation.{Job, with_expansion, without_expansion}
 use Rattle.rl_meaning.specs.Jobs.{job, the_compiler}
 use Rattle.rl_meaning.specs.Opening.{state_of}
-use Rattle.rl_agrees.specs.Later.{IsMore, IsIn, further, Later}
+use Rattle.rl_agrees.specs.Later.{IsMore, IsMemberOf, further, Later}
 use Rattle.rl_agrees.specs.Heads.{IsWalk, shape, IsBelow, RestsOn, Stays, HeadsStayIn}
 use Rattle.rl_agrees.proofs.OneRun.{StepsAt, Prints}
 use Rattle.rl_agrees.proofs.OneRunLater.{later_steps, later_prints}
@@ -28,7 +28,7 @@ use Rattle.rl_agrees.proofs.HeadsStays.{AllStay, stays_same, stays_then, NotedSt
 
 -- ---- functions that run
 
-running_behind : (p : Pointer) (xs ys : List Entry) → IsIn p (running ys) → IsIn p (running (xs ++ ys))
+running_behind : (p : Pointer) (xs ys : List Entry) → IsMemberOf p (running ys) → IsMemberOf p (running (xs ++ ys))
 running_behind p [] ys h = h
 running_behind p (Mark (Some f) ∷ xs) ys h = further f (running (xs ++ ys)) (running_behind p xs ys h)
 running_behind p (Mark None ∷ xs) ys h = running_behind p xs ys h
@@ -41,17 +41,17 @@ running_shape (Mark None ∷ entries) = running_shape entries
 running_shape (Binding x scope v ∷ entries) = running_shape entries
 
 -- what ran below runs still
-runs_below : (s t : State) → IsBelow s t → (p : Pointer) → IsIn p (running s.bindings) → IsIn p (running t.bindings)
+runs_below : (s t : State) → IsBelow s t → (p : Pointer) → IsMemberOf p (running s.bindings) → IsMemberOf p (running t.bindings)
 runs_below s t below p h =
-    let shapes : IsIn p (running (below.more ++ shape s.bindings)) = running_behind p below.more (shape s.bindings) (subst (λ (ps : List Pointer). IsIn p ps) (sym (running_shape s.bindings)) h) in
-    subst (λ (ps : List Pointer). IsIn p ps) (running_shape t.bindings) (subst (λ (es : List Entry). IsIn p (running es)) (sym below.is) shapes)
+    let shapes : IsMemberOf p (running (below.more ++ shape s.bindings)) = running_behind p below.more (shape s.bindings) (subst (λ (ps : List Pointer). IsMemberOf p ps) (sym (running_shape s.bindings)) h) in
+    subst (λ (ps : List Pointer). IsMemberOf p ps) (running_shape t.bindings) (subst (λ (es : List Entry). IsMemberOf p (running es)) (sym below.is) shapes)
 
 -- ---- the instance
 
 record Heads (s t : State) : Type 0 where
   pub marks : Marks s t
   pub later : Later s t
-  pub stays : s.compilation.runs_code ≡ false → t.watched.event ≡ None → (p : Pointer) → IsIn p (running s.bindings) → (i : ℕ) (through : Bool) → RestsOn s t (function_at s p) i through → Stays t through (symbol_at s i).definition (symbol_at t i).definition
+  pub stays : s.compilation.runs_code ≡ false → t.watched.event ≡ None → (p : Pointer) → IsMemberOf p (running s.bindings) → (i : ℕ) (through : Bool) → RestsOn s t (function_at s p) i through → Stays t through (symbol_at s i).definition (symbol_at t i).definition
 
 -- where definitions are as they were
 untold : (s t : State) → Marks s t → Later s t → ((i : ℕ) → (symbol_at t i).definition ≡ (symbol_at s i).definition) → Heads s t
@@ -118,7 +118,7 @@ definition_heads i d s = record { marks = marks_steps.definition i d s; later = 
     u : State
     u = with_definition i d s
 
-    at : (with_definition i d s).watched.event ≡ None → (p : Pointer) → IsIn p (running s.bindings) → (j : ℕ) (through : Bool) → RestsOn s (with_definition i d s) (function_at s p) j through → ((symbol_at (with_definition i d s) j).definition ≡ (symbol_at s j).definition) ⊎ ((j ≡ i) × ((symbol_at (with_definition i d s) j).definition ≡ d)) → Stays (with_definition i d s) through (symbol_at s j).definition (symbol_at (with_definition i d s) j).definition
+    at : (with_definition i d s).watched.event ≡ None → (p : Pointer) → IsMemberOf p (running s.bindings) → (j : ℕ) (through : Bool) → RestsOn s (with_definition i d s) (function_at s p) j through → ((symbol_at (with_definition i d s) j).definition ≡ (symbol_at s j).definition) ⊎ ((j ≡ i) × ((symbol_at (with_definition i d s) j).definition ≡ d)) → Stays (with_definition i d s) through (symbol_at s j).definition (symbol_at (with_definition i d s) j).definition
     at none p run j through r (inl same) = stays_same u through _ _ same
     at none p run j through r (inr here) =
         let rests : RestsOn s u (function_at s p) i through = subst (λ x. RestsOn s u (function_at s p) x through) here.0 r in
@@ -198,7 +198,7 @@ heads_idle = record { idle = λ s t e l. record { marks = marks_idle.idle s t e 
 
 -- ---- what it says
 
-heads_in : (s t : State) → Later s t → ((p : Pointer) → IsIn p (running s.bindings) → IsIn p (running t.bindings)) → ((p : Pointer) → IsIn p (running s.bindings) → AllStay s t (function_at s p)) → HeadsStayIn s t
+heads_in : (s t : State) → Later s t → ((p : Pointer) → IsMemberOf p (running s.bindings) → IsMemberOf p (running t.bindings)) → ((p : Pointer) → IsMemberOf p (running s.bindings) → AllStay s t (function_at s p)) → HeadsStayIn s t
 heads_in s t later runs stays = record {
   stays = stays;
   runs = runs;

@@ -5,10 +5,10 @@ use Rattle.rl_tree.specs.Value as object
 use Rattle.rl_tree.specs.declared.held.Kind.{Kind}
 use Rattle.rl_meaning.specs.State.{State, Tree, Atom, Quoted, Pair, Literal, Kept, Function}
 use Rattle.rl_meaning.specs.Outcome.{Outcome, Done, then_do, turns_left, Levels}
-use Rattle.rl_meaning.specs.Symbols.{nil, lambda_id, pair_at, cdr_at}
+use Rattle.rl_meaning.specs.Symbols.{nil_value_of_state, lambda_number, pair_at, cdr_at}
 use Rattle.rl_meaning.specs.Errors.{badly_formed}
-use Rattle.rl_meaning.specs.Constants.{objects_read, reading}
-use Rattle.rl_meaning.specs.Holding.{function_id, Reader, quote_tree, read_quoted, quoted_part, read_parts, list_within, read_list, read_form, with_function, hold_tree, hold_form, hold_expansion, read_forms, with_parameters, parameter_list, kept_in, elements_of, is_improper, spine, hold_function}
+use Rattle.rl_meaning.specs.Constants.{objects_read, reading_object}
+use Rattle.rl_meaning.specs.Holding.{function_number, Reader, quote_tree, read_quoted, quoted_part, read_parts, list_within, read_list, read_form, with_function, hold_tree, hold_form, hold_expansion, read_forms, with_parameters, parameter_list, kept_in, elements_walked, is_improper, spine, hold_function}
 use Rattle.rl_meaning.specs.Copying.{with_object, copied_parts, copied_pair, copied_at, copied}
 use Rattle.rl_meaning.specs.Forms.{visited, visited_spine, visited_forms, hold_part}
 use Rattle.rl_meaning.specs.Evaluation.{Position}
@@ -35,13 +35,13 @@ module _ {freely : Bool} {P : State → State → Type 0} (steps : StepsAt freel
 
   pub read_quoted_leads : (o : Option Value) (list : Reader) → Reads P position r list → Reads P position r (read_quoted o list)
   read_quoted_leads (Some x) list k descent levels v s h =
-      pair_turn_leads steps descent levels s _ h (λ l t f. turn_leads steps (reading v t) _ (reading_follows steps v t f) (λ t f. done_leads (quote_tree x) (reading (cdr_at t v) t) (reading_follows steps (cdr_at t v) t f)))
+      pair_turn_leads steps descent levels s _ h (λ l t f. turn_leads steps (reading_object v t) _ (reading_follows steps v t f) (λ t f. done_leads (quote_tree x) (reading_object (cdr_at t v) t) (reading_follows steps (cdr_at t v) t f)))
   read_quoted_leads None list k descent levels v s h = k descent levels v s h
 
   pub read_parts_leads : (element list : Reader) → Reads P position r element → Reads P position r list → (o : Option (Value × Value)) → Reads P position r (read_parts element list o)
   read_parts_leads element list j k None descent levels v s h = search leading
   read_parts_leads element list j k (Some parts) descent levels v s h =
-      pair_turn_leads steps descent levels s _ h (λ l t f. then_leads _ _ (j true l parts.0 (reading v t) (reading_follows steps v t f)) (λ a t f. then_leads _ _ (k false l parts.1 t f) (λ d t f. search leading)))
+      pair_turn_leads steps descent levels s _ h (λ l t f. then_leads _ _ (j true l parts.0 (reading_object v t) (reading_follows steps v t f)) (λ a t f. then_leads _ _ (k false l parts.1 t f) (λ d t f. search leading)))
 
   pub list_within_leads : (n : ℕ) → Reads P position r (list_within n)
   list_within_leads zero descent levels v s h = search leading
@@ -74,15 +74,15 @@ module _ {freely : Bool} {P : State → State → Type 0} (steps : StepsAt freel
   with_parameters_leads (Some xs) s next h k = k xs s h
   with_parameters_leads None s next h k = search leading
 
-  pub elements_lead : (list : Value) (s : State) → Follows P r s → LeadsAt P position r (elements_of list s)
+  pub elements_lead : (list : Value) (s : State) → Follows P r s → LeadsAt P position r (elements_walked list s)
   elements_lead list s h = search (leading, walk_leads)
 
   pub hold_function_leads : (kind : Kind) (levels : Levels) (parameters forms : Value) (s : State) → Follows P r s → LeadsAt P position r (hold_function kind levels parameters forms s)
   hold_function_leads kind levels parameters forms s h =
       let f : Follows P r (objects_read (spine s forms) s) = objects_read_follows steps (spine s forms) s h in
-      choose_leads (is_improper s forms) (objects_read (spine s forms) s) _ _ (fail_leads steps badly_formed (Id lambda_id) (objects_read (spine s forms) s) f) (held (objects_read (spine s forms) s) f)
+      choose_leads (is_improper s forms) (objects_read (spine s forms) s) _ _ (fail_leads steps badly_formed (Id lambda_number) (objects_read (spine s forms) s) f) (held (objects_read (spine s forms) s) f)
     where
-      held : (s : State) → Follows P r s → LeadsAt P position r (then_do (elements_of parameters s) (λ walked s. with_parameters (parameter_list kind (quoted_part s parameters) walked) s (λ xs s. then_do (read_forms levels forms (pair_at s forms) s) (λ body s. hold_tree kind xs (kept_in s xs body) body s))))
+      held : (s : State) → Follows P r s → LeadsAt P position r (then_do (elements_walked parameters s) (λ walked s. with_parameters (parameter_list kind (quoted_part s parameters) walked) s (λ xs s. then_do (read_forms levels forms (pair_at s forms) s) (λ body s. hold_tree kind xs (kept_in s xs body) body s))))
       held s h = search (leading, elements_lead, with_parameters_leads, read_forms_leads, hold_tree_leads)
 
   -- ---- copying
@@ -90,12 +90,12 @@ module _ {freely : Bool} {P : State → State → Type 0} (steps : StepsAt freel
   pub copied_parts_leads : (pair : Value) (first rest : State → Outcome Value) → IsNew r pair → Acts P position r first → Acts P position r rest → Acts P position r (copied_parts pair first rest)
   copied_parts_leads pair first rest new j k s h =
       then_leads _ _ (j s h) (λ a t f.
-      then_leads _ _ (k (with_object pair (object.Pair a nil) t) (fresh_follows steps pair (object.Pair a nil) t new f)) (λ d u f.
+      then_leads _ _ (k (with_object pair (object.Pair a nil_value_of_state) t) (fresh_follows steps pair (object.Pair a nil_value_of_state) t new f)) (λ d u f.
       done_leads pair (with_object pair (object.Pair a d) u) (fresh_follows steps pair (object.Pair a d) u new f)))
 
   pub copied_pair_leads : (descent : Bool) (levels : Levels) (first rest : Levels → State → Outcome Value) → ActsAt P position r first → ActsAt P position r rest → Acts P position r (λ s. copied_pair descent levels first rest s)
   copied_pair_leads descent levels first rest j k s h =
-      pair_turn_leads steps descent levels s _ h (λ l t f. then_with (λ p t. IsNew r p) _ _ (pair_makes steps nil nil t f) (λ pair u f new. copied_parts_leads pair (λ s. first l s) (λ s. rest l s) new (j l) (k l) u f))
+      pair_turn_leads steps descent levels s _ h (λ l t f. then_with (λ p t. IsNew r p) _ _ (pair_makes steps nil_value_of_state nil_value_of_state t f) (λ pair u f new. copied_parts_leads pair (λ s. first l s) (λ s. rest l s) new (j l) (k l) u f))
 
   pub copied_at_leads : (descent : Bool) (levels : Levels) (t : Tree) (s : State) → Follows P r s → LeadsAt P position r (copied_at descent levels t s)
   copied_at_leads descent levels (Atom v) s h = search leading
@@ -103,8 +103,8 @@ module _ {freely : Bool} {P : State → State → Type 0} (steps : StepsAt freel
   copied_at_leads descent levels (Pair a d) s h =
       copied_pair_leads descent levels (λ l s. copied_at true l a s) (λ l s. copied_at false l d s) (λ l s h. copied_at_leads true l a s h) (λ l s h. copied_at_leads false l d s h) s h
   copied_at_leads descent levels (Literal n e) s h =
-      copied_pair_leads descent levels (λ l s. Done (Id function_id) s) (λ l s. copied_pair false l (λ l s. copied_at true l e s) (λ l s. Done nil s) s) (λ l s h. search leading)
-      (λ l s h. copied_pair_leads false l (λ l s. copied_at true l e s) (λ l s. Done nil s) (λ l s h. copied_at_leads true l e s h) (λ l s h. search leading) s h) s h
+      copied_pair_leads descent levels (λ l s. Done (Id function_number) s) (λ l s. copied_pair false l (λ l s. copied_at true l e s) (λ l s. Done nil_value_of_state s) s) (λ l s h. search leading)
+      (λ l s h. copied_pair_leads false l (λ l s. copied_at true l e s) (λ l s. Done nil_value_of_state s) (λ l s h. copied_at_leads true l e s h) (λ l s h. search leading) s h) s h
 
   pub copied_leads : (levels : Levels) (t : Tree) (s : State) → Follows P r s → LeadsAt P position r (copied levels t s)
   copied_leads levels t s h = copied_at_leads false levels t s h

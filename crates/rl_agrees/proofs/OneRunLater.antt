@@ -8,7 +8,7 @@ use Rattle.rl_tree.specs.Printing.{Page}
 use Rattle.rl_meaning.specs.State.{State, Symbol, Definition, Function, Expansion, Event, Recorded, Change, Coded, Turned, Watched, Compilation}
 use Rattle.rl_meaning.specs.Symbols.{new_symbol, symbol_at, with_symbol}
 use Rattle.rl_meaning.specs.Events.{first_event, with_event}
-use Rattle.rl_meaning.specs.Constants.{changing, changed_at}
+use Rattle.rl_meaning.specs.Constants.{changing, last_change_of}
 use Rattle.rl_meaning.specs.Holding.{with_function}
 use Rattle.rl_meaning.specs.Copying.{with_object}
 use Rattle.rl_meaning.specs.Reach.{turns, with_change}
@@ -16,7 +16,7 @@ use Rattle.rl_meaning.specs.Standing.{with_standing_codes}
 use Rattle.rl_meaning.specs.Definitions.{with_definition}
 use Rattle.rl_meaning.specs.Printing.{with_page, turns_taken, note}
 use Rattle.rl_meaning.specs.Evaluation.{with_expansion, without_expansion}
-use Rattle.rl_agrees.specs.Later.{IsMore, IsNoted, StaysOrNoted, NotedBefore, IsIn, CodesStand, Later}
+use Rattle.rl_agrees.specs.Later.{IsMore, IsNoted, StaysOrNoted, NotedBefore, IsMemberOf, CodesStand, Later}
 use Rattle.rl_agrees.proofs.OneRun.{Steps, Prints}
 use Rattle.rl_agrees.proofs.OneRunPrinting.{more_same, more_behind, more_then}
 use Rattle.rl_agrees.proofs.LaterLists.{get_appended, get_set_other, set_definition, appended_definition}
@@ -28,7 +28,7 @@ pub more_length : {A : Type 0} (xs ys : List A) → IsMore xs ys → length xs �
 more_length xs ys h = omega (arith, ap length h.is, length-append xs h.rest)
 
 codes_more : (s t : State) → SameDefinitions s t → IsMore s.functions t.functions → t.compilation.coded ≡ s.compilation.coded → CodesStand s → CodesStand t
-codes_more s t same more e stand c i = all_stand_more s t same more c.dependencies (stand c (subst (λ (cs : List Coded). IsIn c cs) e i))
+codes_more s t same more e stand c i = all_stand_more s t same more c.dependencies (stand c (subst (λ (cs : List Coded). IsMemberOf c cs) e i))
 
 -- one state is as another but for what no law speaks of, for functions that are appended and for identifiers whose definitions stay
 record Alike (s t : State) : Type 0 where
@@ -49,8 +49,8 @@ alike_later s t a = record {
   functions = a.functions;
   objects = omega (arith, ap length a.store);
   stay = λ r h. inl (ap (λ (xs : List Object). slice_get xs r) a.store);
-  noted = λ r. inl (ap (λ (cs : List Change). changed_at r cs) a.changes);
-  fewer = λ c i. subst (λ (cs : List Coded). IsIn c cs) a.coded i;
+  noted = λ r. inl (ap (λ (cs : List Change). last_change_of r cs) a.changes);
+  fewer = λ c i. subst (λ (cs : List Coded). IsMemberOf c cs) a.coded i;
   stand = codes_more s t a.definitions a.functions a.coded;
 }
 
@@ -162,7 +162,7 @@ changed_later r xs s same others =
     }
   where
     here : (q : ℕ) → (r == q) ≡ true → IsNoted (changing (Ref r) (record s { store = xs })) q (length s.functions)
-    here q e = record { functions = length s.functions; last = ap (λ (b : Bool). if b then Some (length s.functions) else changed_at q s.watched.changes) e; late = omega arith }
+    here q e = record { functions = length s.functions; last = ap (λ (b : Bool). if b then Some (length s.functions) else last_change_of q s.watched.changes) e; late = omega arith }
 
     stays : (q : ℕ) → StaysOrNoted s (changing (Ref r) (record s { store = xs })) q
     stays q = elim (eqb_tells r q) [
@@ -173,7 +173,7 @@ changed_later r xs s same others =
     noted : (q : ℕ) → NotedBefore s (changing (Ref r) (record s { store = xs })) q
     noted q = elim (eqb_tells r q) [
       | inl same ↦ inr (here q same.0)
-      | inr other ↦ inl (ap (λ (b : Bool). if b then Some (length s.functions) else changed_at q s.watched.changes) other.0)
+      | inr other ↦ inl (ap (λ (b : Bool). if b then Some (length s.functions) else last_change_of q s.watched.changes) other.0)
     ]
 
 noted_later : (v : Value) (s : State) → Later s (changing v s)

@@ -8,7 +8,7 @@ use Rattle.rl_meaning.specs.Jobs.{job, the_compiler}
 use Rattle.rl_meaning.specs.Opening.{state_of}
 use Rattle.rl_meaning.specs.Run.{run_bytes, run_file}
 use Rattle.rl_agrees.specs.Later.{Later}
-use Rattle.rl_agrees.specs.Leaving.{IsPlain, is_statement}
+use Rattle.rl_agrees.specs.Leaving.{IsNoTransfer, is_statement}
 use Rattle.rl_agrees.proofs.OneRun.{LeadsAt, follows_same}
 use Rattle.rl_agrees.proofs.OneRunEvaluation.{position_of, no_compiler_leads}
 use Rattle.rl_agrees.proofs.OneRunMachine.{job_leads}
@@ -27,7 +27,7 @@ run_later levels bytes s = (run_bytes_follows later_steps later_prints levels by
 pub file_later : (levels : Levels) (name : Name) (file : Option (List ℕ)) (s : State) → Later s (run_file levels name file s).state
 file_later levels name file s = (run_file_follows later_steps later_prints levels name file s (follows_same later_steps s)).is
 
-pub job_plain : (j : Job) (s : State) → is_statement j ≡ false → IsPlain (job the_compiler j s)
+pub job_plain : (j : Job) (s : State) → is_statement j ≡ false → IsNoTransfer (job the_compiler j s)
 job_plain (Run name levels holder f held vs) s e = (job_goes (Run name levels holder f held vs) s).plain
 job_plain (Onward f m code) s e = (job_goes (Onward f m code) s).plain
 job_plain (Call_ name levels f vs) s e = (job_goes (Call_ name levels f vs) s).plain

@@ -6,14 +6,14 @@ use Rattle.rl_meaning.specs.State.{State, Code, Tree, Held, Pointer, Definition,
 use Rattle.rl_meaning.specs.State as state
 use Rattle.rl_meaning.specs.CMacros.{Operand, Slot, Constant, Variable, Register, Entry, Alloc, Dealloc, Load, Store, SetVar, Move, Copy, Link, LinkE, Self, CallNative, Jump, JumpNil, JumpT, JumpEq, JumpNe, Label, GoTo, Bind, ProgBind, Free, Exit, Raise}
 use Rattle.rl_meaning.specs.Outcome.{Outcome, Levels}
-use Rattle.rl_meaning.specs.Symbols.{nil, is_nil, same, symbol_at, cdr_at}
+use Rattle.rl_meaning.specs.Symbols.{nil_value_of_state, is_nil, same, symbol_at, cdr_at}
 use Rattle.rl_meaning.specs.Errors.{wrong_count, wrong_type, badly_formed}
 use Rattle.rl_meaning.specs.Holding.{function_at, form_at}
 use Rattle.rl_meaning.specs.Variables.{with_mark, binding_levels}
 use Rattle.rl_meaning.specs.Forms.{fits}
 use Rattle.rl_meaning.specs.Evaluation.{Job, Run, Onward, Call_, From, In, Rec, Machine, Frame, kind_of_definition}
 use Rattle.rl_meaning.specs.Machine as machine
-use Rattle.rl_meaning.specs.Machine.{as_list, proper_elements, register, with_register, after_link, with_slot, allocated, deallocated, content, bound, freed, undone, one_more, ended, at_entry, is_same, behind, behind_entry, part_linked, list_linked, definition_linked, form_linked, function_linked, linked_to, linked, again, run, seek, run_code}
+use Rattle.rl_meaning.specs.Machine.{as_list, proper_elements, register, with_register, after_link, with_slot, allocated, deallocated, content, bound, freed, undone, one_more, frame_ended, at_entry, is_same, behind, behind_entry, part_linked, list_linked, definition_linked, form_linked, function_linked, linked_to, linked, again, run, seek, run_code}
 use Rattle.rl_meaning.specs.Compiling.{Compiler}
 use Rattle.rl_meaning.specs.Jobs.{run_held, code_of, job_done, rank, job_at, job, jobs, the_compiler}
 use Rattle.rl_agrees.proofs.OneRun.{Steps, Prints, Follows, LeadsAt, Leads, follows_same, follows_then, leads_from, stopped_leads, done_leads, then_leads, choose_leads, turn_leads, deeper_leads}
@@ -30,7 +30,7 @@ module _ {P : State → State → Type 0} (steps : Steps P) {r : State} where
   pub bindings_follow : (entries : List state.Entry) (s : State) → Follows P r s → Follows P r (record s { bindings = entries })
   bindings_follow entries s h = follows_then steps r s _ h (steps.freed tt entries s)
 
-  pub ended_follows : (f : Frame) (s : State) → Follows P r s → Follows P r (ended f s)
+  pub ended_follows : (f : Frame) (s : State) → Follows P r s → Follows P r (frame_ended f s)
   ended_follows f s h = bindings_follow _ s h
 
   pub undone_follows : (n : ℕ) (s : State) → Follows P r s → Follows P r (undone n s)
@@ -100,9 +100,9 @@ module _ {P : State → State → Type 0} {rec : Rec} (keeps : RecLeads P rec) {
     run_leads f (Move p q ∷ rest) m s h = run_leads f rest (with_register p (register m q) m) s h
     run_leads f (Copy q c ∷ rest) m s h = then_leads _ _ (copied_leads keeps.steps m.levels (form_at s c) s h) (λ v t h. run_leads f rest (with_register q v m) t h)
     run_leads f (Link i n ∷ rest) m s h = then_leads _ _ (linked_leads i m.levels (machine.arguments n m) s h) (λ v t h. run_leads f rest (after_link v m) t h)
-    run_leads f (LinkE i n k ∷ rest) m s h = linked_leads i f.outside (machine.arguments n m) (ended f s) (ended_follows keeps.steps f s h)
+    run_leads f (LinkE i n k ∷ rest) m s h = linked_leads i f.outside (machine.arguments n m) (frame_ended f s) (ended_follows keeps.steps f s h)
     run_leads f (Self n k ∷ rest) m s h =
-        choose_leads (is_same f n s) (ended f s) _ _ (again_leads f (machine.arguments n m) (ended f s) (ended_follows keeps.steps f s h)) (linked_leads f.name f.outside (machine.arguments n m) (ended f s) (ended_follows keeps.steps f s h))
+        choose_leads (is_same f n s) (frame_ended f s) _ _ (again_leads f (machine.arguments n m) (frame_ended f s) (ended_follows keeps.steps f s h)) (linked_leads f.name f.outside (machine.arguments n m) (frame_ended f s) (ended_follows keeps.steps f s h))
     run_leads f (CallNative i n ∷ rest) m s h = then_leads _ _ (called_leads keeps i m.levels (machine.arguments n m) s h) (λ v t h. run_leads f rest (with_register 1 v m) t h)
     run_leads f (Jump l ∷ rest) m s h = seek_leads f l rest m s h
     run_leads f (JumpNil l ∷ rest) m s h = choose_leads (is_nil (register m 1)) s _ _ (seek_leads f l rest m s h) (run_leads f rest m s h)
@@ -116,16 +116,16 @@ module _ {P : State → State → Type 0} {rec : Rec} (keeps : RecLeads P rec) {
     run_leads f (Free n ∷ rest) m s h = run_leads f rest (freed n m) (undone n s) (undone_follows keeps.steps n s h)
     run_leads f (Exit ∷ rest) m s h = done_leads (register m 1) s h
     run_leads f (Raise e ∷ rest) m s h = fail_leads keeps.steps e (register m 1) s h
-    run_leads f [] m s h = done_leads nil s h
+    run_leads f [] m s h = done_leads nil_value_of_state s h
 
     pub seek_leads : (f : Frame) (l : ℕ) (code : Code) (m : Machine) (s : State) → Follows P r s → Leads P r (seek rec f l code m s)
     seek_leads f l (Label k ∷ rest) m s h = choose_leads (k == l) s _ _ (run_leads f rest m s h) (seek_leads f l rest m s h)
     seek_leads f l (c ∷ rest) m s h = seek_leads f l rest m s h
-    seek_leads f l [] m s h = done_leads nil s h
+    seek_leads f l [] m s h = done_leads nil_value_of_state s h
 
   pub run_code_leads : (levels : Levels) (f : Option Pointer) (held : Held) (code : Code) (vs : List Value) (s : State) → Follows P r s → Leads P r (run_code rec levels f held code vs s)
   run_code_leads levels f held (Entry i n ∷ rest) vs s h = restored_leads keeps.steps s _ h (run_leads _ rest (at_entry vs levels) (with_mark f s) (mark_follows keeps.steps f s h))
-  run_code_leads levels f held other vs s h = done_leads nil s h
+  run_code_leads levels f held other vs s h = done_leads nil_value_of_state s h
 
   -- ---- jobs
 

@@ -9,9 +9,9 @@ use Rattle.rl_meaning.specs.State.{State, Symbol, Definition, Pointer}
 use Rattle.rl_meaning.specs.Constants.{reading_pair}
 use Rattle.rl_meaning.specs.Outcome.{Outcome, Done, Levels}
 use Rattle.rl_meaning.specs.Symbols.{symbol_at, with_symbol, cdr_at}
-use Rattle.rl_meaning.specs.Atoms.{made_places, mkvect, place_at, place_of, with_vector, getv, putv, upbv, gensym, intern, explode, Spelled, InName, InNumber, AtZero, AfterQuote, Compressed, Spells, Stops, atom_of, compressed_atom, compress_bytes, compress}
-use Rattle.rl_meaning.specs.Properties.{Place, look_for, with_properties, of_identifier, get, flagp, add_first, put_at, with_identifier, put, taken_out, without, remprop, or_list, at_list_end, for_each, flag_at, for_flag, flag, remflag}
-use Rattle.rl_meaning.specs.Definitions.{with_definition, define, definition_pair, getd, Body, Given, Lambda, kind_of, with_kind, body_in, with_body, own_name, hold_lambda, function_of, putd, remd, declared, declare, fluid, global, undeclare, unfluid, set}
+use Rattle.rl_meaning.specs.Atoms.{made_places, mkvect, place_at, with_place_of, with_vector, getv, putv, upbv, gensym, intern, explode, Spelled, InName, InNumber, AtZero, AfterQuote, Compressed, Spells, Stops, atom_spelled, compressed_atom, compress_bytes, compress}
+use Rattle.rl_meaning.specs.Properties.{PropertyPlace, look_for, with_properties, of_identifier, get, flagp, add_first, put_at, for_identifier, put, taken_out, without, remprop, or_list, at_list_end, for_each, flag_at, for_flag, flag, remflag}
+use Rattle.rl_meaning.specs.Definitions.{with_definition, define, definition_pair, getd, FunctionBody, Given, Lambda, kind_of, with_kind, body_in, with_body, own_name, hold_lambda, function_of, putd, remd, declared, declare, fluid, global, undeclare, unfluid, set}
 use Rattle.rl_meaning.specs.Natives.{argument, native}
 use Rattle.rl_meaning.specs.Evaluation.{Position}
 use Rattle.rl_agrees.proofs.OneRun.{StepsAt, Prints, Follows, LeadsAt, follows_then, then_leads}
@@ -53,7 +53,7 @@ module _ {freely : Bool} {P : State → State → Type 0} (steps : StepsAt freel
   taken_out_follows i None pair s h = properties_follow i _ s h
   taken_out_follows i (Some before) pair s h = cdr_changed_follows steps before (cdr_at s pair) s h
 
-  pub without_follows : (i : ℕ) (place : Place) (s : State) → Follows P r s → Follows P r (without i place s)
+  pub without_follows : (i : ℕ) (place : PropertyPlace) (s : State) → Follows P r s → Follows P r (without i place s)
   without_follows i place s h = elim place.at as (λ o. Follows P r (elim o as (λ (o : Option Value). State) [ None ↦ s | Some pair ↦ taken_out i place.before pair s ])) [
     | None ↦ h
     | Some pair ↦ taken_out_follows i place.before pair s h
@@ -81,7 +81,7 @@ module _ {freely : Bool} {P : State → State → Type 0} (steps : StepsAt freel
   place_at_leads xs n (Some x) s next h k = k n x s h
   place_at_leads xs n None s next h k = search leading
 
-  pub place_of_leads : {A : Type 0} (xs : List Value) (i : Value) (s : State) (next : ℕ → Value → State → Outcome A) → Follows P r s → ((n : ℕ) (x : Value) (t : State) → Follows P r t → LeadsAt P position r (next n x t)) → LeadsAt P position r (place_of xs i s next)
+  pub place_of_leads : {A : Type 0} (xs : List Value) (i : Value) (s : State) (next : ℕ → Value → State → Outcome A) → Follows P r s → ((n : ℕ) (x : Value) (t : State) → Follows P r t → LeadsAt P position r (next n x t)) → LeadsAt P position r (with_place_of xs i s next)
   place_of_leads xs (Int (pos n)) s next h k = place_at_leads xs n (slice_get xs n) s next h k
   place_of_leads xs (Int (negsuc n)) s next h k = search leading
   place_of_leads xs i s next h k = search leading
@@ -116,7 +116,7 @@ module _ {freely : Bool} {P : State → State → Type 0} (steps : StepsAt freel
   explode_leads (Str bytes) s h = search (made_list_leads, chained_none)
   explode_leads (Fun f place) s h = search (made_list_leads, chained_none)
 
-  pub atom_of_leads : (k : ℕ) (spelled : Spelled) (s : State) → Follows P r s → LeadsAt P position r (atom_of k spelled s)
+  pub atom_of_leads : (k : ℕ) (spelled : Spelled) (s : State) → Follows P r s → LeadsAt P position r (atom_spelled k spelled s)
   atom_of_leads k (InName name) s h = search leading
   atom_of_leads k (InNumber minus n) s h = search leading
   atom_of_leads k AtZero s h = search leading
@@ -143,7 +143,7 @@ module _ {freely : Bool} {P : State → State → Type 0} (steps : StepsAt freel
   of_identifier_leads (Id i) a s next h k = k i s h
   of_identifier_leads v a s next h k = search leading
 
-  pub with_identifier_leads : {A : Type 0} (v : Value) (s : State) (next : ℕ → State → Outcome A) → Follows P r s → ((i : ℕ) (t : State) → Follows P r t → LeadsAt P position r (next i t)) → LeadsAt P position r (with_identifier v s next)
+  pub with_identifier_leads : {A : Type 0} (v : Value) (s : State) (next : ℕ → State → Outcome A) → Follows P r s → ((i : ℕ) (t : State) → Follows P r t → LeadsAt P position r (next i t)) → LeadsAt P position r (for_identifier v s next)
   with_identifier_leads (Id i) s next h k = k i s h
   with_identifier_leads v s next h k = search leading
 
@@ -204,7 +204,7 @@ module _ {freely : Bool} {P : State → State → Type 0} (steps : StepsAt freel
   with_kind_leads (Some kind) t s next h k = k kind s h
   with_kind_leads None t s next h k = search leading
 
-  pub with_body_leads : {A : Type 0} (o : Option Body) (b : Value) (s : State) (next : Body → State → Outcome A) → Follows P r s → ((x : Body) (t : State) → Follows P r t → LeadsAt P position r (next x t)) → LeadsAt P position r (with_body o b s next)
+  pub with_body_leads : {A : Type 0} (o : Option FunctionBody) (b : Value) (s : State) (next : FunctionBody → State → Outcome A) → Follows P r s → ((x : FunctionBody) (t : State) → Follows P r t → LeadsAt P position r (next x t)) → LeadsAt P position r (with_body o b s next)
   with_body_leads (Some body) b s next h k = k body s h
   with_body_leads None b s next h k = search leading
 
@@ -215,7 +215,7 @@ module _ {freely : Bool} {P : State → State → Type 0} (steps : StepsAt freel
   hold_lambda_leads kind levels (Some parts) s h = search hold_function_leads
   hold_lambda_leads kind levels None s h = search leading
 
-  pub function_of_leads : (kind : Kind) (levels : Levels) (body : Body) (s : State) → Follows P r s → LeadsAt P position r (function_of kind levels body s)
+  pub function_of_leads : (kind : Kind) (levels : Levels) (body : FunctionBody) (s : State) → Follows P r s → LeadsAt P position r (function_of kind levels body s)
   function_of_leads kind levels (Given p) s h = search leading
   function_of_leads kind levels (Lambda rest) s h = search (leading, hold_lambda_leads)
 

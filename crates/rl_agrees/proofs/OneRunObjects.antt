@@ -6,12 +6,12 @@ use Rattle.rl_tree.specs.Value as object
 use Rattle.rl_tree.specs.Name.{Name}
 use Rattle.rl_meaning.specs.State.{State, Expansion, Event, Turned}
 use Rattle.rl_meaning.specs.Outcome.{Done, made_pair, made_string, made_vector, made_symbol}
-use Rattle.rl_meaning.specs.Symbols.{nil, new_symbol, with_top, interned_at, interned, pair_at}
+use Rattle.rl_meaning.specs.Symbols.{nil_value_of_state, new_symbol, with_top, interned_at, interned, pair_at}
 use Rattle.rl_meaning.specs.Errors.{raise, fail}
 use Rattle.rl_meaning.specs.Events.{with_recorded, with_event}
-use Rattle.rl_meaning.specs.Constants.{changing, met, event_read, objects_read, reading, reading_pair, reading_whole, is_changed_constant}
+use Rattle.rl_meaning.specs.Constants.{changing, met, event_read, objects_read, reading_object, reading_pair, reading_whole, is_changed_constant}
 use Rattle.rl_meaning.specs.Copying.{with_object}
-use Rattle.rl_meaning.specs.Lists.{cdr_set, Chain, hung, extended, ended, made_list}
+use Rattle.rl_meaning.specs.Lists.{cdr_set, Chain, pair_hung, list_extended, list_ended, made_list}
 use Rattle.rl_meaning.specs.Evaluation.{Position}
 use Rattle.rl_agrees.proofs.OneRun.{StepsAt, Follows, LeadsAt, Makes, then_makes, then_with, room_makes, follows_then, done_leads, failed_leads, stopped_leads, then_leads, choose_leads, turn_leads, deeper_leads, descends_leads, pair_turn_leads, room_leads}
 
@@ -39,7 +39,7 @@ module _ {freely : Bool} {P : State → State → Type 0} (steps : StepsAt freel
   pub objects_read_follows : (rs : List ℕ) (s : State) → Follows P r s → Follows P r (objects_read rs s)
   objects_read_follows rs s h = read_follows s.counts.expansion rs s h
 
-  pub reading_follows : (v : Value) (s : State) → Follows P r s → Follows P r (reading v s)
+  pub reading_follows : (v : Value) (s : State) → Follows P r s → Follows P r (reading_object v s)
   reading_follows v s h = objects_read_follows _ s h
 
   pub reading_pair_follows : (v : Value) (s : State) → Follows P r s → Follows P r (reading_pair v s)
@@ -135,17 +135,17 @@ module _ {freely : Bool} {P : State → State → Type 0} (steps : StepsAt freel
   pub pair_makes : (a d : Value) (s : State) → Follows P r s → Makes P position r (λ p t. IsNew r p) (made_pair a d s)
   pair_makes a d s h = room_makes steps _ 1 s _ h (λ t f. record { leads = done_leads _ _ (made_follows steps _ t f); good = record { is = steps.grows r t f.is } })
 
-  pub hung_makes : (chain : Chain) (p : Value) (s : State) → Chained r chain → IsNew r p → Follows P r s → Makes P position r (λ c t. Chained r c) (let h = hung chain p s in Done h.0 h.1)
+  pub hung_makes : (chain : Chain) (p : Value) (s : State) → Chained r chain → IsNew r p → Follows P r s → Makes P position r (λ c t. Chained r c) (let h = pair_hung chain p s in Done h.0 h.1)
   hung_makes None p s chained new h = record { leads = done_leads _ _ h; good = record { last = new } }
   hung_makes (Some c) p s chained new h = record { leads = done_leads _ _ (cdr_set_follows steps c.1 p s chained.last h); good = record { last = new } }
 
-  pub extended_makes : (chain : Chain) (v : Value) (s : State) → Chained r chain → Follows P r s → Makes P position r (λ c t. Chained r c) (extended chain v s)
-  extended_makes chain v s chained h = then_makes (λ p t. IsNew r p) _ _ _ (pair_makes v nil s h) (λ p t f new. hung_makes chain p t chained new f)
+  pub extended_makes : (chain : Chain) (v : Value) (s : State) → Chained r chain → Follows P r s → Makes P position r (λ c t. Chained r c) (list_extended chain v s)
+  extended_makes chain v s chained h = then_makes (λ p t. IsNew r p) _ _ _ (pair_makes v nil_value_of_state s h) (λ p t f new. hung_makes chain p t chained new f)
 
-  pub ended_leads : (chain : Chain) (v : Value) (s : State) → Chained r chain → Follows P r s → LeadsAt P position r (ended chain v s)
+  pub ended_leads : (chain : Chain) (v : Value) (s : State) → Chained r chain → Follows P r s → LeadsAt P position r (list_ended chain v s)
   ended_leads None v s chained h = done_leads v s h
   ended_leads (Some c) v s chained h = done_leads c.0 _ (cdr_set_follows steps c.1 v s chained.last h)
 
   pub made_list_leads : (chain : Chain) (vs : List Value) (s : State) → Chained r chain → Follows P r s → LeadsAt P position r (made_list chain vs s)
-  made_list_leads chain [] s chained h = ended_leads chain nil s chained h
+  made_list_leads chain [] s chained h = ended_leads chain nil_value_of_state s chained h
   made_list_leads chain (v ∷ vs) s chained h = then_with (λ c t. Chained r c) _ _ (extended_makes chain v s chained h) (λ c t f good. made_list_leads c vs t good f)

@@ -3,11 +3,11 @@ use Rattle.std.proofs.Common.{◌==◌, ◌+◌, ◌&&◌, nat_lt, pos, ℕ, zer
 use Rattle.rl_tree.specs.Value.{Value, Int, Id, Str, Ref, Fun, Object}
 use Rattle.rl_tree.specs.Value as object
 use Rattle.rl_tree.specs.Atoms.{Style, Prin2}
-use Rattle.rl_tree.specs.Printing.{Page, with_text, with_atom, with_atom_of, Setting, Progress, Ending, Whole, NoTurn, TooDeep, Job, Element, Listed, Printer, marked, goes_on, and_then, with_turn_of, with_turn, with_level, places_printed, vector_printed, object_printed, value_printed, dotted_atom, rest_object, rest_printed, job_printed, printed}
+use Rattle.rl_tree.specs.Printing.{Page, with_text, with_atom, with_atom_of, Setting, Progress, Ending, Whole, NoTurn, TooDeep, PrintingJob, Element, Listed, Printer, marked, goes_on, and_then, with_turn_of, with_turn, with_level, places_printed, vector_printed, object_printed, value_printed, dotted_atom, rest_object, rest_printed, job_printed, printed}
 use Rattle.rl_meaning.specs.State.{State, Expansion}
 use Rattle.rl_meaning.specs.Constants.{reading_whole}
 use Rattle.rl_meaning.specs.Outcome.{Levels}
-use Rattle.rl_meaning.specs.Printing.{page_of, setting_in, progress_in, levels_in, Elements, turns_taken, ended_printing, with_page, after_printing, print_value, print_mark, message_rest, elements_within, dotted, message_object, message_printed, print_message, fresh_line, print_end_of_line, print_error, printing, print, linelength, note_value, note_error, note}
+use Rattle.rl_meaning.specs.Printing.{page_of, setting_in, progress_in, levels_in, Elements, turns_taken, ended_printing, with_page, after_printing, print_value, print_mark, message_rest, elements_within, dotted_message, message_object, message_printed, print_message, fresh_line, print_end_of_line, print_error, printing, print, linelength, note_value, note_error, note}
 use Rattle.rl_meaning.specs.Printing as text
 use Rattle.rl_meaning.specs.Evaluation.{Position}
 use Rattle.rl_agrees.specs.Later.{IsMore}
@@ -76,7 +76,7 @@ if_adds old false p q h k = k
 
 -- how jobs are printed only adds to a page
 abbrev pub Adding : List ℕ → Printer → Type 0
-Adding old print = (j : Job) (levels : ℕ) (p : Progress) → Adds old p → Adds old (print j levels p)
+Adding old print = (j : PrintingJob) (levels : ℕ) (p : Progress) → Adds old p → Adds old (print j levels p)
 
 module _ (old : List ℕ) where
   pub places_add : (print : Printer) → Adding old print → (first : Bool) (xs : List Value) (levels : ℕ) (p : Progress) → Adds old p → Adds old (places_printed print first xs levels p)
@@ -121,12 +121,12 @@ module _ (old : List ℕ) where
 
   -- ---- messages
 
-  message_object_rest : (g : Setting) (elements : Elements) → ((a d : Value) (levels : ℕ) (p : Progress) → Adds old p → Adds old (elements a d levels p)) → (o : Option Object) (levels : ℕ) (p : Progress) → Adds old p → Adds old (text.rest_object g elements o levels p)
+  message_object_rest : (g : Setting) (elements : Elements) → ((a d : Value) (levels : ℕ) (p : Progress) → Adds old p → Adds old (elements a d levels p)) → (o : Option Object) (levels : ℕ) (p : Progress) → Adds old p → Adds old (text.rest_of_object g elements o levels p)
   message_object_rest g elements k (Some (object.Pair a d)) levels p h = turn_adds old p _ h (λ q h. k a d levels _ (marked_adds old _ q h))
   message_object_rest g elements k (Some (object.Vector xs)) levels p h = vector_adds _ (job_adds g (suc p.turns)) xs levels _ (marked_adds old _ p h)
   message_object_rest g elements k None levels p h = h
 
-  message_dotted : (g : Setting) (v : Value) (p : Progress) → Adds old p → Adds old (dotted g v p)
+  message_dotted : (g : Setting) (v : Value) (p : Progress) → Adds old p → Adds old (dotted_message g v p)
   message_dotted g v p h = atom_adds old g v _ (marked_adds old (32 ∷ 46 ∷ 32 ∷ []) p h)
 
   pub message_rest_adds : (g : Setting) (elements : Elements) → ((a d : Value) (levels : ℕ) (p : Progress) → Adds old p → Adds old (elements a d levels p)) → (v : Value) (levels : ℕ) (p : Progress) → Adds old p → Adds old (message_rest g elements v levels p)

@@ -8,7 +8,7 @@ use Rattle.rl_meaning.specs.State.{State}
 use Rattle.rl_meaning.specs.Outcome.{Outcome, Done, Failed, Went, Returned, Stopped, Stop, Levels, deeper}
 use Rattle.rl_meaning.specs.Lists.{Chain}
 use Rattle.rl_meaning.specs.Errors.{unreadable}
-use Rattle.rl_meaning.specs.Input.{with_input, byte_number, Place, made_in, made_atom, byte_turn, entered_from, enter, ended_chain, vector_of, quoted, in_state, Reading, Form, End, Unreadable, reading_of, read_bytes, read_ended, read, readch_of, readch}
+use Rattle.rl_meaning.specs.Input.{with_input, byte_number, ReadingPlace, made_in, made_atom, byte_turn, entered_from, enter, ended_chain, vector_of_chain, quoted_value, in_state, FormReading, Form, End, Unreadable, form_reading_of, read_bytes, read_ended, read, readch_of, readch}
 use Rattle.rl_meaning.specs.Evaluation.{Position, Inside}
 use Rattle.rl_agrees.proofs.OneRun.{StepsAt, Follows, LeadsAt, Leads, Makes, follows_then, done_leads, stopped_leads, makes_any, deeper_leads}
 use Rattle.rl_agrees.proofs.OneRunObjects.{leading, fail_leads, Chained, chained_none, cdr_set_follows, extended_makes}
@@ -27,10 +27,10 @@ module _ {freely : Bool} {P : State → State → Type 0} (steps : StepsAt freel
   byte_leads true s h = search leading
   byte_leads false s h = search leading
 
-  pub vector_of_leads : (chain : Chain) (s : State) → Follows P r s → LeadsAt P position r (vector_of chain s)
+  pub vector_of_leads : (chain : Chain) (s : State) → Follows P r s → LeadsAt P position r (vector_of_chain chain s)
   vector_of_leads chain s h = search leading
 
-  pub quoted_leads : (v : Value) (s : State) → Follows P r s → LeadsAt P position r (quoted v s)
+  pub quoted_leads : (v : Value) (s : State) → Follows P r s → LeadsAt P position r (quoted_value v s)
   quoted_leads v s h = search leading
 
   pub ended_chain_makes : (chain : Chain) (v : Value) (s : State) → Chained r chain → Follows P r s → Makes P position r (λ c t. Chained r c) (ended_chain chain v s)
@@ -40,7 +40,7 @@ module _ {freely : Bool} {P : State → State → Type 0} (steps : StepsAt freel
 -- ---- what is made in a state
 
 module _ (P : State → State → Type 0) (r : State) where
-  abbrev pub Kept : Place → Type 0
+  abbrev pub Kept : ReadingPlace → Type 0
   Kept place = Follows P r place.state
 
   abbrev pub Good : Chain → Type 0
@@ -60,14 +60,14 @@ module _ (P : State → State → Type 0) (r : State) where
   entered_gives levels (Returned v s) h = record { is = record { is = h.moves } }
   entered_gives levels (Stopped why s) h = record { is = record { is = h.moves } }
 
-  pub reading_leads : {position : Position} (bytes : List ℕ) (o : reader.Outcome Place Value Stop) → Reads Kept Good o → LeadsAt P position r (reading_of bytes o)
+  pub reading_leads : {position : Position} (bytes : List ℕ) (o : reader.ReaderOutcome ReadingPlace Value Stop) → Reads Kept Good o → LeadsAt P position r (form_reading_of bytes o)
   reading_leads bytes (reader.Read v place rest) h = done_leads _ _ h.is
   reading_leads bytes (reader.NoneLeft place) h = done_leads _ _ h.is
   reading_leads bytes (reader.Refused place from) h = done_leads _ _ h.is
   reading_leads bytes (reader.Stopped why place rest) h = stopped_leads _ _ h.is
 
 module _ {freely : Bool} {P : State → State → Type 0} (steps : StepsAt freely P) (r : State) where
-  pub enter_gives : (place : Place) → Follows P r place.state → Gives (Kept P r) (Good P r) (λ (u : Unit {0}). Unit {0}) (enter place)
+  pub enter_gives : (place : ReadingPlace) → Follows P r place.state → Gives (Kept P r) (Good P r) (λ (u : Unit {0}). Unit {0}) (enter place)
   enter_gives place h = entered_gives P r place.levels (deeper 1 place.levels place.state (λ levels. Done levels place.state)) (deeper_leads steps 1 place.levels place.state _ h (λ l. search leading))
 
   pub in_state_kept : (turns : Bool) → IsKept (Kept P r) (Good P r) (in_state turns)
@@ -80,14 +80,14 @@ module _ {freely : Bool} {P : State → State → Type 0} (steps : StepsAt freel
     extended = λ chain v place good h. made_gives P r (Good P r) place.levels _ (extended_makes steps chain v place.state good h);
     ended = λ chain v place good h. made_gives P r (Good P r) place.levels _ (ended_chain_makes steps chain v place.state good h);
     vector = λ chain place h. made_gives P r _ place.levels _ (makes_any _ (vector_of_leads steps chain place.state h));
-    quoted = λ v place h. made_gives P r _ place.levels _ (makes_any _ (quoted_leads steps v place.state h));
+    quoted_value = λ v place h. made_gives P r _ place.levels _ (makes_any _ (quoted_leads steps v place.state h));
   }
 
 module _ {freely : Bool} {P : State → State → Type 0} (steps : StepsAt freely P) {position : Position} {r : State} where
   pub read_bytes_leads : (turns : Bool) (levels : Levels) (bytes : List ℕ) (s : State) → Follows P r s → LeadsAt P position r (read_bytes turns levels bytes s)
   read_bytes_leads turns levels bytes s h = reading_leads P r bytes _ (reads (Kept P r) (Good P r) (in_state turns) (in_state_kept steps r turns) (record { state = s; levels = levels }) bytes h)
 
-  pub read_ended_leads : (taken : ℕ) (reading : Reading) (s : State) → Follows P r s → LeadsAt P position r (read_ended taken reading s)
+  pub read_ended_leads : (taken : ℕ) (reading : FormReading) (s : State) → Follows P r s → LeadsAt P position r (read_ended taken reading s)
   read_ended_leads taken (Form v rest) s h = search (leading, input_follows)
   read_ended_leads taken End s h = search (leading, input_follows)
   read_ended_leads taken (Unreadable k from) s h = fail_leads steps unreadable (byte_number (taken + k)) (with_input (drop 1 from) s) (input_follows steps (drop 1 from) s h)

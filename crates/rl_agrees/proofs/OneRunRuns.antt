@@ -4,13 +4,13 @@ use Rattle.rl_tree.specs.Value.{Value}
 use Rattle.rl_tree.specs.Name.{Name}
 use Rattle.rl_meaning.specs.State.{State, Function, SpecialForm, NativeFunction, HeldFunction}
 use Rattle.rl_meaning.specs.Outcome.{Outcome, Done, Failed, Went, Returned, Stopped, Levels}
-use Rattle.rl_meaning.specs.Symbols.{nil}
+use Rattle.rl_meaning.specs.Symbols.{nil_value_of_state}
 use Rattle.rl_meaning.specs.Errors.{error_text, unreadable}
 use Rattle.rl_meaning.specs.Holding.{pointer_to, function_at}
 use Rattle.rl_meaning.specs.Printing.{page_of}
-use Rattle.rl_meaning.specs.Input.{Reading, Form, End, Unreadable}
+use Rattle.rl_meaning.specs.Input.{FormReading, Form, End, Unreadable}
 use Rattle.rl_meaning.specs.Evaluation.{longest_chain, Inside}
-use Rattle.rl_meaning.specs.Run.{Ran, held_evaluated, statement, after_statement, print_atom, print_unreadable, behind_line, goes_on, read_and_run, run_within, run_bytes, source_of, run_file}
+use Rattle.rl_meaning.specs.Run.{Ran, held_evaluated, statement, after_statement, print_atom, print_unreadable, behind_line, run_goes_on, read_and_run, run_within, run_bytes, source_of, run_file}
 use Rattle.rl_agrees.proofs.OneRun.{Steps, Prints, Follows, Leads, done_leads, stopped_leads, then_leads}
 use Rattle.rl_agrees.proofs.OneRunHolding.{hold_form_leads}
 use Rattle.rl_agrees.proofs.OneRunPrinting.{more_same, atom_more, page_follows, print_mark_follows, end_of_line_follows, fresh_line_follows, print_error_leads}
@@ -23,8 +23,8 @@ module _ {P : State → State → Type 0} (steps : Steps P) (prints : Prints P) 
 
   pub held_evaluated_leads : (levels : Levels) (f : ℕ) (function : Function) (s : State) → Follows P r s → Leads P r (held_evaluated levels f function s)
   held_evaluated_leads levels f (HeldFunction held) s h = eval_leads (the_jobs_keep steps prints) (record { levels = levels; chain = longest_chain; kept = held.kept; holder = f }) Inside held.body s h
-  held_evaluated_leads levels f (SpecialForm form) s h = done_leads nil s h
-  held_evaluated_leads levels f (NativeFunction native) s h = done_leads nil s h
+  held_evaluated_leads levels f (SpecialForm form) s h = done_leads nil_value_of_state s h
+  held_evaluated_leads levels f (NativeFunction native) s h = done_leads nil_value_of_state s h
 
   pub statement_leads : (levels : Levels) (v : Value) (s : State) → Follows P r s → Leads P r (statement levels v s)
   statement_leads levels v s h = then_leads _ _ (hold_form_leads steps levels v s h) (λ f t h. held_evaluated_leads levels f (function_at t (pointer_to f)) t h)
@@ -47,14 +47,14 @@ module _ {P : State → State → Type 0} (steps : Steps P) (prints : Prints P) 
 
   -- ---- runs
 
-  pub goes_on_follows : {A : Type 0} (o : Outcome A) (next : A → State → Ran) → Leads P r o → ((a : A) (t : State) → Follows P r t → Follows P r (next a t).state) → Follows P r (goes_on o next).state
+  pub goes_on_follows : {A : Type 0} (o : Outcome A) (next : A → State → Ran) → Leads P r o → ((a : A) (t : State) → Follows P r t → Follows P r (next a t).state) → Follows P r (run_goes_on o next).state
   goes_on_follows (Done a t) next h k = k a t (record { is = h.moves })
   goes_on_follows (Failed n m t) next h k = record { is = h.moves }
   goes_on_follows (Went l t) next h k = record { is = h.moves }
   goes_on_follows (Returned v t) next h k = record { is = h.moves }
   goes_on_follows (Stopped why t) next h k = record { is = h.moves }
 
-  pub read_and_run_follows : (levels : Levels) (size : ℕ) (further : List ℕ → State → Ran) → ((bytes : List ℕ) (t : State) → Follows P r t → Follows P r (further bytes t).state) → (reading : Reading) (s : State) → Follows P r s → Follows P r (read_and_run levels size further reading s).state
+  pub read_and_run_follows : (levels : Levels) (size : ℕ) (further : List ℕ → State → Ran) → ((bytes : List ℕ) (t : State) → Follows P r t → Follows P r (further bytes t).state) → (reading : FormReading) (s : State) → Follows P r s → Follows P r (read_and_run levels size further reading s).state
   read_and_run_follows levels size further k (Form v rest) s h = goes_on_follows _ _ (after_statement_leads levels _ (statement_leads levels v s h)) (λ done t h. k rest t h)
   read_and_run_follows levels size further k End s h = h
   read_and_run_follows levels size further k (Unreadable n from) s h = k (behind_line from) _ (print_unreadable_follows (size - length from) s h)

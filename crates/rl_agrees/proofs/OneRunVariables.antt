@@ -4,13 +4,13 @@ use Rattle.rl_tree.specs.Value.{Value, Int}
 use Rattle.rl_tree.specs.declared.held.VarKind.{VarKind}
 use Rattle.rl_tree.specs.declared.held.VarKind.TheVariants as kind
 use Rattle.rl_meaning.specs.Names.{Operation}
-use Rattle.rl_meaning.specs.Constants.{reading}
+use Rattle.rl_meaning.specs.Constants.{reading_object}
 use Rattle.rl_meaning.specs.Names as names
 use Rattle.rl_meaning.specs.State.{State, Kept, Scope, Pointer, Binding, Mark}
 use Rattle.rl_meaning.specs.Outcome.{Outcome, Done, Failed, Went, Returned, Stopped, Levels}
-use Rattle.rl_meaning.specs.Symbols.{nil, pair_at}
-use Rattle.rl_meaning.specs.Variables.{Nearest, strays, top_value, used, nearest, variable, with_value, set_by, assigned, assigned_by_name, with_binding, with_mark, bound_as, bind, bind_all, binding_levels, with_oldest, restored, binding}
-use Rattle.rl_meaning.specs.Numbers.{integer, power, raised_to, of_two, of_one, with_integer, operated}
+use Rattle.rl_meaning.specs.Symbols.{nil_value_of_state, pair_at}
+use Rattle.rl_meaning.specs.Variables.{Nearest, strays, top_value, variable_used, nearest, variable, with_value, set_by, assigned, assigned_by_name, with_binding, with_mark, bound_as, bind, bind_all, binding_levels, with_oldest, restored, binding}
+use Rattle.rl_meaning.specs.Numbers.{integer, power_within, raised_to, of_two, of_one, with_integer, operated}
 use Rattle.rl_meaning.specs.Lists.{with_pair, part, with_car, with_cdr, Chain, append, reversed, list_length, first_pair, member, memq, associated, assoc, joined, nconc, and_goes}
 use Rattle.rl_meaning.specs.Walks.{Goes, Walked}
 use Rattle.rl_meaning.specs.Evaluation.{Position}
@@ -44,7 +44,7 @@ module _ {freely : Bool} {P : State → State → Type 0} (steps : StepsAt freel
   top_value_leads (Some v) x s h = search leading
   top_value_leads None x s h = search leading
 
-  pub used_leads : (o : Option Nearest) (x : ℕ) (s : State) → Follows P r s → LeadsAt P position r (used o x s)
+  pub used_leads : (o : Option Nearest) (x : ℕ) (s : State) → Follows P r s → LeadsAt P position r (variable_used o x s)
   used_leads None x s h = search top_value_leads
   used_leads (Some b) x s h = search (leading, strays_follows)
 
@@ -71,7 +71,7 @@ module _ {freely : Bool} {P : State → State → Type 0} (steps : StepsAt freel
   pub bind_all_leads : (kept : List Kept) (xs : List ℕ) (vs : List Value) (s : State) → Follows P r s → LeadsAt P position r (bind_all kept xs vs s)
   bind_all_leads kept [] vs s h = search leading
   bind_all_leads kept (x ∷ xs) (v ∷ vs) s h = then_leads _ _ (bind_leads kept x v s h) (λ done t f. bind_all_leads kept xs vs t f)
-  bind_all_leads kept (x ∷ xs) [] s h = then_leads _ _ (bind_leads kept x nil s h) (λ done t f. bind_all_leads kept xs [] t f)
+  bind_all_leads kept (x ∷ xs) [] s h = then_leads _ _ (bind_leads kept x nil_value_of_state s h) (λ done t f. bind_all_leads kept xs [] t f)
 
   pub restored_leads : {A : Type 0} (s : State) (o : Outcome A) → Follows P r s → LeadsAt P position r o → LeadsAt P position r (restored (length s.bindings) o)
   restored_leads s (Done a t) f h = done_leads a _ (oldest_follows steps s t f (record { is = h.moves }))
@@ -89,7 +89,7 @@ module _ {freely : Bool} {P : State → State → Type 0} (steps : StepsAt freel
   pub integer_leads : (o : Operation) (z : ℤ) (s : State) → Follows P r s → LeadsAt P position r (integer o z s)
   integer_leads o z s h = search leading
 
-  pub power_leads : (o : Operation) (u : ℤ) (n : ℕ) (s : State) → Follows P r s → LeadsAt P position r (power o u n s)
+  pub power_leads : (o : Operation) (u : ℤ) (n : ℕ) (s : State) → Follows P r s → LeadsAt P position r (power_within o u n s)
   power_leads o u n s h = search (leading, integer_leads)
 
   pub raised_to_leads : (o : Operation) (u z : ℤ) (s : State) → Follows P r s → LeadsAt P position r (raised_to o u z s)
@@ -135,7 +135,7 @@ module _ {freely : Bool} {P : State → State → Type 0} (steps : StepsAt freel
 
   pub part_leads : (path : List Bool) (v : Value) (s : State) → Follows P r s → LeadsAt P position r (part path v s)
   part_leads [] v s h = search leading
-  part_leads (first ∷ path) v s h = with_pair_leads (pair_at s v) v s _ h (λ p t f. part_leads path _ (reading v t) (reading_follows steps v t f))
+  part_leads (first ∷ path) v s h = with_pair_leads (pair_at s v) v s _ h (λ p t f. part_leads path _ (reading_object v t) (reading_follows steps v t f))
 
   pub with_car_leads : (u v : Value) (s : State) → Follows P r s → LeadsAt P position r (with_car u v s)
   with_car_leads u v s h = search (leading, with_pair_leads, changed_follows)

@@ -5,7 +5,7 @@ use Rattle.rl_meaning.specs.State.{State}
 use Rattle.rl_meaning.specs.Outcome.{Outcome, Done, Failed, Went, Returned, Stopped, turns_left, Levels}
 use Rattle.rl_meaning.specs.Symbols.{pair_at, vector_at}
 use Rattle.rl_meaning.specs.Walks.{Further, Goes, Ends, Walked, walk_on, walk_pair, walk_within, walk, Comparison, both, reading_both, places_equal, vectors_equal, objects_equal, equal_at, equal_within, equal}
-use Rattle.rl_meaning.specs.Constants.{reading}
+use Rattle.rl_meaning.specs.Constants.{reading_object}
 use Rattle.rl_meaning.specs.Evaluation.{Position}
 use Rattle.rl_agrees.proofs.OneRun.{StepsAt, Follows, LeadsAt, Makes, done_makes, then_makes, turn_makes, then_leads, choose_leads, turn_leads, descends_leads, pair_turn_leads}
 use Rattle.rl_agrees.proofs.OneRunObjects.{leading, reading_follows}
@@ -29,7 +29,7 @@ module _ {freely : Bool} {P : State → State → Type 0} (steps : StepsAt freel
   pub walk_pair_makes : (further : A → Value → State → Outcome (Walked A)) → ((a : A) (v : Value) (s : State) → Follows P r s → Good a → Comes (further a v s)) → (o : Option (Value × Value)) (a : A) (v : Value) (s : State) → Follows P r s → Good a → Comes (walk_pair visit further o a v s)
   walk_pair_makes further k None a v s h good = done_makes _ _ s h good
   walk_pair_makes further k (Some parts) a v s h good =
-      turn_makes steps _ s _ h (λ t f. then_makes (FurtherIs Good) _ _ _ (visits a v parts.0 (reading v t) (reading_follows steps v t f) good) (λ next u f good. walk_on_makes further k parts.1 next u f good))
+      turn_makes steps _ s _ h (λ t f. then_makes (FurtherIs Good) _ _ _ (visits a v parts.0 (reading_object v t) (reading_follows steps v t f) good) (λ next u f good. walk_on_makes further k parts.1 next u f good))
 
   pub walk_within_makes : (n : ℕ) (a : A) (v : Value) (s : State) → Follows P r s → Good a → Comes (walk_within visit n a v s)
   walk_within_makes zero a v s h good = record { leads = search leading; good = tt }

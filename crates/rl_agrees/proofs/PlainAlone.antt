@@ -9,7 +9,7 @@ use Rattle.rl_meaning.specs.Evaluation.{Here, Run, From, opened_expansion, with_
 use Rattle.rl_meaning.specs.Jobs.{code_outside, code_of, run_held, job_at, job, jobs, rank, the_compiler}
 use Rattle.rl_meaning.specs.Opening.{state_of}
 use Rattle.rl_meaning.specs.TwoRunsValues.{Names, Maybe, nothing, just, Each, end, more, SameSymbol, same_symbol, SameDefinition, same_definition, same_pointer}
-use Rattle.rl_meaning.specs.TwoRunsStates.{Bounds, SameStore, SameFunctions, Place, IsRoomier, Like}
+use Rattle.rl_meaning.specs.TwoRunsStates.{Bounds, SameStore, SameFunctions, EntryPlace, IsRoomier, Like}
 use Rattle.rl_meaning.specs.Plain.{have_plain, IsPlain}
 use Rattle.rl_agrees.specs.Expanding.{IsLonger, NoMore, OnlyMakes, PlainExpandsAlone}
 use Rattle.rl_agrees.proofs.TwoRunsLinked.{get_left}
@@ -130,7 +130,7 @@ more_bounded None (Some m) h = absurd h
 more_bounded (Some l) None h = absurd h
 
 module _ {bounds : Bounds} where
-  pub like_alone : (n : Names) (ps : List Place) (s t u : State) → Like bounds n ps s t → OnlyMakes t u → Like bounds n ps s u
+  pub like_alone : (n : Names) (ps : List EntryPlace) (s t u : State) → Like bounds n ps s t → OnlyMakes t u → Like bounds n ps s u
   like_alone n ps s t u l o = record {
     store = store_alone n s.store t.store u.store o.store l.store;
     functions = functions_alone n s.functions t.functions u.functions o.functions l.functions;
@@ -162,7 +162,7 @@ symbols_ranged n s t xs ys h (more _ _ as' bs (same_symbol name interned system 
 symbols_ranged n s t xs ys h (more _ _ as' bs g r) (suc i) = symbols_ranged n s t as' bs h r i
 
 module _ {bounds : Bounds} where
-  like_ranged : (n : Names) (ps : List Place) (s t : State) → Like bounds n ps s t → InRange t
+  like_ranged : (n : Names) (ps : List EntryPlace) (s t : State) → Like bounds n ps s t → InRange t
   like_ranged n ps s t l = record { is = λ i d e. subst (λ o. Ranged t.functions o) e (symbols_ranged n s.functions t.functions s.symbols t.symbols l.functions l.symbols i) }
 
 pub plain_alone : PlainExpandsAlone

@@ -8,7 +8,7 @@ use Rattle.rl_meaning.specs.Names.{Special, Quote, Cond, Progn, And, Or, Setq, P
 use Rattle.rl_meaning.specs.Names as names
 use Rattle.rl_meaning.specs.State.{State, Entry, Mark, Tree, Atom, Quoted, Pair, Literal, Held, Pointer, Definition, Function, SpecialForm, NativeFunction, HeldFunction}
 use Rattle.rl_meaning.specs.Outcome.{Outcome, Done, Failed, Went, Returned, Stopped, Levels, choose}
-use Rattle.rl_meaning.specs.Symbols.{nil, is_nil, truth, return_id, symbol_at}
+use Rattle.rl_meaning.specs.Symbols.{nil_value_of_state, is_nil, truth, return_number, symbol_at}
 use Rattle.rl_meaning.specs.Errors.{wrong_count, misplaced, badly_formed}
 use Rattle.rl_meaning.specs.Constants.{is_among}
 use Rattle.rl_meaning.specs.Holding.{is_list, function_at}
@@ -226,7 +226,7 @@ module _ (b : State) (plain : List ℕ) (ranged : InRange b) (exprs : have_plain
                   | Quote ↦ λ e. deeper_stays b _ _ 1 here.levels s _ (λ l. choose_stays b _ _ (fits Quote args) s _ _ (quoted_stays scope args s k) (fail_stays b _ _ badly_formed (atom_in rec head) s k))
                   | names.Function ↦ λ e. never e
                   | Cond ↦ λ e. fitting scope here (fits Cond args) (are_plain_clauses b plain scope args) (atom_in rec head) s (λ here s. clauses rec here position args s) e k (λ p here. clauses_stay scope here position args s p k)
-                  | Progn ↦ λ e. fitting scope here (fits Progn args) (are_plain b plain scope args) (atom_in rec head) s (λ here s. progn rec here position nil args s) e k (λ p here. progn_stay scope here position nil args s p k)
+                  | Progn ↦ λ e. fitting scope here (fits Progn args) (are_plain b plain scope args) (atom_in rec head) s (λ here s. progn rec here position nil_value_of_state args s) e k (λ p here. progn_stay scope here position nil_value_of_state args s p k)
                   | And ↦ λ e. fitting scope here (fits And args) (are_plain b plain scope args) (atom_in rec head) s (λ here s. conjunction rec here (truth true) args s) e k (λ p here. conjunction_stays scope here (truth true) args s p k)
                   | Or ↦ λ e. fitting scope here (fits Or args) (are_plain b plain scope args) (atom_in rec head) s (λ here s. disjunction rec here args s) e k (λ p here. disjunction_stays scope here args s p k)
                   | Setq ↦ λ e. fitting scope here (fits Setq args) (sets_plainly b plain scope args) (atom_in rec head) s (λ here s. setq rec here args s) e k (λ p here. setq_stays scope here args s p k)
@@ -282,7 +282,7 @@ module _ (b : State) (plain : List ℕ) (ranged : InRange b) (exprs : have_plain
 
       returning_stays : (scope : List ℕ) (here : Here) (position : Position) (t : Tree) (s : State) → are_plain b plain scope t ≡ true → At scope s → In scope (returning rec here position t s)
       returning_stays scope here position (Pair e end) s h k =
-          misplaced_stays scope position (Id return_id) s _ k (then_stays b _ _ _ _ (eval_stays scope here Inside e s (and_left _ (are_plain b plain scope end) h) k) (λ v t k. record { ends = k }))
+          misplaced_stays scope position (Id return_number) s _ k (then_stays b _ _ _ _ (eval_stays scope here Inside e s (and_left _ (are_plain b plain scope end) h) k) (λ v t k. record { ends = k }))
       returning_stays scope here position t s h k = record { ends = k }
 
       prog_stays : (scope : List ℕ) (here : Here) (t : Tree) (s : State) → is_plain_prog b plain scope t ≡ true → At scope s → In scope (prog rec here t s)

@@ -4,8 +4,8 @@ use Rattle.rl_tree.specs.Value.{Value, Id}
 use Rattle.rl_tree.specs.Value as object
 use Rattle.rl_meaning.specs.State.{State, Entry, Tree, Atom, Quoted, Pair, Literal, Kept}
 use Rattle.rl_meaning.specs.Outcome.{Outcome, Done, turns_left, Levels}
-use Rattle.rl_meaning.specs.Symbols.{nil, pair_at}
-use Rattle.rl_meaning.specs.Holding.{function_id, Reader, read_quoted, quoted_part, read_parts, list_within, read_list, read_form, hold_tree, hold_expansion}
+use Rattle.rl_meaning.specs.Symbols.{nil_value_of_state, pair_at}
+use Rattle.rl_meaning.specs.Holding.{function_number, Reader, read_quoted, quoted_part, read_parts, list_within, read_list, read_form, hold_tree, hold_expansion}
 use Rattle.rl_meaning.specs.Copying.{copied_parts, copied_pair, copied_at, copied}
 use Rattle.rl_agrees.proofs.PlainWays.{then_ends, Stays, Leaves, pair_turn_ends, room_ends}
 use Rattle.rl_agrees.proofs.PlainObjects.{IsNew, longer_more, with_functions_stays, object_stays, pair_new, staying}
@@ -52,11 +52,11 @@ module _ (b : State) (B : List Entry → Type 0) (Q : State → Type 0) where
   copied_parts_stays : (pair : Value) (first rest : State → Outcome Value) → IsNew b pair → Acts first → Acts rest → Acts (copied_parts pair first rest)
   copied_parts_stays pair first rest new f g s k =
       then_ends _ _ Q _ _ (f s k) (λ a t k.
-      then_ends _ _ Q _ _ (g _ (object_stays b B pair (object.Pair a nil) t new k)) (λ d u k. record { ends = object_stays b B pair (object.Pair a d) u new k }))
+      then_ends _ _ Q _ _ (g _ (object_stays b B pair (object.Pair a nil_value_of_state) t new k)) (λ d u k. record { ends = object_stays b B pair (object.Pair a d) u new k }))
 
   copied_pair_stays : (descent : Bool) (levels : Levels) (first rest : Levels → State → Outcome Value) → ActsAt first → ActsAt rest → Acts (λ s. copied_pair descent levels first rest s)
   copied_pair_stays descent levels first rest f g s k =
-      pair_turn_ends b B _ Q descent levels s _ k (λ l t k. then_ends _ _ Q _ _ (pair_new b B Q nil nil t k) (λ pair u r. copied_parts_stays pair (λ s. first l s) (λ s. rest l s) r.0 (f l) (g l) u r.1))
+      pair_turn_ends b B _ Q descent levels s _ k (λ l t k. then_ends _ _ Q _ _ (pair_new b B Q nil_value_of_state nil_value_of_state t k) (λ pair u r. copied_parts_stays pair (λ s. first l s) (λ s. rest l s) r.0 (f l) (g l) u r.1))
 
   copied_at_stays : (descent : Bool) (levels : Levels) (t : Tree) (s : State) → Stays b B s → Leaves b B Q (copied_at descent levels t s)
   copied_at_stays descent levels (Atom v) s k = search staying
@@ -64,8 +64,8 @@ module _ (b : State) (B : List Entry → Type 0) (Q : State → Type 0) where
   copied_at_stays descent levels (Pair a d) s k =
       copied_pair_stays descent levels (λ l s. copied_at true l a s) (λ l s. copied_at false l d s) (λ l s k. copied_at_stays true l a s k) (λ l s k. copied_at_stays false l d s k) s k
   copied_at_stays descent levels (Literal n e) s k =
-      copied_pair_stays descent levels (λ l s. Done (Id function_id) s) (λ l s. copied_pair false l (λ l s. copied_at true l e s) (λ l s. Done nil s) s) (λ l s k. record { ends = k })
-      (λ l s k. copied_pair_stays false l (λ l s. copied_at true l e s) (λ l s. Done nil s) (λ l s k. copied_at_stays true l e s k) (λ l s k. record { ends = k }) s k) s k
+      copied_pair_stays descent levels (λ l s. Done (Id function_number) s) (λ l s. copied_pair false l (λ l s. copied_at true l e s) (λ l s. Done nil_value_of_state s) s) (λ l s k. record { ends = k })
+      (λ l s k. copied_pair_stays false l (λ l s. copied_at true l e s) (λ l s. Done nil_value_of_state s) (λ l s k. copied_at_stays true l e s k) (λ l s k. record { ends = k }) s k) s k
 
   pub copied_stays : (levels : Levels) (t : Tree) (s : State) → Stays b B s → Leaves b B Q (copied levels t s)
   copied_stays levels t s k = copied_at_stays false levels t s k

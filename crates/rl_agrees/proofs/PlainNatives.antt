@@ -5,12 +5,12 @@ use Rattle.rl_meaning.specs.Names.{Test, Operation, Native, Tests, Eq, Equal, Pa
 use Rattle.rl_meaning.specs.Names as names
 use Rattle.rl_meaning.specs.State.{State, Entry}
 use Rattle.rl_meaning.specs.Outcome.{Outcome, turns_left, Levels}
-use Rattle.rl_meaning.specs.Symbols.{nil, same, pair_at, vector_at}
-use Rattle.rl_meaning.specs.Constants.{reading}
+use Rattle.rl_meaning.specs.Symbols.{nil_value_of_state, same, pair_at, vector_at}
+use Rattle.rl_meaning.specs.Constants.{reading_object}
 use Rattle.rl_meaning.specs.Walks.{Further, Goes, Walked, walk_on, walk_pair, walk_within, walk, Comparison, both, reading_both, places_equal, vectors_equal, objects_equal, equal_at, equal_within, equal}
 use Rattle.rl_meaning.specs.Walks as walks
-use Rattle.rl_meaning.specs.Numbers.{integer, power, of_two, of_one, with_integer, operated}
-use Rattle.rl_meaning.specs.Lists.{with_pair, part, cdr_set, Chain, hung, extended, ended, append, reversed, list_length, first_pair, associated, assoc, and_goes}
+use Rattle.rl_meaning.specs.Numbers.{integer, power_within, of_two, of_one, with_integer, operated}
+use Rattle.rl_meaning.specs.Lists.{with_pair, part, cdr_set, Chain, pair_hung, list_extended, list_ended, append, reversed, list_length, first_pair, associated, assoc, and_goes}
 use Rattle.rl_meaning.specs.Natives.{argument}
 use Rattle.rl_meaning.specs.Evaluation.{Rec, native_applied}
 use Rattle.rl_meaning.specs.Plain.{is_pure}
@@ -39,7 +39,7 @@ module _ (b : State) (B : List Entry → Type 0) (Q : State → Type 0) where
     walk_pair_ends h further f None a v s i k = record { ends = (i, k) }
     walk_pair_ends h further f (Some parts) a v s i k =
         turn_ends b B _ Q s _ k (λ t k.
-        then_ends _ _ Q _ _ (h a v parts.0 (reading v t) i (watched_stays b B t _ k)) (λ next u r. walk_on_ends further f parts.1 next u r.0 r.1))
+        then_ends _ _ Q _ _ (h a v parts.0 (reading_object v t) i (watched_stays b B t _ k)) (λ next u r. walk_on_ends further f parts.1 next u r.0 r.1))
 
     walk_within_ends : Visits → (n : ℕ) (a : A) (v : Value) (s : State) → I a → Stays b B s → Comes (walk_within visit n a v s)
     walk_within_ends h zero a v s i k = record { ends = tt }
@@ -102,20 +102,20 @@ module _ (b : State) (B : List Entry → Type 0) (Q : State → Type 0) where
     | Some parts ↦ object_stays b B p _ s new k
   ]
 
-  hung_stays : (chain : Chain) (p : Value) (s : State) → NewChain chain → IsNew b p → Stays b B s → NewChain (hung chain p s).0 × Stays b B (hung chain p s).1
+  hung_stays : (chain : Chain) (p : Value) (s : State) → NewChain chain → IsNew b p → Stays b B s → NewChain (pair_hung chain p s).0 × Stays b B (pair_hung chain p s).1
   hung_stays None p s c new k = (new, k)
   hung_stays (Some c) p s last new k = (new, cdr_set_stays c.1 p s last k)
 
-  extended_ends : (chain : Chain) (v : Value) (s : State) → NewChain chain → Stays b B s → Ends (λ c t. NewChain c × Stays b B t) Q (extended chain v s)
-  extended_ends chain v s c k = then_ends _ _ Q _ _ (pair_new b B Q v nil s k) (λ p t r. record { ends = hung_stays chain p t c r.0 r.1 })
+  extended_ends : (chain : Chain) (v : Value) (s : State) → NewChain chain → Stays b B s → Ends (λ c t. NewChain c × Stays b B t) Q (list_extended chain v s)
+  extended_ends chain v s c k = then_ends _ _ Q _ _ (pair_new b B Q v nil_value_of_state s k) (λ p t r. record { ends = hung_stays chain p t c r.0 r.1 })
 
-  ended_stays : (chain : Chain) (v : Value) (s : State) → NewChain chain → Stays b B s → Leaves b B Q (ended chain v s)
+  ended_stays : (chain : Chain) (v : Value) (s : State) → NewChain chain → Stays b B s → Leaves b B Q (list_ended chain v s)
   ended_stays None v s c k = record { ends = k }
   ended_stays (Some c) v s last k = record { ends = cdr_set_stays c.1 v s last k }
 
   append_stays : (u v : Value) (s : State) → Stays b B s → Leaves b B Q (append u v s)
   append_stays u v s k =
-      then_ends _ _ Q _ _ (walk_ends (λ chain pair x s. and_goes (extended chain x s)) NewChain (λ chain pair x s c k. then_ends _ _ Q _ _ (extended_ends chain x s c k) (λ a t r. record { ends = r })) None u s tt k)
+      then_ends _ _ Q _ _ (walk_ends (λ chain pair x s. and_goes (list_extended chain x s)) NewChain (λ chain pair x s c k. then_ends _ _ Q _ _ (extended_ends chain x s c k) (λ a t r. record { ends = r })) None u s tt k)
       (λ walked t r. ended_stays walked.result v t r.0 r.1)
 
   -- ---- walks that make no such list
@@ -153,7 +153,7 @@ module _ (b : State) (B : List Entry → Type 0) (Q : State → Type 0) where
   integer_stays : (o : Operation) (z : ℤ) (s : State) → Stays b B s → Leaves b B Q (integer o z s)
   integer_stays o z s k = search staying
 
-  power_stays : (o : Operation) (u : ℤ) (n : ℕ) (s : State) → Stays b B s → Leaves b B Q (power o u n s)
+  power_stays : (o : Operation) (u : ℤ) (n : ℕ) (s : State) → Stays b B s → Leaves b B Q (power_within o u n s)
   power_stays o u n s k = search (staying, integer_stays)
 
   of_two_stays : (o : Operation) (u z : ℤ) (s : State) → Stays b B s → Leaves b B Q (of_two o u z s)

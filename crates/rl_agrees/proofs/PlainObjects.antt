@@ -1,13 +1,13 @@
 -- What an expansion makes: objects and functions behind those that were there; and the objects that it makes may be changed.
 use Rattle.std.proofs.Common.{◌≡◌, ◌≤◌, ◌+◌, ◌-◌, ℕ, suc, Bool, true, false, List, [], ◌∷◌, ◌++◌, length, slice_set, sym, ◌∙◌, ap, subst, arith}
 use Rattle.std.proofs.Common.{length-append}
-use Rattle.std.proofs.lemmas.List.{append_assoc, append-nil}
+use Rattle.std.proofs.lemmas.List.{append_assoc, append-nil_value_of_state}
 use Rattle.rl_tree.specs.Value.{Value, Int, Id, Str, Ref, Fun, Object, Store}
 use Rattle.rl_meaning.specs.State.{State, Entry, Function}
 use Rattle.rl_meaning.specs.Outcome.{Outcome, choose, turn, Levels, deeper, pair_turn, made_pair}
-use Rattle.rl_meaning.specs.Symbols.{nil}
+use Rattle.rl_meaning.specs.Symbols.{nil_value_of_state}
 use Rattle.rl_meaning.specs.Errors.{fail}
-use Rattle.rl_meaning.specs.Constants.{reading}
+use Rattle.rl_meaning.specs.Constants.{reading_object}
 use Rattle.rl_meaning.specs.Copying.{with_object}
 use Rattle.rl_agrees.specs.Expanding.{IsLonger}
 use Rattle.rl_agrees.proofs.PlainWays.{Ends, then_ends, Stays, Leaves, done_stays, then_stays, watched_stays, turn_ends, deeper_ends, pair_turn_ends, room_ends}
@@ -15,7 +15,7 @@ use Rattle.rl_agrees.proofs.PlainWays.{Ends, then_ends, Stays, Leaves, done_stay
 -- ---- longer lists
 
 pub longer_refl : {A : Type 0} (xs : List A) → IsLonger xs xs
-longer_refl xs = record { more = []; is = sym (append-nil xs) }
+longer_refl xs = record { more = []; is = sym (append-nil_value_of_state xs) }
 
 pub longer_more : {A : Type 0} (xs ys zs : List A) → IsLonger xs ys → IsLonger xs (ys ++ zs)
 longer_more xs ys zs l = record { more = l.more ++ zs; is = ap (λ y. y ++ zs) l.is ∙ append_assoc xs l.more zs }
@@ -71,7 +71,7 @@ pair_stays b B Q a d s k = room_ends b B _ Q 1 s _ k (λ t k. record { ends = wi
 
 pub fail_ends : {A : Type 0} (b : State) (B : List Entry → Type 0) (P : A → State → Type 0) (Q : State → Type 0) (n : ℕ) (culprit : Value) (s : State) → Stays b B s → Ends P Q (fail {A = A} n culprit s)
 fail_ends b B P Q n culprit s k =
-    then_ends _ P Q _ _ (pair_stays b B Q _ nil s k) (λ rest t k.
+    then_ends _ P Q _ _ (pair_stays b B Q _ nil_value_of_state s k) (λ rest t k.
     then_ends _ P Q _ _ (pair_stays b B Q culprit rest t k) (λ message t k. record { ends = tt }))
 
 -- ---- what stays, by how it is made
@@ -92,7 +92,7 @@ deeper_stays b B Q n levels s next h = deeper_ends b B _ Q n levels s next h
 pub pair_turn_stays : {A : Type 0} (b : State) (B : List Entry → Type 0) (Q : State → Type 0) (descent : Bool) (levels : Levels) (s : State) (next : Levels → State → Outcome A) → Stays b B s → ((l : Levels) (t : State) → Stays b B t → Leaves b B Q (next l t)) → Leaves b B Q (pair_turn descent levels s next)
 pair_turn_stays b B Q descent levels s next k h = pair_turn_ends b B _ Q descent levels s next k h
 
-pub reading_stays : (b : State) (B : List Entry → Type 0) (v : Value) (s : State) → Stays b B s → Stays b B (reading v s)
+pub reading_stays : (b : State) (B : List Entry → Type 0) (v : Value) (s : State) → Stays b B s → Stays b B (reading_object v s)
 reading_stays b B v s k = watched_stays b B s _ k
 
 pub ruleset staying = (done_stays, then_stays, choose_stays, fail_stays, pair_stays, turn_stays, deeper_stays, pair_turn_stays, reading_stays)

@@ -6,11 +6,11 @@ use Rattle.rl_tree.specs.declared.held.VarKind.{VarKind}
 use Rattle.rl_tree.specs.declared.held.VarKind.TheVariants as kind
 use Rattle.rl_meaning.specs.State.{State, Entry, Binding, Mark, Scope, Local, Fluid, Kept, Pointer}
 use Rattle.rl_meaning.specs.Outcome.{Outcome, Done, Failed, Went, Returned, Stopped, then_do, choose, Levels}
-use Rattle.rl_meaning.specs.Symbols.{nil, is_constant}
+use Rattle.rl_meaning.specs.Symbols.{nil_value_of_state, is_constant}
 use Rattle.rl_meaning.specs.Errors.{fail, not_bindable}
 use Rattle.rl_meaning.specs.Constants.{is_among}
 use Rattle.rl_meaning.specs.Holding.{kept_kind}
-use Rattle.rl_meaning.specs.Variables.{Nearest, nearest_from, nearest, strays, top_value, used, variable, with_nearest, with_value, stray_of, use_strays, assigned, bound_as, bind, bind_all, with_mark, restored, binding}
+use Rattle.rl_meaning.specs.Variables.{Nearest, nearest_from, nearest, strays, top_value, variable_used, variable, with_nearest, with_value, stray_of, use_strays, assigned, bound_as, bind, bind_all, with_mark, restored, binding}
 use Rattle.rl_meaning.specs.Plain.{in_scope}
 use Rattle.rl_agrees.proofs.PlainWays.{Ends, then_ends, Stays, Leaves, with_bindings_stays, watched_stays, deeper_ends}
 use Rattle.rl_agrees.proofs.PlainObjects.{fail_ends, choose_stays, staying}
@@ -87,7 +87,7 @@ top_stays : (b : State) (B : List Entry → Type 0) (Q : State → Type 0) (o : 
 top_stays b B Q (Some v) x s k = search staying
 top_stays b B Q None x s k = search staying
 
-used_stays : (b : State) (B : List Entry → Type 0) (Q : State → Type 0) (o : Option Nearest) (x : ℕ) (s : State) → Stays b B s → Leaves b B Q (used o x s)
+used_stays : (b : State) (B : List Entry → Type 0) (Q : State → Type 0) (o : Option Nearest) (x : ℕ) (s : State) → Stays b B s → Leaves b B Q (variable_used o x s)
 used_stays b B Q None x s k = top_stays b B Q _ x s k
 used_stays b B Q (Some n) x s k = record { ends = strays_stays b B (use_strays n) x s k }
 
@@ -123,7 +123,7 @@ bind_then b base scope P Q kept x v s next k h = at (is_constant x)
 bind_all_ends : (b : State) (base : List Entry) (Q : State → Type 0) (kept : List Kept) (xs scope : List ℕ) (vs : List Value) (s : State) → Stays b (Framed base scope) s → Leaves b (Framed base (in_scope xs scope)) Q (bind_all kept xs vs s)
 bind_all_ends b base Q kept [] scope vs s k = record { ends = k }
 bind_all_ends b base Q kept (x ∷ xs) scope (v ∷ vs) s k = bind_then b base scope _ Q kept x v s _ k (λ t k. bind_all_ends b base Q kept xs (x ∷ scope) vs t k)
-bind_all_ends b base Q kept (x ∷ xs) scope [] s k = bind_then b base scope _ Q kept x nil s _ k (λ t k. bind_all_ends b base Q kept xs (x ∷ scope) [] t k)
+bind_all_ends b base Q kept (x ∷ xs) scope [] s k = bind_then b base scope _ Q kept x nil_value_of_state s _ k (λ t k. bind_all_ends b base Q kept xs (x ∷ scope) [] t k)
 
 -- former bindings are back
 restored_stays : (b : State) (B C : List Entry → Type 0) (n : ℕ) (o : Outcome Value) → ((es : List Entry) → B es → C (drop (length es - n) es)) → Leaves b B (λ t. Stays b B t) o → Leaves b C (λ t. Stays b C t) (restored n o)

@@ -2,7 +2,7 @@
 use Rattle.std.proofs.Common.{◌≡◌, ◌≤◌, ◌-◌, ℕ, zero, suc, Bool, true, false, List, Option, Some, None, refl, subst, arith}
 use Rattle.std.specs.Prelude.{nat_le}
 use Rattle.rl_meaning.specs.State.{State, Entry, Counts, Expansion, Watched}
-use Rattle.rl_meaning.specs.Outcome.{Outcome, Done, Failed, Went, Returned, Stopped, then_do, expansion_turn, turn_of, turn, Levels, entered, deeper, descends, pair_turn, cells_within, run_room, expansion_within, expansion_room, room}
+use Rattle.rl_meaning.specs.Outcome.{Outcome, Done, Failed, Went, Returned, Stopped, then_do, expansion_turn, turn_of, turn, Levels, in_levels, deeper, descends, pair_turn, cells_within, run_room, expansion_within, expansion_room, room}
 use Rattle.rl_agrees.specs.Expanding.{IsLonger, NoMore}
 
 -- ---- outcomes: what is said of a result and of a GO or RETURN; nothing is said of an error and of a stop, since an expansion that meets one is none
@@ -97,7 +97,7 @@ module _ {A : Type 0} (b : State) (B : List Entry → Type 0) (P : A → State �
 
   -- ---- levels
 
-  entered_ends : (c : Bool) (l : ℕ) (s : State) (next : Levels → Outcome A) → ((l : Levels) → Ends P Q (next l)) → Ends P Q (entered c l s next)
+  entered_ends : (c : Bool) (l : ℕ) (s : State) (next : Levels → Outcome A) → ((l : Levels) → Ends P Q (next l)) → Ends P Q (in_levels c l s next)
   entered_ends true l s next h = h (Some l)
   entered_ends false l s next h = record { ends = tt }
 

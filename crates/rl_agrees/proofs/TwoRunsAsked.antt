@@ -6,7 +6,7 @@ use Rattle.rl_meaning.specs.Outcome.{Unbuilt}
 use Rattle.rl_meaning.specs.Evaluation.{Job, Run, Onward, Call_, From, In, Rec}
 use Rattle.rl_meaning.specs.Compiling.{Compiler, no_compiler}
 use Rattle.rl_meaning.specs.TwoRunsValues.{Names, Each, SameValue}
-use Rattle.rl_meaning.specs.TwoRunsStates.{Bounds, Place, Like}
+use Rattle.rl_meaning.specs.TwoRunsStates.{Bounds, EntryPlace, Like}
 use Rattle.rl_agrees.specs.TwoRunsJobs.{SameJob}
 use Rattle.rl_agrees.proofs.TwoRunsKept.{Goes, IsOfState, EndsOf}
 use Rattle.rl_agrees.proofs.TwoRunsReady.{function_stays}
@@ -20,15 +20,15 @@ by c ask = record { compiler = c; ask = ask }
 
 -- what is asked for respects the relation
 abbrev pub Respects : Bounds → Comparison → Ask → Ask → Type 0
-Respects bounds c ask ask' = (n : Names) (ps : List Place) (j : Job) (s : State) (k : Job) (t : State) → Starts bounds c n ps j s k t → EndsOf bounds j n ps (ask j s) (ask' k t)
+Respects bounds c ask ask' = (n : Names) (ps : List EntryPlace) (j : Job) (s : State) (k : Job) (t : State) → Starts bounds c n ps j s k t → EndsOf bounds j n ps (ask j s) (ask' k t)
 
 -- what compilation does keeps two runs side by side, and only goes on
 pub record CompilerRespects (bounds : Bounds) (compiler : Compiler) (c : Comparison) : Type 0 where
-  pub taken : (n : Names) (ps : List Place) (name : Option ℕ) (s t : State) → Like bounds n ps s t → Like bounds n ps (compiler.requests_taken name s) (compiler.requests_taken name t)
-  pub defined : (n : Names) (ps : List Place) (v w : Value) (s t : State) → SameValue n v w → Like bounds n ps s t → Like bounds n ps (compiler.defined v s) (compiler.defined w t)
-  pub names : (n : Names) (ps : List Place) (vs ws : List Value) (s t : State) → Each (SameValue n) vs ws → BelowSides bounds c n ps s t → Alike bounds SameValue n ps (compiler.compile_names vs s) (compiler.compile_names ws t)
-  pub writes : (n : Names) (ps : List Place) (vs ws : List Value) (s t : State) → Each (SameValue n) vs ws → BelowSides bounds c n ps s t → Alike bounds SameValue n ps (compiler.write_file vs s) (compiler.write_file ws t)
-  pub loads : (n : Names) (ps : List Place) (vs ws : List Value) (s t : State) → Each (SameValue n) vs ws → BelowSides bounds c n ps s t → Alike bounds SameValue n ps (compiler.load_file vs s) (compiler.load_file ws t)
+  pub taken : (n : Names) (ps : List EntryPlace) (name : Option ℕ) (s t : State) → Like bounds n ps s t → Like bounds n ps (compiler.requests_taken name s) (compiler.requests_taken name t)
+  pub defined : (n : Names) (ps : List EntryPlace) (v w : Value) (s t : State) → SameValue n v w → Like bounds n ps s t → Like bounds n ps (compiler.defined v s) (compiler.defined w t)
+  pub names : (n : Names) (ps : List EntryPlace) (vs ws : List Value) (s t : State) → Each (SameValue n) vs ws → BelowSides bounds c n ps s t → Alike bounds SameValue n ps (compiler.compile_names vs s) (compiler.compile_names ws t)
+  pub writes : (n : Names) (ps : List EntryPlace) (vs ws : List Value) (s t : State) → Each (SameValue n) vs ws → BelowSides bounds c n ps s t → Alike bounds SameValue n ps (compiler.write_file vs s) (compiler.write_file ws t)
+  pub loads : (n : Names) (ps : List EntryPlace) (vs ws : List Value) (s t : State) → Each (SameValue n) vs ws → BelowSides bounds c n ps s t → Alike bounds SameValue n ps (compiler.load_file vs s) (compiler.load_file ws t)
   pub taken_goes : (name : Option ℕ) (s : State) → Goes s (compiler.requests_taken name s)
   pub defined_goes : (v : Value) (s : State) → Goes s (compiler.defined v s)
   pub names_goes : (vs : List Value) (s : State) → GoesOn s (compiler.compile_names vs s)
@@ -64,8 +64,8 @@ of_state_stays (From here whole rest) s t g h = tt
 of_state_stays (In here position body) s t g h = tt
 
 module _ {bounds : Bounds} (c : Comparison) where
-  pub starts : {P : List Place → Type 0} (n : Names) (ps : List Place) (j k : Job) (s t : State) → SameJob bounds n j k → Sides bounds c P n ps s t → PlacesOf c j ps → IsOfState k t → Starts bounds c n ps j s k t
+  pub starts : {P : List EntryPlace → Type 0} (n : Names) (ps : List EntryPlace) (j k : Job) (s t : State) → SameJob bounds n j k → Sides bounds c P n ps s t → PlacesOf c j ps → IsOfState k t → Starts bounds c n ps j s k t
   starts n ps j k s t r i w h = record { same = r; like = i.like; places = w; asked = c.asks k t h; ready = i.ready }
 
-  pub taken_sides : {P : List Place → Type 0} {compiler : Compiler} → CompilerRespects bounds compiler c → (n : Names) (ps : List Place) (name : Option ℕ) (s t : State) → Sides bounds c P n ps s t → Sides bounds c P n ps (compiler.requests_taken name s) (compiler.requests_taken name t)
+  pub taken_sides : {P : List EntryPlace → Type 0} {compiler : Compiler} → CompilerRespects bounds compiler c → (n : Names) (ps : List EntryPlace) (name : Option ℕ) (s t : State) → Sides bounds c P n ps s t → Sides bounds c P n ps (compiler.requests_taken name s) (compiler.requests_taken name t)
   taken_sides cr n ps name s t i = record { like = cr.taken n ps name s t i.like; places = i.places; ready = c.stay s t _ _ (cr.taken_goes name s) (cr.taken_goes name t) i.ready }

@@ -5,13 +5,13 @@ use Rattle.rl_tree.specs.declared.held.VarKind.{VarKind}
 use Rattle.rl_tree.specs.declared.held.VarKind.TheVariants as kind
 use Rattle.rl_meaning.specs.State.{State, Outside, Pointer, Entry, Scope, Local, Fluid, Kept}
 use Rattle.rl_meaning.specs.Outcome.{Outcome, Done, Failed, Went, Returned, Stopped, then_do, choose, Levels}
-use Rattle.rl_meaning.specs.Symbols.{nil, nil_id, is_constant}
+use Rattle.rl_meaning.specs.Symbols.{nil_value_of_state, nil_number, is_constant}
 use Rattle.rl_meaning.specs.Errors.{fail, not_bindable}
 use Rattle.rl_meaning.specs.Holding.{kept_kind}
 use Rattle.rl_meaning.specs.Opening.{state_of}
 use Rattle.rl_meaning.specs.Variables.{with_binding, with_mark, bound_as, bind_all, binding_levels, with_oldest, restored, binding}
 use Rattle.rl_meaning.specs.TwoRunsValues.{Names, Grows, Maybe, Each, end, more, SameValue, same_id, SamePointer}
-use Rattle.rl_meaning.specs.TwoRunsStates.{Bounds, Place, Both, BothMark, Hidden, HiddenMark, Aligned, bottom, both, both_mark, hidden, hidden_mark, Shown, Like, Roomier}
+use Rattle.rl_meaning.specs.TwoRunsStates.{Bounds, EntryPlace, Both, BothMark, Hidden, HiddenMark, Aligned, bottom, both, both_mark, hidden, hidden_mark, Shown, Like, Roomier}
 use Rattle.rl_meaning.specs.TwoRunsEnds.{HasShown, OneBegins, Parted, by_event, right_short, left_short, short_by_event, both_short, Related, done, failed, went, returned, stopped, parted}
 use Rattle.rl_agrees.proofs.TwoRunsGrowth.{grows_refl}
 use Rattle.rl_agrees.proofs.TwoRunsWays.{then_related}
@@ -21,19 +21,19 @@ use Rattle.rl_agrees.proofs.TwoRunsVariables.{bindings_like}
 
 -- ---- places above others
 
-pub data Above (ps : List Place) : List Place → Type 0 where
+pub data Above (ps : List EntryPlace) : List EntryPlace → Type 0 where
   level : Above ps ps
-  over : (p : Place) (qs : List Place) → Above ps qs → Above ps (p ∷ qs)
+  over : (p : EntryPlace) (qs : List EntryPlace) → Above ps qs → Above ps (p ∷ qs)
 
 -- how many entries the left run has
-lefts_in : List Place → ℕ
+lefts_in : List EntryPlace → ℕ
 lefts_in [] = 0
 lefts_in (Both ∷ ps) = suc (lefts_in ps)
 lefts_in (BothMark ∷ ps) = suc (lefts_in ps)
 lefts_in (Hidden x v ∷ ps) = lefts_in ps
 lefts_in (HiddenMark g ∷ ps) = lefts_in ps
 
-lefts : (n : Names) (ps : List Place) (xs ys : List Entry) → Aligned n ps xs ys → length xs ≡ lefts_in ps
+lefts : (n : Names) (ps : List EntryPlace) (xs ys : List Entry) → Aligned n ps xs ys → length xs ≡ lefts_in ps
 unfolding lefts_in
 lefts n _ _ _ bottom = refl
 lefts n _ _ _ (both x scope v w ps xs ys h k) = ap suc (lefts n ps xs ys k)
@@ -41,14 +41,14 @@ lefts n _ _ _ (both_mark f g ps xs ys h k) = ap suc (lefts n ps xs ys k)
 lefts n _ _ _ (hidden x v ps xs ys k) = lefts n ps xs ys k
 lefts n _ _ _ (hidden_mark g ps xs ys k) = lefts n ps xs ys k
 
-rights : (n : Names) (ps : List Place) (xs ys : List Entry) → Aligned n ps xs ys → length ys ≡ length ps
+rights : (n : Names) (ps : List EntryPlace) (xs ys : List Entry) → Aligned n ps xs ys → length ys ≡ length ps
 rights n _ _ _ bottom = refl
 rights n _ _ _ (both x scope v w ps xs ys h k) = ap suc (rights n ps xs ys k)
 rights n _ _ _ (both_mark f g ps xs ys h k) = ap suc (rights n ps xs ys k)
 rights n _ _ _ (hidden x v ps xs ys k) = ap suc (rights n ps xs ys k)
 rights n _ _ _ (hidden_mark g ps xs ys k) = ap suc (rights n ps xs ys k)
 
-above_left : (ps qs : List Place) → Above ps qs → lefts_in ps ≤ lefts_in qs
+above_left : (ps qs : List EntryPlace) → Above ps qs → lefts_in ps ≤ lefts_in qs
 unfolding lefts_in
 above_left ps _ level = omega arith
 above_left ps _ (over Both qs o) = let e = above_left ps qs o in omega (arith, e)
@@ -56,12 +56,12 @@ above_left ps _ (over BothMark qs o) = let e = above_left ps qs o in omega (arit
 above_left ps _ (over (Hidden x v) qs o) = above_left ps qs o
 above_left ps _ (over (HiddenMark g) qs o) = above_left ps qs o
 
-above_right : (ps qs : List Place) → Above ps qs → length ps ≤ length qs
+above_right : (ps qs : List EntryPlace) → Above ps qs → length ps ≤ length qs
 above_right ps _ level = omega arith
 above_right ps _ (over p qs o) = let e = above_right ps qs o in omega (arith, e)
 
 -- the oldest entries lie as they lay
-oldest : (n : Names) (ps qs : List Place) (xs ys : List Entry) → Above ps qs → Aligned n qs xs ys → (i j : ℕ) → i + lefts_in ps ≡ lefts_in qs → j + length ps ≡ length qs → Aligned n ps (drop i xs) (drop j ys)
+oldest : (n : Names) (ps qs : List EntryPlace) (xs ys : List Entry) → Above ps qs → Aligned n qs xs ys → (i j : ℕ) → i + lefts_in ps ≡ lefts_in qs → j + length ps ≡ length qs → Aligned n ps (drop i xs) (drop j ys)
 unfolding lefts_in
 oldest n ps _ xs ys level k i j a b = let e : i ≡ 0 = omega (arith, a) in let f : j ≡ 0 = omega (arith, b) in rw (e, f) k
 oldest n ps _ _ _ (over Both qs o) (both x scope v w _ xs ys h k) zero j a b = absurd (omega (arith, a, above_left ps qs o))
@@ -108,14 +108,14 @@ module _ {bounds : Bounds} where
       (subst (λ y. OneBegins (take r.noted y.notes) s.outside.notes) (sym (restored_outside j p)) k)
   restored_parted i j _ _ (both_short why other s t e f h k) = both_short why other s t e f h k
 
-module _ {bounds : Bounds} (n : Names) (ps : List Place) (s t : State) (l : Like bounds n ps s t) where
-  oldest_like : (m : Names) (qs : List Place) (a b : State) → Above ps qs → Like bounds m qs a b → Like bounds m ps (with_oldest (length s.bindings) a) (with_oldest (length t.bindings) b)
+module _ {bounds : Bounds} (n : Names) (ps : List EntryPlace) (s t : State) (l : Like bounds n ps s t) where
+  oldest_like : (m : Names) (qs : List EntryPlace) (a b : State) → Above ps qs → Like bounds m qs a b → Like bounds m ps (with_oldest (length s.bindings) a) (with_oldest (length t.bindings) b)
   oldest_like m qs a b o k =
       bindings_like m qs ps a b _ _ k (oldest m ps qs _ _ o k.bindings _ _
       (omega (arith, lefts n ps _ _ l.bindings, lefts m qs _ _ k.bindings, above_left ps qs o)) (omega (arith, rights n ps _ _ l.bindings, rights m qs _ _ k.bindings, above_right ps qs o)))
 
   -- what ran behind more entries, with the former bindings again
-  pub restored_related : {A : Type 0} {R : Names → A → A → Type 0} (m : Names) (qs : List Place) (o p : Outcome A) → Above ps qs → Related bounds (Parted bounds) R m qs o p → Related bounds (Parted bounds) R m ps (restored (length s.bindings) o) (restored (length t.bindings) p)
+  pub restored_related : {A : Type 0} {R : Names → A → A → Type 0} (m : Names) (qs : List EntryPlace) (o p : Outcome A) → Above ps qs → Related bounds (Parted bounds) R m qs o p → Related bounds (Parted bounds) R m ps (restored (length s.bindings) o) (restored (length t.bindings) p)
   restored_related m qs o p i (done k a b u v g r x) = done k a b _ _ g r (oldest_like k qs u v i x)
   restored_related m qs o p i (failed k z a b u v g r x) = failed k z a b _ _ g r (oldest_like k qs u v i x)
   restored_related m qs o p i (went k x u v g y) = went k x _ _ g (oldest_like k qs u v i y)
@@ -126,13 +126,13 @@ module _ {bounds : Bounds} (n : Names) (ps : List Place) (s t : State) (l : Like
 -- ---- marks
 
 module _ {bounds : Bounds} where
-  pub mark_like : (n : Names) (ps : List Place) (f g : Option Pointer) (s t : State) → Maybe (SamePointer n) f g → Like bounds n ps s t → Like bounds n (BothMark ∷ ps) (with_mark f s) (with_mark g t)
+  pub mark_like : (n : Names) (ps : List EntryPlace) (f g : Option Pointer) (s t : State) → Maybe (SamePointer n) f g → Like bounds n ps s t → Like bounds n (BothMark ∷ ps) (with_mark f s) (with_mark g t)
   mark_like n ps f g s t h l = bindings_like n ps (BothMark ∷ ps) s t _ _ l (both_mark f g ps _ _ h l.bindings)
 
 -- ---- binding
 
 -- the places behind so many new bindings
-abbrev pub bound_places : List ℕ → List Place → List Place
+abbrev pub bound_places : List ℕ → List EntryPlace → List EntryPlace
 bound_places [] ps = ps
 bound_places (x ∷ xs) ps = bound_places xs (Both ∷ ps)
 
@@ -141,7 +141,7 @@ pub record Rebound (s a : State) : Type 0 where
   pub is : a ≡ record s { bindings = a.bindings }
 
 module _ {bounds : Bounds} where
-  pub bound_like : (n : Names) (ps : List Place) (x : ℕ) (scope : Scope) (v w : Value) (s t : State) → SameValue n v w → Like bounds n ps s t → Like bounds n (Both ∷ ps) (with_binding x scope v s) (with_binding x scope w t)
+  pub bound_like : (n : Names) (ps : List EntryPlace) (x : ℕ) (scope : Scope) (v w : Value) (s t : State) → SameValue n v w → Like bounds n ps s t → Like bounds n (Both ∷ ps) (with_binding x scope v s) (with_binding x scope w t)
   bound_like n ps x scope v w s t r l = bindings_like n ps (Both ∷ ps) s t _ _ l (both x scope v w ps _ _ r l.bindings)
 
 -- ---- what a binding prints: nothing
@@ -158,7 +158,7 @@ bind_leaves x false k v y s e = bound_leaves x k v y s e
 all_leave : (kept : List Kept) (xs : List ℕ) (vs : List Value) (y : Outside) (s : State) → s.outside ≡ y → Leaves y (λ s. s.outside ≡ y) (bind_all kept xs vs s)
 all_leave kept [] vs y s e = e
 all_leave kept (x ∷ xs) (v ∷ vs) y s e = then_leaves y (λ s. s.outside ≡ y) _ _ _ (bind_leaves x (is_constant x) (kept_kind kept x) v y s e) (λ a s e. all_leave kept xs vs y s e)
-all_leave kept (x ∷ xs) [] y s e = then_leaves y (λ s. s.outside ≡ y) _ _ _ (bind_leaves x (is_constant x) (kept_kind kept x) nil y s e) (λ a s e. all_leave kept xs [] y s e)
+all_leave kept (x ∷ xs) [] y s e = then_leaves y (λ s. s.outside ≡ y) _ _ _ (bind_leaves x (is_constant x) (kept_kind kept x) nil_value_of_state y s e) (λ a s e. all_leave kept xs [] y s e)
 
 all_show : {A : Type 0} (kept : List Kept) (xs : List ℕ) (vs : List Value) (s : State) (f : State → Outcome A) → Prints f → Shows s.outside (restored (length s.bindings) (then_do (bind_all kept xs vs s) (λ done s. f s)))
 all_show kept xs vs s f h =
@@ -170,9 +170,9 @@ all_show kept xs vs s f h =
 Never : Names → Unit {0} → Unit {0} → Type 0
 Never n a b = ⊥
 
-module _ {bounds : Bounds} {A : Type 0} {R : Names → A → A → Type 0} (n : Names) (ps : List Place) (s t : State) (l : Like bounds n ps s t) where
+module _ {bounds : Bounds} {A : Type 0} {R : Names → A → A → Type 0} (n : Names) (ps : List EntryPlace) (s t : State) (l : Like bounds n ps s t) where
   -- the variable may not be bound: the bindings before it are undone
-  refused : (m : Names) (qs : List Place) (x : ℕ) (u v : State) (f g : Unit {0} → State → Outcome (Unit {0})) (f' g' : Unit {0} → State → Outcome A) → Above ps qs → Like bounds m qs u v
+  refused : (m : Names) (qs : List EntryPlace) (x : ℕ) (u v : State) (f g : Unit {0} → State → Outcome (Unit {0})) (f' g' : Unit {0} → State → Outcome A) → Above ps qs → Like bounds m qs u v
       → Related bounds (Parted bounds) R m ps (restored (length s.bindings) (then_do (then_do (fail not_bindable (Id x) u) f) f')) (restored (length t.bindings) (then_do (then_do (fail not_bindable (Id x) v) g) g'))
   unfolding Never
   refused m qs x u v f g f' g' o k =
@@ -184,7 +184,7 @@ module _ {bounds : Bounds} {A : Type 0} {R : Names → A → A → Type 0} (n : 
       quits_then w h h' e = then_leaves u.outside (λ s. ⊥) (λ s. ⊥) _ _ (then_leaves u.outside (λ s. ⊥) (λ s. ⊥) _ _ (fail_quits (Unit {0}) not_bindable (Id x) u.outside w e) (λ a s e. absurd e)) (λ a s e. absurd e)
 
   -- a binding of both, with what goes on behind it
-  bound_step : (m : Names) (qs : List Place) (x : ℕ) (a b : Value) (u v : State) (f g : State → Outcome (Unit {0})) (f' g' : State → Outcome A) → Above ps qs → SameValue m a b → Like bounds m qs u v
+  bound_step : (m : Names) (qs : List EntryPlace) (x : ℕ) (a b : Value) (u v : State) (f g : State → Outcome (Unit {0})) (f' g' : State → Outcome A) → Above ps qs → SameValue m a b → Like bounds m qs u v
       → ((scope : Scope) → Related bounds (Parted bounds) R m ps (restored (length s.bindings) (then_do (f (with_binding x scope a u)) (λ done s. f' s))) (restored (length t.bindings) (then_do (g (with_binding x scope b v)) (λ done s. g' s))))
       → (k : VarKind) (c : Bool)
       → Related bounds (Parted bounds) R m ps (restored (length s.bindings) (then_do (then_do (choose c u (λ s. fail not_bindable (Id x) s) (λ s. bound_as k x a s)) (λ done s. f s)) (λ done s. f' s)))
@@ -194,18 +194,18 @@ module _ {bounds : Bounds} {A : Type 0} {R : Names → A → A → Type 0} (n : 
   bound_step m qs x a b u v f g f' g' o r k h kind.Fluid false = h Fluid
   bound_step m qs x a b u v f g f' g' o r k h kind.Global false = refused m qs x u v (λ done s. f s) (λ done s. g s) (λ done s. f' s) (λ done s. g' s) o k
 
-  bound_all : (kept : List Kept) (xs : List ℕ) (vs ws : List Value) (m : Names) (qs : List Place) (u v : State) (f g : State → Outcome A) → Above ps qs → Each (SameValue m) vs ws → Like bounds m qs u v
+  bound_all : (kept : List Kept) (xs : List ℕ) (vs ws : List Value) (m : Names) (qs : List EntryPlace) (u v : State) (f g : State → Outcome A) → Above ps qs → Each (SameValue m) vs ws → Like bounds m qs u v
       → ((k : Names) (a b : State) → Grows m k → Like bounds k (bound_places xs qs) a b → Rebound u a → Rebound v b → (Shown qs → Shown (bound_places xs qs)) → Related bounds (Parted bounds) R k (bound_places xs qs) (f a) (g b))
       → Related bounds (Parted bounds) R m ps (restored (length s.bindings) (then_do (bind_all kept xs vs u) (λ done s. f s))) (restored (length t.bindings) (then_do (bind_all kept xs ws v) (λ done s. g s)))
   bound_all kept [] vs ws m qs u v f g o e k h = restored_related n ps s t l m qs _ _ o (h m u v (grows_refl m) k (record { is = refl }) (record { is = refl }) (λ w. w))
   bound_all kept (x ∷ xs) _ _ m qs u v f g o (more a b vs ws r e) k h =
       bound_step m qs x a b u v (λ s. bind_all kept xs vs s) (λ s. bind_all kept xs ws s) f g o r k (λ scope. bound_all kept xs vs ws m (Both ∷ qs) _ _ f g (over Both qs o) e (bound_like m qs x scope a b u v r k) (λ i c d w y left right z. h i c d w y (record { is = left.is }) (record { is = right.is }) z)) (kept_kind kept x) (is_constant x)
   bound_all kept (x ∷ xs) _ _ m qs u v f g o end k h =
-      bound_step m qs x nil nil u v (λ s. bind_all kept xs [] s) (λ s. bind_all kept xs [] s) f g o (same_id nil_id) k (λ scope. bound_all kept xs [] [] m (Both ∷ qs) _ _ f g (over Both qs o) end (bound_like m qs x scope nil nil u v (same_id nil_id) k) (λ i c d w y left right z. h i c d w y (record { is = left.is }) (record { is = right.is }) z)) (kept_kind kept x) (is_constant x)
+      bound_step m qs x nil_value_of_state nil_value_of_state u v (λ s. bind_all kept xs [] s) (λ s. bind_all kept xs [] s) f g o (same_id nil_number) k (λ scope. bound_all kept xs [] [] m (Both ∷ qs) _ _ f g (over Both qs o) end (bound_like m qs x scope nil_value_of_state nil_value_of_state u v (same_id nil_number) k) (λ i c d w y left right z. h i c d w y (record { is = left.is }) (record { is = right.is }) z)) (kept_kind kept x) (is_constant x)
 
 module _ {bounds : Bounds} where
   -- what goes on behind the bindings has them in both runs, at their places, and leaves what was printed before, on either side: of a stop for lack of levels no more is known
-  pub binding_related : {A : Type 0} {R : Names → A → A → Type 0} (n : Names) (ps : List Place) (l m : Levels) (kept : List Kept) (xs : List ℕ) (vs ws : List Value) (s t : State) (f g : Levels → State → Outcome A) → Roomier bounds l m → Each (SameValue n) vs ws → Like bounds n ps s t
+  pub binding_related : {A : Type 0} {R : Names → A → A → Type 0} (n : Names) (ps : List EntryPlace) (l m : Levels) (kept : List Kept) (xs : List ℕ) (vs ws : List Value) (s t : State) (f g : Levels → State → Outcome A) → Roomier bounds l m → Each (SameValue n) vs ws → Like bounds n ps s t
       → ((l : Levels) → Prints (λ s. f l s)) → ((m : Levels) → Prints (λ t. g m t))
       → ((k : Names) (l m : Levels) (a b : State) → Grows n k → Roomier bounds l m → Like bounds k (bound_places xs ps) a b → Rebound s a → Rebound t b → (Shown ps → Shown (bound_places xs ps)) → Related bounds (Parted bounds) R k (bound_places xs ps) (f l a) (g m b))
       → Related bounds (Parted bounds) R n ps (binding l kept xs vs s f) (binding m kept xs ws t g)

@@ -7,9 +7,9 @@ use Rattle.rl_meaning.specs.Names.{Special, Quote, Cond, Progn, And, Or, Setq, P
 use Rattle.rl_meaning.specs.Names as names
 use Rattle.rl_meaning.specs.State.{State, Tree, Atom, Quoted, Pair, Literal, Held, Kept, Pointer}
 use Rattle.rl_meaning.specs.Outcome.{Outcome, Done, then_do, choose, Levels, deeper, made_pair}
-use Rattle.rl_meaning.specs.Symbols.{nil, is_nil, truth, lambda_id, return_id}
+use Rattle.rl_meaning.specs.Symbols.{nil_value_of_state, is_nil, truth, lambda_number, return_number}
 use Rattle.rl_meaning.specs.Errors.{badly_formed}
-use Rattle.rl_meaning.specs.Holding.{function_id, is_list}
+use Rattle.rl_meaning.specs.Holding.{function_number, is_list}
 use Rattle.rl_meaning.specs.Variables.{variable, with_mark, restored, bind_all, binding, binding_levels}
 use Rattle.rl_meaning.specs.Numbers.{operated}
 use Rattle.rl_meaning.specs.Forms.{Head, call_levels, fits}
@@ -17,7 +17,7 @@ use Rattle.rl_meaning.specs.Compiling.{Compiler}
 use Rattle.rl_meaning.specs.Evaluation.{Position, Statement, Inside, Here, longest_chain, Rec, bad_form, deeper_here, operation_of, of_none, called, going, quoted, function_named, atom_in, identifiers_in, eval, arguments, applied_lambda, progn, clauses, clause, conjunction, disjunction, setq, returning, prog, statements, listed, combined, combined_rest, walked}
 use Rattle.rl_meaning.specs.TwoRunsLinks.{Linked}
 use Rattle.rl_meaning.specs.TwoRunsValues.{Names, Grows, Maybe, end, more, SameValue, same_int, same_id, same_fun, SameTree, same_atom, same_quoted, same_node, same_literal, SameHeld, same_held, SamePointer}
-use Rattle.rl_meaning.specs.TwoRunsStates.{Bounds, Place, BothMark, Roomier}
+use Rattle.rl_meaning.specs.TwoRunsStates.{Bounds, EntryPlace, BothMark, Roomier}
 use Rattle.rl_meaning.specs.TwoRunsEnds.{went, returned}
 use Rattle.rl_agrees.proofs.TwoRunsGrowth.{grows_refl, grows_trans, value_grows, values_grow, tree_grows}
 use Rattle.rl_agrees.proofs.TwoRunsWays.{Is, is}
@@ -60,42 +60,42 @@ module _ {bounds : Bounds} {compiler : Compiler} (c : Comparison) (cr : Compiler
   gr = rec_goes compiler c cr ask' gb
 
   -- as many levels on both sides
-  deeper_same : {A : Type 0} {R : Names → A → A → Type 0} (n : Names) (ps : List Place) (i j : ℕ) (l m : Levels) (s t : State) (f g : Levels → Outcome A) → i ≡ j → Roomier bounds l m → CleanSides bounds c n ps s t → ((l : Levels) → GoesOn s (f l)) → ((l : Levels) → GoesOn t (g l)) → ((l m : Levels) → Roomier bounds l m → Alike bounds R n ps (f l) (g m)) → Alike bounds R n ps (deeper i l s f) (deeper j m t g)
+  deeper_same : {A : Type 0} {R : Names → A → A → Type 0} (n : Names) (ps : List EntryPlace) (i j : ℕ) (l m : Levels) (s t : State) (f g : Levels → Outcome A) → i ≡ j → Roomier bounds l m → CleanSides bounds c n ps s t → ((l : Levels) → GoesOn s (f l)) → ((l : Levels) → GoesOn t (g l)) → ((l m : Levels) → Roomier bounds l m → Alike bounds R n ps (f l) (g m)) → Alike bounds R n ps (deeper i l s f) (deeper j m t g)
   deeper_same {R = R} n ps i j l m s t f g e r side x y h = subst (λ z. Alike bounds R n ps (deeper i l s f) (deeper z m t g)) e (deeper_ends c n ps s t f g side x y h i l m r)
 
   bad_goes : (v : Value) (s : State) → GoesOn {A = Value} s (bad_form v s)
   bad_goes v s = fail_goes one Value badly_formed v s
 
-  bad_ends : (n : Names) (ps : List Place) (v w : Value) (l m : Levels) (s t : State) → SameValue n v w → Roomier bounds l m → CleanSides bounds c n ps s t → Alike bounds {A = Value} SameValue n ps (deeper 1 l s (λ levels. bad_form v s)) (deeper 1 m t (λ levels. bad_form w t))
+  bad_ends : (n : Names) (ps : List EntryPlace) (v w : Value) (l m : Levels) (s t : State) → SameValue n v w → Roomier bounds l m → CleanSides bounds c n ps s t → Alike bounds {A = Value} SameValue n ps (deeper 1 l s (λ levels. bad_form v s)) (deeper 1 m t (λ levels. bad_form w t))
   bad_ends n ps v w l m s t h r e = deeper_ends c n ps s t (λ levels. bad_form v s) (λ levels. bad_form w t) e (λ l. bad_goes v s) (λ l. bad_goes w t) (λ l m r. fail_ends c n ps badly_formed v w s t e h) 1 l m r
 
   -- what goes on with values
-  record Nexts (k : Names) (ps : List Place) (f g : List Value → State → Outcome Value) : Type 0 where
+  record Nexts (k : Names) (ps : List EntryPlace) (f g : List Value → State → Outcome Value) : Type 0 where
     ends : (k' : Names) (vs ws : List Value) (s t : State) → Grows k k' → Values k' vs ws → CleanSides bounds c k' ps s t → Alike bounds SameValue k' ps (f vs s) (g ws t)
     left : (vs : List Value) (s : State) → GoesOn s (f vs s)
     right : (vs : List Value) (s : State) → GoesOn s (g vs s)
 
-  nexts_grow : (k k' : Names) (ps : List Place) (f g : List Value → State → Outcome Value) → Grows k k' → Nexts k ps f g → Nexts k' ps f g
+  nexts_grow : (k k' : Names) (ps : List EntryPlace) (f g : List Value → State → Outcome Value) → Grows k k' → Nexts k ps f g → Nexts k' ps f g
   nexts_grow k k' ps f g w h = record { ends = λ k'' vs ws s t x i e. h.ends k'' vs ws s t (grows_trans k k' k'' w x) i e; left = h.left; right = h.right }
 
   atom_same : (n : Names) (x y : Tree) → SameTree n x y → SameValue n (atom_in rec x) (atom_in rec' y)
   atom_same n _ _ (same_atom v w r) = r
   atom_same n _ _ h = same_id 0
 
-  going_ends : (n : Names) (x y : Tree) → SameTree n x y → (qs : List Place) (position : Position) (s t : State) → CleanSides bounds c n qs s t → Alike bounds SameValue n qs (going rec position x s) (going rec' position y t)
+  going_ends : (n : Names) (x y : Tree) → SameTree n x y → (qs : List EntryPlace) (position : Position) (s t : State) → CleanSides bounds c n qs s t → Alike bounds SameValue n qs (going rec position x s) (going rec' position y t)
   going_ends n _ _ (same_node _ _ _ _ (same_atom _ _ (same_id l)) h) qs position s t e = misplaced_ends c one n qs position (Id l) (Id l) s t _ _ (same_id l) e (went n l s t (grows_refl n) e.like)
-  going_ends n _ _ (same_node _ _ _ _ (same_atom _ _ r) h) qs position s t e = done_here c n qs nil nil s t (same_id 0) e
-  going_ends n _ _ h qs position s t e = done_here c n qs nil nil s t (same_id 0) e
+  going_ends n _ _ (same_node _ _ _ _ (same_atom _ _ r) h) qs position s t e = done_here c n qs nil_value_of_state nil_value_of_state s t (same_id 0) e
+  going_ends n _ _ h qs position s t e = done_here c n qs nil_value_of_state nil_value_of_state s t (same_id 0) e
 
-  quoted_ends : (n : Names) (x y : Tree) → SameTree n x y → (qs : List Place) (s t : State) → CleanSides bounds c n qs s t → Alike bounds SameValue n qs (quoted rec x s) (quoted rec' y t)
+  quoted_ends : (n : Names) (x y : Tree) → SameTree n x y → (qs : List EntryPlace) (s t : State) → CleanSides bounds c n qs s t → Alike bounds SameValue n qs (quoted rec x s) (quoted rec' y t)
   quoted_ends n _ _ (same_node _ _ _ _ (same_quoted v w r) h) qs s t e = done_here c n qs v w s t r e
-  quoted_ends n _ _ h qs s t e = done_here c n qs nil nil s t (same_id 0) e
+  quoted_ends n _ _ h qs s t e = done_here c n qs nil_value_of_state nil_value_of_state s t (same_id 0) e
 
-  named_ends : (n : Names) (x y : Tree) → SameTree n x y → (qs : List Place) (s t : State) → CleanSides bounds c n qs s t → Alike bounds SameValue n qs (function_named rec x s) (function_named rec' y t)
+  named_ends : (n : Names) (x y : Tree) → SameTree n x y → (qs : List EntryPlace) (s t : State) → CleanSides bounds c n qs s t → Alike bounds SameValue n qs (function_named rec x s) (function_named rec' y t)
   named_ends n _ _ (same_node _ _ _ _ (same_atom v w r) h) qs s t e = done_here c n qs v w s t r e
-  named_ends n _ _ h qs s t e = done_here c n qs nil nil s t (same_id 0) e
+  named_ends n _ _ h qs s t e = done_here c n qs nil_value_of_state nil_value_of_state s t (same_id 0) e
 
-  variable_ends : (n : Names) (ps : List Place) (x : ℕ) (s t : State) → CleanSides bounds c n ps s t → Alike bounds SameValue n ps (variable x s) (variable x t)
+  variable_ends : (n : Names) (ps : List EntryPlace) (x : ℕ) (s t : State) → CleanSides bounds c n ps s t → Alike bounds SameValue n ps (variable x s) (variable x t)
   variable_ends n ps x s t e = two.variable_ n ps x s t (c.shown ps e.places) e.like
 
   -- how functions go on, where a level is taken
@@ -131,64 +131,64 @@ module _ {bounds : Bounds} {compiler : Compiler} (c : Comparison) (cr : Compiler
   -- ---- what is to be shown of two trees that were the same when names were n, where they are k
 
   abbrev EvalGood : Names → Tree → Tree → Type 0
-  EvalGood n x y = (k : Names) (qs : List Place) (here : Here) (m : Levels) (o : ℕ) (position : Position) (s t : State) → Linked n.functions here.holder o → Grows n k → Roomier bounds here.levels m → CleanSides bounds c k qs s t
+  EvalGood n x y = (k : Names) (qs : List EntryPlace) (here : Here) (m : Levels) (o : ℕ) (position : Position) (s t : State) → Linked n.functions here.holder o → Grows n k → Roomier bounds here.levels m → CleanSides bounds c k qs s t
       → Alike bounds SameValue k qs (eval rec here position x s) (eval rec' (record here { levels = m; holder = o }) position y t)
 
   abbrev ArgumentsGood : Names → Tree → Tree → Type 0
-  ArgumentsGood n x y = (k : Names) (qs : List Place) (here : Here) (m : Levels) (o : ℕ) (vs ws : List Value) (f h : List Value → State → Outcome Value) (s t : State) → Linked n.functions here.holder o → Grows n k → Roomier bounds here.levels m → Values k vs ws → Nexts k qs f h → CleanSides bounds c k qs s t
+  ArgumentsGood n x y = (k : Names) (qs : List EntryPlace) (here : Here) (m : Levels) (o : ℕ) (vs ws : List Value) (f h : List Value → State → Outcome Value) (s t : State) → Linked n.functions here.holder o → Grows n k → Roomier bounds here.levels m → Values k vs ws → Nexts k qs f h → CleanSides bounds c k qs s t
       → Alike bounds SameValue k qs (arguments rec here vs f x s) (arguments rec' (record here { levels = m; holder = o }) ws h y t)
 
   abbrev PrognGood : Names → Tree → Tree → Type 0
-  PrognGood n x y = (k : Names) (qs : List Place) (here : Here) (m : Levels) (o : ℕ) (position : Position) (v w : Value) (s t : State) → Linked n.functions here.holder o → Grows n k → Roomier bounds here.levels m → SameValue k v w → CleanSides bounds c k qs s t
+  PrognGood n x y = (k : Names) (qs : List EntryPlace) (here : Here) (m : Levels) (o : ℕ) (position : Position) (v w : Value) (s t : State) → Linked n.functions here.holder o → Grows n k → Roomier bounds here.levels m → SameValue k v w → CleanSides bounds c k qs s t
       → Alike bounds SameValue k qs (progn rec here position v x s) (progn rec' (record here { levels = m; holder = o }) position w y t)
 
   abbrev ClausesGood : Names → Tree → Tree → Type 0
-  ClausesGood n x y = (k : Names) (qs : List Place) (here : Here) (m : Levels) (o : ℕ) (position : Position) (s t : State) → Linked n.functions here.holder o → Grows n k → Roomier bounds here.levels m → CleanSides bounds c k qs s t
+  ClausesGood n x y = (k : Names) (qs : List EntryPlace) (here : Here) (m : Levels) (o : ℕ) (position : Position) (s t : State) → Linked n.functions here.holder o → Grows n k → Roomier bounds here.levels m → CleanSides bounds c k qs s t
       → Alike bounds SameValue k qs (clauses rec here position x s) (clauses rec' (record here { levels = m; holder = o }) position y t)
 
   abbrev ClauseGood : Names → Tree → Tree → Type 0
-  ClauseGood n x y = (k : Names) (qs : List Place) (here : Here) (m : Levels) (o : ℕ) (position : Position) (f h : State → Outcome Value) (s t : State) → Linked n.functions here.holder o → Grows n k → Roomier bounds here.levels m
+  ClauseGood n x y = (k : Names) (qs : List EntryPlace) (here : Here) (m : Levels) (o : ℕ) (position : Position) (f h : State → Outcome Value) (s t : State) → Linked n.functions here.holder o → Grows n k → Roomier bounds here.levels m
       → ((s : State) → GoesOn s (f s)) → ((s : State) → GoesOn s (h s)) → ((k' : Names) (s t : State) → Grows k k' → CleanSides bounds c k' qs s t → Alike bounds SameValue k' qs (f s) (h t)) → CleanSides bounds c k qs s t
       → Alike bounds SameValue k qs (clause rec here position x f s) (clause rec' (record here { levels = m; holder = o }) position y h t)
 
   abbrev ConjunctionGood : Names → Tree → Tree → Type 0
-  ConjunctionGood n x y = (k : Names) (qs : List Place) (here : Here) (m : Levels) (o : ℕ) (v w : Value) (s t : State) → Linked n.functions here.holder o → Grows n k → Roomier bounds here.levels m → SameValue k v w → CleanSides bounds c k qs s t
+  ConjunctionGood n x y = (k : Names) (qs : List EntryPlace) (here : Here) (m : Levels) (o : ℕ) (v w : Value) (s t : State) → Linked n.functions here.holder o → Grows n k → Roomier bounds here.levels m → SameValue k v w → CleanSides bounds c k qs s t
       → Alike bounds SameValue k qs (conjunction rec here v x s) (conjunction rec' (record here { levels = m; holder = o }) w y t)
 
   abbrev DisjunctionGood : Names → Tree → Tree → Type 0
-  DisjunctionGood n x y = (k : Names) (qs : List Place) (here : Here) (m : Levels) (o : ℕ) (s t : State) → Linked n.functions here.holder o → Grows n k → Roomier bounds here.levels m → CleanSides bounds c k qs s t
+  DisjunctionGood n x y = (k : Names) (qs : List EntryPlace) (here : Here) (m : Levels) (o : ℕ) (s t : State) → Linked n.functions here.holder o → Grows n k → Roomier bounds here.levels m → CleanSides bounds c k qs s t
       → Alike bounds SameValue k qs (disjunction rec here x s) (disjunction rec' (record here { levels = m; holder = o }) y t)
 
   abbrev SetqGood : Names → Tree → Tree → Type 0
-  SetqGood n x y = (k : Names) (qs : List Place) (here : Here) (m : Levels) (o : ℕ) (s t : State) → Linked n.functions here.holder o → Grows n k → Roomier bounds here.levels m → CleanSides bounds c k qs s t
+  SetqGood n x y = (k : Names) (qs : List EntryPlace) (here : Here) (m : Levels) (o : ℕ) (s t : State) → Linked n.functions here.holder o → Grows n k → Roomier bounds here.levels m → CleanSides bounds c k qs s t
       → Alike bounds SameValue k qs (setq rec here x s) (setq rec' (record here { levels = m; holder = o }) y t)
 
   abbrev ReturningGood : Names → Tree → Tree → Type 0
-  ReturningGood n x y = (k : Names) (qs : List Place) (here : Here) (m : Levels) (o : ℕ) (position : Position) (s t : State) → Linked n.functions here.holder o → Grows n k → Roomier bounds here.levels m → CleanSides bounds c k qs s t
+  ReturningGood n x y = (k : Names) (qs : List EntryPlace) (here : Here) (m : Levels) (o : ℕ) (position : Position) (s t : State) → Linked n.functions here.holder o → Grows n k → Roomier bounds here.levels m → CleanSides bounds c k qs s t
       → Alike bounds SameValue k qs (returning rec here position x s) (returning rec' (record here { levels = m; holder = o }) position y t)
 
   abbrev ProgGood : Names → Tree → Tree → Type 0
-  ProgGood n x y = (k : Names) (qs : List Place) (here : Here) (m : Levels) (o : ℕ) (s t : State) → Linked n.functions here.holder o → Grows n k → Roomier bounds here.levels m → CleanSides bounds c k qs s t
+  ProgGood n x y = (k : Names) (qs : List EntryPlace) (here : Here) (m : Levels) (o : ℕ) (s t : State) → Linked n.functions here.holder o → Grows n k → Roomier bounds here.levels m → CleanSides bounds c k qs s t
       → Alike bounds SameValue k qs (prog rec here x s) (prog rec' (record here { levels = m; holder = o }) y t)
 
   abbrev StatementsGood : Names → Tree → Tree → Type 0
-  StatementsGood n x y = (k : Names) (qs : List Place) (here : Here) (m : Levels) (o : ℕ) (whole whole' : Tree) → SameTree n whole whole' → (s t : State) → Linked n.functions here.holder o → Grows n k → Roomier bounds here.levels m → CleanSides bounds c k qs s t
+  StatementsGood n x y = (k : Names) (qs : List EntryPlace) (here : Here) (m : Levels) (o : ℕ) (whole whole' : Tree) → SameTree n whole whole' → (s t : State) → Linked n.functions here.holder o → Grows n k → Roomier bounds here.levels m → CleanSides bounds c k qs s t
       → Alike bounds SameValue k qs (statements rec here whole x s) (statements rec' (record here { levels = m; holder = o }) whole' y t)
 
   abbrev ListedGood : Names → Tree → Tree → Type 0
-  ListedGood n x y = (k : Names) (qs : List Place) (here : Here) (m : Levels) (o : ℕ) (s t : State) → Linked n.functions here.holder o → Grows n k → Roomier bounds here.levels m → CleanSides bounds c k qs s t
+  ListedGood n x y = (k : Names) (qs : List EntryPlace) (here : Here) (m : Levels) (o : ℕ) (s t : State) → Linked n.functions here.holder o → Grows n k → Roomier bounds here.levels m → CleanSides bounds c k qs s t
       → Alike bounds SameValue k qs (listed rec here x s) (listed rec' (record here { levels = m; holder = o }) y t)
 
   abbrev CombinedGood : Names → Tree → Tree → Type 0
-  CombinedGood n x y = (form : Special) (k : Names) (qs : List Place) (here : Here) (m : Levels) (o : ℕ) (s t : State) → Linked n.functions here.holder o → Grows n k → Roomier bounds here.levels m → CleanSides bounds c k qs s t
+  CombinedGood n x y = (form : Special) (k : Names) (qs : List EntryPlace) (here : Here) (m : Levels) (o : ℕ) (s t : State) → Linked n.functions here.holder o → Grows n k → Roomier bounds here.levels m → CleanSides bounds c k qs s t
       → Alike bounds SameValue k qs (combined rec form here x s) (combined rec' form (record here { levels = m; holder = o }) y t)
 
   abbrev CombinedRestGood : Names → Tree → Tree → Type 0
-  CombinedRestGood n x y = (form : Special) (k : Names) (qs : List Place) (here : Here) (m : Levels) (o : ℕ) (v w : Value) (s t : State) → Linked n.functions here.holder o → Grows n k → Roomier bounds here.levels m → SameValue k v w → CleanSides bounds c k qs s t
+  CombinedRestGood n x y = (form : Special) (k : Names) (qs : List EntryPlace) (here : Here) (m : Levels) (o : ℕ) (v w : Value) (s t : State) → Linked n.functions here.holder o → Grows n k → Roomier bounds here.levels m → SameValue k v w → CleanSides bounds c k qs s t
       → Alike bounds SameValue k qs (combined_rest rec form here v x s) (combined_rest rec' form (record here { levels = m; holder = o }) w y t)
 
   abbrev AppliedGood : Names → Tree → Tree → Type 0
-  AppliedGood n x y = (k : Names) (qs : List Place) (here : Here) (m : Levels) (o : ℕ) (xs ys : Option (List ℕ)) (i j : ℕ) (args args' : Tree) (s t : State) → Linked n.functions here.holder o → Grows n k → Roomier bounds here.levels m → Is k xs ys → Is k i j → ArgumentsGood n args args' → CleanSides bounds c k qs s t
+  AppliedGood n x y = (k : Names) (qs : List EntryPlace) (here : Here) (m : Levels) (o : ℕ) (xs ys : Option (List ℕ)) (i j : ℕ) (args args' : Tree) (s t : State) → Linked n.functions here.holder o → Grows n k → Roomier bounds here.levels m → Is k xs ys → Is k i j → ArgumentsGood n args args' → CleanSides bounds c k qs s t
       → Alike bounds SameValue k qs (applied_lambda rec here xs i (λ here next s. arguments rec here [] next args s) x s) (applied_lambda rec' (record here { levels = m; holder = o }) ys j (λ here next s. arguments rec' here [] next args' s) y t)
 
   -- behind the first element, and of the first element
@@ -245,7 +245,7 @@ module _ {bounds : Bounds} {compiler : Compiler} (c : Comparison) (cr : Compiler
   clauses_good n _ _ (of_node a d b p i j) k qs here m o position s t u g r e =
       i.clause_ k qs here m o position (λ s. clauses rec here position d s) (λ t. clauses rec' (record here { levels = m; holder = o }) position p t) s t u g r (λ s. one.clauses_goes rec gl here position d s) (λ s. one.clauses_goes rec' gr (record here { levels = m; holder = o }) position p s)
       (λ k' s t x e. j.clauses_ k' qs here m o position s t u (grows_trans n k k' g x) r e) e
-  clauses_good n _ _ i k qs here m o position s t u g r e = done_here c k qs nil nil s t (same_id 0) e
+  clauses_good n _ _ i k qs here m o position s t u g r e = done_here c k qs nil_value_of_state nil_value_of_state s t (same_id 0) e
 
   clause_good : (n : Names) (x y : Tree) → Parts n x y → ClauseGood n x y
   clause_good n _ _ (of_node a d b p i j) k qs here m o position f h s t u g r fx hx next e =
@@ -254,18 +254,18 @@ module _ {bounds : Bounds} {compiler : Compiler} (c : Comparison) (cr : Compiler
       (i.eval_ k qs here m o Inside s t u g r e)
       (λ k' v w s t x z e. choose_ends c k' qs _ _ s t _ _ _ _ (nil_same k' v w z) (next k' s t x e) (j.progn_ k' qs here m o position v w s t u (grows_trans n k k' g x) r z e))
   clause_good n _ _ (of_literal _ a b j) k qs here m o position f h s t u g r fx hx next e =
-      then_ends c k qs s t _ _ _ _ e (one.variable_goes function_id s) (one.variable_goes function_id t)
+      then_ends c k qs s t _ _ _ _ e (one.variable_goes function_number s) (one.variable_goes function_number t)
       (λ v s. tested_goes v s f (λ s. eval rec here position a s) fx (λ s. one.eval_goes rec gl here position a s)) (λ v s. tested_goes v s h (λ s. eval rec' (record here { levels = m; holder = o }) position b s) hx (λ s. one.eval_goes rec' gr (record here { levels = m; holder = o }) position b s))
-      (variable_ends k qs function_id s t e)
+      (variable_ends k qs function_number s t e)
       (λ k' v w s t x z e. choose_ends c k' qs _ _ s t _ _ _ _ (nil_same k' v w z) (next k' s t x e) (j.eval_ k' qs here m o position s t u (grows_trans n k k' g x) r e))
   clause_good n _ _ i k qs here m o position f h s t u g r fx hx next e = next k s t (grows_refl k) e
 
   conjunction_good : (n : Names) (x y : Tree) → Parts n x y → ConjunctionGood n x y
   conjunction_good n _ _ (of_node a d b p i j) k qs here m o v w s t u g r h e =
       then_ends c k qs s t _ _ _ _ e (one.eval_goes rec gl here Inside a s) (one.eval_goes rec' gr (record here { levels = m; holder = o }) Inside b t)
-      (λ v s. tested_goes v s (λ s. Done nil s) (λ s. conjunction rec here v d s) (λ s. here_goes s nil) (λ s. one.conjunction_goes rec gl here v d s)) (λ v s. tested_goes v s (λ s. Done nil s) (λ s. conjunction rec' (record here { levels = m; holder = o }) v p s) (λ s. here_goes s nil) (λ s. one.conjunction_goes rec' gr (record here { levels = m; holder = o }) v p s))
+      (λ v s. tested_goes v s (λ s. Done nil_value_of_state s) (λ s. conjunction rec here v d s) (λ s. here_goes s nil_value_of_state) (λ s. one.conjunction_goes rec gl here v d s)) (λ v s. tested_goes v s (λ s. Done nil_value_of_state s) (λ s. conjunction rec' (record here { levels = m; holder = o }) v p s) (λ s. here_goes s nil_value_of_state) (λ s. one.conjunction_goes rec' gr (record here { levels = m; holder = o }) v p s))
       (i.eval_ k qs here m o Inside s t u g r e)
-      (λ k' v w s t x z e. choose_ends c k' qs _ _ s t _ _ _ _ (nil_same k' v w z) (done_here c k' qs nil nil s t (same_id 0) e) (j.conjunction_ k' qs here m o v w s t u (grows_trans n k k' g x) r z e))
+      (λ k' v w s t x z e. choose_ends c k' qs _ _ s t _ _ _ _ (nil_same k' v w z) (done_here c k' qs nil_value_of_state nil_value_of_state s t (same_id 0) e) (j.conjunction_ k' qs here m o v w s t u (grows_trans n k k' g x) r z e))
   conjunction_good n _ _ i k qs here m o v w s t u g r h e = done_here c k qs v w s t h e
 
   disjunction_good : (n : Names) (x y : Tree) → Parts n x y → DisjunctionGood n x y
@@ -274,25 +274,25 @@ module _ {bounds : Bounds} {compiler : Compiler} (c : Comparison) (cr : Compiler
       (λ v s. tested_goes v s (λ s. disjunction rec here d s) (λ s. Done v s) (λ s. one.disjunction_goes rec gl here d s) (λ s. here_goes s v)) (λ v s. tested_goes v s (λ s. disjunction rec' (record here { levels = m; holder = o }) p s) (λ s. Done v s) (λ s. one.disjunction_goes rec' gr (record here { levels = m; holder = o }) p s) (λ s. here_goes s v))
       (i.eval_ k qs here m o Inside s t u g r e)
       (λ k' v w s t x z e. choose_ends c k' qs _ _ s t _ _ _ _ (nil_same k' v w z) (j.disjunction_ k' qs here m o s t u (grows_trans n k k' g x) r e) (done_here c k' qs v w s t z e))
-  disjunction_good n _ _ i k qs here m o s t u g r e = done_here c k qs nil nil s t (same_id 0) e
+  disjunction_good n _ _ i k qs here m o s t u g r e = done_here c k qs nil_value_of_state nil_value_of_state s t (same_id 0) e
 
   setq_node : (n : Names) (a d b e : Tree) → SameTree n a b → SameTree n d e → First n d e → SetqGood n (Pair a d) (Pair b e)
   setq_node n _ _ _ _ (same_atom _ _ (same_id x)) (same_node a d b p i j) eval_ k qs here m o s t u g r e =
       then_ends c k qs s t _ _ _ _ e (one.eval_goes rec gl here Inside a s) (one.eval_goes rec' gr (record here { levels = m; holder = o }) Inside b t) (λ v s. one.assigned_goes x v s) (λ v s. one.assigned_goes x v s) (eval_ k qs here m o Inside s t u g r e)
       (λ k' v w s t q z e. two.assigned_ k' qs x v w s t z (c.shown qs e.places) e.like)
-  setq_node n _ _ _ _ (same_atom _ _ (same_id x)) i first k qs here m o s t u g r e = done_here c k qs nil nil s t (same_id 0) e
-  setq_node n _ _ _ _ (same_atom _ _ h) i first k qs here m o s t u g r e = done_here c k qs nil nil s t (same_id 0) e
-  setq_node n _ _ _ _ h i first k qs here m o s t u g r e = done_here c k qs nil nil s t (same_id 0) e
+  setq_node n _ _ _ _ (same_atom _ _ (same_id x)) i first k qs here m o s t u g r e = done_here c k qs nil_value_of_state nil_value_of_state s t (same_id 0) e
+  setq_node n _ _ _ _ (same_atom _ _ h) i first k qs here m o s t u g r e = done_here c k qs nil_value_of_state nil_value_of_state s t (same_id 0) e
+  setq_node n _ _ _ _ h i first k qs here m o s t u g r e = done_here c k qs nil_value_of_state nil_value_of_state s t (same_id 0) e
 
   setq_good : (n : Names) (x y : Tree) → Parts n x y → SetqGood n x y
   setq_good n _ _ (of_node a d b p i j) k qs here m o s t u g r e = setq_node n a d b p i.same j.same j.first_ k qs here m o s t u g r e
-  setq_good n _ _ i k qs here m o s t u g r e = done_here c k qs nil nil s t (same_id 0) e
+  setq_good n _ _ i k qs here m o s t u g r e = done_here c k qs nil_value_of_state nil_value_of_state s t (same_id 0) e
 
   returning_good : (n : Names) (x y : Tree) → Parts n x y → ReturningGood n x y
   returning_good n _ _ (of_node a d b p i j) k qs here m o position s t u g r e =
-      misplaced_ends c one k qs position (Id return_id) (Id return_id) s t _ _ (same_id return_id) e
+      misplaced_ends c one k qs position (Id return_number) (Id return_number) s t _ _ (same_id return_number) e
       (then_ends c k qs s t _ _ _ _ e (one.eval_goes rec gl here Inside a s) (one.eval_goes rec' gr (record here { levels = m; holder = o }) Inside b t) (λ v s. record { goes = goes_refl s }) (λ v s. record { goes = goes_refl s }) (i.eval_ k qs here m o Inside s t u g r e) (λ k' v w s t x z e. returned k' v w s t (grows_refl k') z e.like))
-  returning_good n _ _ i k qs here m o position s t u g r e = done_here c k qs nil nil s t (same_id 0) e
+  returning_good n _ _ i k qs here m o position s t u g r e = done_here c k qs nil_value_of_state nil_value_of_state s t (same_id 0) e
 
   prog_good : (n : Names) (x y : Tree) → Parts n x y → ProgGood n x y
   prog_good n _ _ (of_node a d b p i j) k qs here m o s t u g r e =
@@ -300,7 +300,7 @@ module _ {bounds : Bounds} {compiler : Compiler} (c : Comparison) (cr : Compiler
       rw (← same) (binding_ends c one k qs here.levels m here.kept (identifiers_in rec a) [] [] s t (λ l s. statements rec (record here { levels = l }) d d s) (λ l s. statements rec' (record here { levels = l; holder = o }) p p s) r end e
       (λ l s. one.statements_goes rec gl (record here { levels = l }) d d s) (λ l s. one.statements_goes rec' gr (record here { levels = l; holder = o }) p p s)
       (λ k' qs l m s t x r e. j.statements_ k' qs (record here { levels = l }) m o d p j.same s t u (grows_trans n k k' g x) r e))
-  prog_good n _ _ i k qs here m o s t u g r e = done_here c k qs nil nil s t (same_id 0) e
+  prog_good n _ _ i k qs here m o s t u g r e = done_here c k qs nil_value_of_state nil_value_of_state s t (same_id 0) e
 
   statement_node : (n : Names) (a d b p : Tree) → SameTree n a b → EvalGood n a b → StatementsGood n d p → StatementsGood n (Pair a d) (Pair b p)
   statement_node n _ d _ p (same_atom _ _ (same_id x)) eval_ rest k qs here m o whole whole' h s t u g r e = rest k qs here m o whole whole' h s t u g r e
@@ -323,7 +323,7 @@ module _ {bounds : Bounds} {compiler : Compiler} (c : Comparison) (cr : Compiler
 
   statements_good : (n : Names) (x y : Tree) → Parts n x y → StatementsGood n x y
   statements_good n _ _ (of_node a d b p i j) k qs here m o whole whole' h s t u g r e = statement_node n a d b p i.same i.eval_ j.statements_ k qs here m o whole whole' h s t u g r e
-  statements_good n _ _ i k qs here m o whole whole' h s t u g r e = done_here c k qs nil nil s t (same_id 0) e
+  statements_good n _ _ i k qs here m o whole whole' h s t u g r e = done_here c k qs nil_value_of_state nil_value_of_state s t (same_id 0) e
 
   listed_good : (n : Names) (x y : Tree) → Parts n x y → ListedGood n x y
   listed_good n _ _ (of_node a d b p i j) k qs here m o s t u g r e =
@@ -332,7 +332,7 @@ module _ {bounds : Bounds} {compiler : Compiler} (c : Comparison) (cr : Compiler
       (λ l. pair_listed_goes rec gl (record here { levels = l }) v d s) (λ l. pair_listed_goes rec' gr (record here { levels = l; holder = o }) w p t)
       (λ l m r. then_ends c k' qs s t _ _ _ _ e (one.listed_goes rec gl (record here { levels = l }) d s) (one.listed_goes rec' gr (record here { levels = m; holder = o }) p t) (λ list s. one.pair_goes v list s) (λ list s. one.pair_goes w list s) (j.listed_ k' qs (record here { levels = l }) m o s t u (grows_trans n k k' g x) r e)
       (λ k'' v' w' s t q h e. pair_ends c one k'' qs v w v' w' s t (value_grows k' k'' v w z q) h e)) 1 here.levels m r)
-  listed_good n _ _ i k qs here m o s t u g r e = done_here c k qs nil nil s t (same_id 0) e
+  listed_good n _ _ i k qs here m o s t u g r e = done_here c k qs nil_value_of_state nil_value_of_state s t (same_id 0) e
 
   combined_good : (n : Names) (x y : Tree) → Parts n x y → CombinedGood n x y
   combined_good n _ _ (of_node a d b p i j) form k qs here m o s t u g r e =
@@ -340,7 +340,7 @@ module _ {bounds : Bounds} {compiler : Compiler} (c : Comparison) (cr : Compiler
       (λ k' v w s t x z e. j.combined_rest_ form k' qs here m o v w s t u (grows_trans n k k' g x) r z e)
   combined_good n _ _ i form k qs here m o s t u g r e = done_here c k qs _ _ s t (none_same k form) e
 
-  operated_ends : (n : Names) (ps : List Place) (o : Operation) (xs ys : List Value) (s t : State) → Values n xs ys → CleanSides bounds c n ps s t → Alike bounds SameValue n ps (operated o xs s) (operated o ys t)
+  operated_ends : (n : Names) (ps : List EntryPlace) (o : Operation) (xs ys : List Value) (s t : State) → Values n xs ys → CleanSides bounds c n ps s t → Alike bounds SameValue n ps (operated o xs s) (operated o ys t)
   operated_ends n ps o xs ys s t h i = quiet_ends n ps s t _ _ i.like (two.operated_quiet o xs s) (two.operated_quiet o ys t) (two.operated_ n ps o xs ys s t h i.like)
 
   rest_goes : (rec : Rec) → RecGoes rec → (form : Special) (v : Value) (inner : Here) (e rest : Tree) (s : State) → GoesOn s (then_do (then_do (eval rec inner Inside e s) (λ w s. combined_rest rec form inner w rest s)) (λ w s. operated (operation_of form) (v ∷ w ∷ []) s))
@@ -360,29 +360,29 @@ module _ {bounds : Bounds} {compiler : Compiler} (c : Comparison) (cr : Compiler
   -- ---- the head of a list
 
   given_goes : (rec : Rec) → RecGoes rec → (here : Here) (xs : List ℕ) (forms args : Tree) (s : State) (l : Levels)
-      → GoesOn s (arguments rec (record here { levels = l }) [] (λ vs s. binding l here.kept xs vs s (λ levels s. progn rec (record here { levels = levels }) Inside nil forms s)) args s)
-  given_goes rec g here xs forms args s l = one.arguments_goes rec g (record here { levels = l }) [] (λ vs s. binding l here.kept xs vs s (λ levels s. progn rec (record here { levels = levels }) Inside nil forms s)) args s
-      (λ vs s. bound_goes l here.kept xs vs s (λ levels s. progn rec (record here { levels = levels }) Inside nil forms s) (λ l s. one.progn_goes rec g (record here { levels = l }) Inside nil forms s))
+      → GoesOn s (arguments rec (record here { levels = l }) [] (λ vs s. binding l here.kept xs vs s (λ levels s. progn rec (record here { levels = levels }) Inside nil_value_of_state forms s)) args s)
+  given_goes rec g here xs forms args s l = one.arguments_goes rec g (record here { levels = l }) [] (λ vs s. binding l here.kept xs vs s (λ levels s. progn rec (record here { levels = levels }) Inside nil_value_of_state forms s)) args s
+      (λ vs s. bound_goes l here.kept xs vs s (λ levels s. progn rec (record here { levels = levels }) Inside nil_value_of_state forms s) (λ l s. one.progn_goes rec g (record here { levels = l }) Inside nil_value_of_state forms s))
 
-  bound_next : (n : Names) (forms forms' : Tree) → PrognGood n forms forms' → (k : Names) (qs : List Place) (here : Here) (m : Levels) (o : ℕ) (xs : List ℕ) → Linked n.functions here.holder o → Grows n k → (l : Levels) → Roomier bounds l m
-      → Nexts k qs (λ vs s. binding l here.kept xs vs s (λ levels s. progn rec (record here { levels = levels }) Inside nil forms s)) (λ vs s. binding m here.kept xs vs s (λ levels s. progn rec' (record here { levels = levels; holder = o }) Inside nil forms' s))
+  bound_next : (n : Names) (forms forms' : Tree) → PrognGood n forms forms' → (k : Names) (qs : List EntryPlace) (here : Here) (m : Levels) (o : ℕ) (xs : List ℕ) → Linked n.functions here.holder o → Grows n k → (l : Levels) → Roomier bounds l m
+      → Nexts k qs (λ vs s. binding l here.kept xs vs s (λ levels s. progn rec (record here { levels = levels }) Inside nil_value_of_state forms s)) (λ vs s. binding m here.kept xs vs s (λ levels s. progn rec' (record here { levels = levels; holder = o }) Inside nil_value_of_state forms' s))
   bound_next n forms forms' progn_ k qs here m o xs u g l r = record {
-    ends = λ k' vs ws s t p q e. binding_ends c one k' qs l m here.kept xs vs ws s t (λ levels s. progn rec (record here { levels = levels }) Inside nil forms s) (λ levels s. progn rec' (record here { levels = levels; holder = o }) Inside nil forms' s) r q e
-        (λ l s. one.progn_goes rec gl (record here { levels = l }) Inside nil forms s) (λ l s. one.progn_goes rec' gr (record here { levels = l; holder = o }) Inside nil forms' s)
-        (λ k'' qs l m s t w r e. progn_ k'' qs (record here { levels = l }) m o Inside nil nil s t u (grows_trans n k k'' g (grows_trans k k' k'' p w)) r (same_id 0) e);
-    left = λ vs s. bound_goes l here.kept xs vs s (λ levels s. progn rec (record here { levels = levels }) Inside nil forms s) (λ l s. one.progn_goes rec gl (record here { levels = l }) Inside nil forms s);
-    right = λ vs s. bound_goes m here.kept xs vs s (λ levels s. progn rec' (record here { levels = levels; holder = o }) Inside nil forms' s) (λ l s. one.progn_goes rec' gr (record here { levels = l; holder = o }) Inside nil forms' s);
+    ends = λ k' vs ws s t p q e. binding_ends c one k' qs l m here.kept xs vs ws s t (λ levels s. progn rec (record here { levels = levels }) Inside nil_value_of_state forms s) (λ levels s. progn rec' (record here { levels = levels; holder = o }) Inside nil_value_of_state forms' s) r q e
+        (λ l s. one.progn_goes rec gl (record here { levels = l }) Inside nil_value_of_state forms s) (λ l s. one.progn_goes rec' gr (record here { levels = l; holder = o }) Inside nil_value_of_state forms' s)
+        (λ k'' qs l m s t w r e. progn_ k'' qs (record here { levels = l }) m o Inside nil_value_of_state nil_value_of_state s t u (grows_trans n k k'' g (grows_trans k k' k'' p w)) r (same_id 0) e);
+    left = λ vs s. bound_goes l here.kept xs vs s (λ levels s. progn rec (record here { levels = levels }) Inside nil_value_of_state forms s) (λ l s. one.progn_goes rec gl (record here { levels = l }) Inside nil_value_of_state forms s);
+    right = λ vs s. bound_goes m here.kept xs vs s (λ levels s. progn rec' (record here { levels = levels; holder = o }) Inside nil_value_of_state forms' s) (λ l s. one.progn_goes rec' gr (record here { levels = l; holder = o }) Inside nil_value_of_state forms' s);
   }
 
   applied_good : (n : Names) (x y : Tree) → Parts n x y → AppliedGood n x y
   applied_good n _ _ (of_node _ forms _ forms' i j) k qs here m o _ _ _ _ args args' s t u g r (is (Some xs)) (is d) given e =
       deeper_ends c k qs s t _ _ e (λ l. given_goes rec gl here xs forms args s l) (λ l. given_goes rec' gr (record here { holder = o }) xs forms' args' t l)
       (λ l m r. given k qs (record here { levels = l }) m o [] [] _ _ s t u g r end (bound_next n forms forms' j.progn_ k qs here m o xs u g l r) e) (call_levels d) here.levels m r
-  applied_good n _ _ (of_node _ forms _ forms' i j) k qs here m o _ _ _ _ args args' s t u g r (is None) (is d) given e = bad_ends k qs (Id lambda_id) (Id lambda_id) here.levels m s t (same_id lambda_id) r e
-  applied_good n _ _ i k qs here m o _ _ _ _ args args' s t u g r (is (Some xs)) (is d) given e = bad_ends k qs (Id lambda_id) (Id lambda_id) here.levels m s t (same_id lambda_id) r e
-  applied_good n _ _ i k qs here m o _ _ _ _ args args' s t u g r (is None) (is d) given e = bad_ends k qs (Id lambda_id) (Id lambda_id) here.levels m s t (same_id lambda_id) r e
+  applied_good n _ _ (of_node _ forms _ forms' i j) k qs here m o _ _ _ _ args args' s t u g r (is None) (is d) given e = bad_ends k qs (Id lambda_number) (Id lambda_number) here.levels m s t (same_id lambda_number) r e
+  applied_good n _ _ i k qs here m o _ _ _ _ args args' s t u g r (is (Some xs)) (is d) given e = bad_ends k qs (Id lambda_number) (Id lambda_number) here.levels m s t (same_id lambda_number) r e
+  applied_good n _ _ i k qs here m o _ _ _ _ args args' s t u g r (is None) (is d) given e = bad_ends k qs (Id lambda_number) (Id lambda_number) here.levels m s t (same_id lambda_number) r e
 
-  call_ends : (n : Names) (head head' args args' : Tree) → SameTree n head head' → AllGood n args args' → (k : Names) (qs : List Place) (here : Here) (m : Levels) (o : ℕ) (position : Position) (s t : State) → Linked n.functions here.holder o → Grows n k → Roomier bounds here.levels m → CleanSides bounds c k qs s t → (i : ℕ) (kind : Kind)
+  call_ends : (n : Names) (head head' args args' : Tree) → SameTree n head head' → AllGood n args args' → (k : Names) (qs : List EntryPlace) (here : Here) (m : Levels) (o : ℕ) (position : Position) (s t : State) → Linked n.functions here.holder o → Grows n k → Roomier bounds here.levels m → CleanSides bounds c k qs s t → (i : ℕ) (kind : Kind)
       → Alike bounds SameValue k qs (call_form rec here position head args s i kind) (call_form rec' (record here { levels = m; holder = o }) position head' args' t i kind)
   call_ends n head head' args args' h j k qs here m o position s t u g r e i Expr = deeper_same k qs _ _ here.levels m s t _ _ (ap (λ z. call_levels z) (count_same n args args' j.same)) r e (λ l. call_goes rec gl here i args s l) (λ l. call_goes rec' gr (record here { holder = o }) i args' t l)
       (λ l m r. j.arguments_ k qs (record here { levels = l }) m o [] [] (λ vs s. called rec i l vs s) (λ vs s. called rec' i m vs s) s t u g r end
@@ -393,12 +393,12 @@ module _ {bounds : Bounds} {compiler : Compiler} (c : Comparison) (cr : Compiler
       (λ l. one.macro_goes rec gl i (record here { levels = l; chain = d }) position (Pair head args) s) (λ l. one.macro_goes rec' gr i (record here { levels = l; chain = d; holder = o }) position (Pair head' args') t)
       (λ l m r. macro_ends c cr one two ask ask' ga gb respects k qs i (record here { levels = l; chain = d }) m o position _ _ s t r (tree_grows n k _ _ (same_node head args head' args' h j.same) g) e))
 
-  form_ends_ : (n : Names) (args args' : Tree) → AllGood n args args' → (k : Names) (qs : List Place) (here : Here) (m : Levels) (o : ℕ) (position : Position) (s t : State) → Linked n.functions here.holder o → Grows n k → Roomier bounds here.levels m → CleanSides bounds c k qs s t → (form : Special)
+  form_ends_ : (n : Names) (args args' : Tree) → AllGood n args args' → (k : Names) (qs : List EntryPlace) (here : Here) (m : Levels) (o : ℕ) (position : Position) (s t : State) → Linked n.functions here.holder o → Grows n k → Roomier bounds here.levels m → CleanSides bounds c k qs s t → (form : Special)
       → Alike bounds SameValue k qs (special_form rec here position args s form) (special_form rec' (record here { levels = m; holder = o }) position args' t form)
   form_ends_ n args args' j k qs here m o position s t u g r e Quote = quoted_ends k args args' (tree_grows n k args args' j.same g) qs s t e
   form_ends_ n args args' j k qs here m o position s t u g r e names.Function = named_ends k args args' (tree_grows n k args args' j.same g) qs s t e
   form_ends_ n args args' j k qs here m o position s t u g r e Cond = j.clauses_ k qs here m o position s t u g r e
-  form_ends_ n args args' j k qs here m o position s t u g r e Progn = j.progn_ k qs here m o position nil nil s t u g r (same_id 0) e
+  form_ends_ n args args' j k qs here m o position s t u g r e Progn = j.progn_ k qs here m o position nil_value_of_state nil_value_of_state s t u g r (same_id 0) e
   form_ends_ n args args' j k qs here m o position s t u g r e And = j.conjunction_ k qs here m o (truth true) (truth true) s t u g r (truth_same k true) e
   form_ends_ n args args' j k qs here m o position s t u g r e Or = j.disjunction_ k qs here m o s t u g r e
   form_ends_ n args args' j k qs here m o position s t u g r e Setq = j.setq_ k qs here m o s t u g r e
@@ -414,9 +414,9 @@ module _ {bounds : Bounds} {compiler : Compiler} (c : Comparison) (cr : Compiler
   form_ends_ n args args' j k qs here m o position s t u g r e Df = define_ends c cr one two ask ask' ga gb respects Df k args args' (tree_grows n k args args' j.same g) qs here.levels m s t r e
   form_ends_ n args args' j k qs here m o position s t u g r e Dm = define_ends c cr one two ask ask' ga gb respects Dm k args args' (tree_grows n k args args' j.same g) qs here.levels m s t r e
 
-  list_ends : (n : Names) (head head' args args' : Tree) → SameTree n head head' → AllGood n args args' → (k : Names) (qs : List Place) (here : Here) (m : Levels) (o : ℕ) (position : Position) (s t : State) → Linked n.functions here.holder o → Grows n k → Roomier bounds here.levels m → CleanSides bounds c k qs s t → (x y : Head) → SameHead k x y
+  list_ends : (n : Names) (head head' args args' : Tree) → SameTree n head head' → AllGood n args args' → (k : Names) (qs : List EntryPlace) (here : Here) (m : Levels) (o : ℕ) (position : Position) (s t : State) → Linked n.functions here.holder o → Grows n k → Roomier bounds here.levels m → CleanSides bounds c k qs s t → (x y : Head) → SameHead k x y
       → Alike bounds SameValue k qs (list_form rec here position head args s x) (list_form rec' (record here { levels = m; holder = o }) position head' args' t y)
-  list_ends n head head' args args' h j k qs here m o position s t u g r e _ _ same_applied = done_here c k qs nil nil s t (same_id 0) e
+  list_ends n head head' args args' h j k qs here m o position s t u g r e _ _ same_applied = done_here c k qs nil_value_of_state nil_value_of_state s t (same_id 0) e
   list_ends n head head' args args' h j k qs here m o position s t u g r e _ _ (same_bad v w z) = bad_ends k qs v w here.levels m s t z r e
   list_ends n head head' args args' h j k qs here m o position s t u g r e _ _ (same_call kind i) =
       choose_ends c k qs (is_list args) (is_list args') s t (λ s. call_form rec here position head args s i kind) (λ s. deeper 1 here.levels s (λ levels. bad_form (Id i) s)) (λ t. call_form rec' (record here { levels = m; holder = o }) position head' args' t i kind) (λ t. deeper 1 m t (λ levels. bad_form (Id i) t)) (list_same n args args' j.same)
@@ -427,10 +427,10 @@ module _ {bounds : Bounds} {compiler : Compiler} (c : Comparison) (cr : Compiler
       (λ l m r. choose_ends c k qs (fits form args) (fits form args') s t (λ s. special_form rec (record here { levels = l }) position args s form) (λ s. bad_form (atom_in rec head) s) (λ t. special_form rec' (record here { levels = m; holder = o }) position args' t form) (λ t. bad_form (atom_in rec' head') t) (fits_same n form args args' j.same)
       (form_ends_ n args args' j k qs (record here { levels = l }) m o position s t u g r e form) (fail_ends c k qs badly_formed _ _ s t e (atom_same k head head' (tree_grows n k head head' h g)))) 1 here.levels m r
 
-  lambda_ends_ : (n : Names) (a b lambda lambda' args args' : Tree) → SameTree n lambda lambda' → AppliedGood n lambda lambda' → AllGood n args args' → (k : Names) (qs : List Place) (here : Here) (m : Levels) (o : ℕ) (s t : State) → Linked n.functions here.holder o → Grows n k → Roomier bounds here.levels m → CleanSides bounds c k qs s t → (x y : Head) → SameHead k x y
+  lambda_ends_ : (n : Names) (a b lambda lambda' args args' : Tree) → SameTree n lambda lambda' → AppliedGood n lambda lambda' → AllGood n args args' → (k : Names) (qs : List EntryPlace) (here : Here) (m : Levels) (o : ℕ) (s t : State) → Linked n.functions here.holder o → Grows n k → Roomier bounds here.levels m → CleanSides bounds c k qs s t → (x y : Head) → SameHead k x y
       → Alike bounds SameValue k qs (lambda_form rec here a lambda args s x) (lambda_form rec' (record here { levels = m; holder = o }) b lambda' args' t y)
-  lambda_ends_ n a b lambda lambda' args args' h applied_ j k qs here m o s t u g r e _ _ (same_form form) = done_here c k qs nil nil s t (same_id 0) e
-  lambda_ends_ n a b lambda lambda' args args' h applied_ j k qs here m o s t u g r e _ _ (same_call kind f) = done_here c k qs nil nil s t (same_id 0) e
+  lambda_ends_ n a b lambda lambda' args args' h applied_ j k qs here m o s t u g r e _ _ (same_form form) = done_here c k qs nil_value_of_state nil_value_of_state s t (same_id 0) e
+  lambda_ends_ n a b lambda lambda' args args' h applied_ j k qs here m o s t u g r e _ _ (same_call kind f) = done_here c k qs nil_value_of_state nil_value_of_state s t (same_id 0) e
   lambda_ends_ n a b lambda lambda' args args' h applied_ j k qs here m o s t u g r e _ _ (same_bad v w z) = bad_ends k qs v w here.levels m s t z r e
   lambda_ends_ n a b lambda lambda' args args' h applied_ j k qs here m o s t u g r e _ _ same_applied =
       applied_ k qs here m o _ _ _ _ args args' s t u g r (one_of k _ _ (parameters_same n lambda lambda' args args' h j.same)) (one_of k _ _ (count_same n args args' j.same)) j.arguments_ e
@@ -496,7 +496,7 @@ module _ {bounds : Bounds} {compiler : Compiler} (c : Comparison) (cr : Compiler
   statements_ends n x y h = (good n x y h).statements_
 
   -- a held function is walked
-  pub walked_ends : (n : Names) (ps : List Place) (l m : Levels) (h o : ℕ) (p q : Option Pointer) (a b : Held) (vs ws : List Value) (s t : State) → Roomier bounds l m → Linked n.functions h o → Maybe (SamePointer n) p q → SameHeld n a b → Values n vs ws → BelowSides bounds c n ps s t → Alike bounds SameValue n ps (walked rec l h p a vs s) (walked rec' m o q b ws t)
+  pub walked_ends : (n : Names) (ps : List EntryPlace) (l m : Levels) (h o : ℕ) (p q : Option Pointer) (a b : Held) (vs ws : List Value) (s t : State) → Roomier bounds l m → Linked n.functions h o → Maybe (SamePointer n) p q → SameHeld n a b → Values n vs ws → BelowSides bounds c n ps s t → Alike bounds SameValue n ps (walked rec l h p a vs s) (walked rec' m o q b ws t)
   walked_ends n ps l m h o p q _ _ vs ws s t r x pq (same_held kind parameters kept a b y) vv i =
       let j : CleanSides bounds c n (BothMark ∷ ps) (with_mark p s) (with_mark q t) = mark_sides c n ps p q s t pq i in
       restored_ends n ps s t (binding l kept parameters vs (with_mark p s) (λ levels s. eval rec (at_here kept h levels) Inside a s)) (binding m kept parameters ws (with_mark q t) (λ levels t. eval rec' (at_here kept o levels) Inside b t)) i.like

@@ -4,28 +4,28 @@ use Rattle.rl_meaning.specs.State.{State}
 use Rattle.rl_meaning.specs.Evaluation.{Job, Run, Onward, Call_, From, In}
 use Rattle.rl_meaning.specs.Jobs.{the_compiler}
 use Rattle.rl_meaning.specs.TwoRunsValues.{Names}
-use Rattle.rl_meaning.specs.TwoRunsStates.{Bounds, Place, Both, BothMark, Hidden, HiddenMark, Shown, Like}
+use Rattle.rl_meaning.specs.TwoRunsStates.{Bounds, EntryPlace, Both, BothMark, Hidden, HiddenMark, Shown, Like}
 use Rattle.rl_agrees.specs.TwoRunsJobs.{EventWithin, SameJob, Ready}
 use Rattle.rl_agrees.proofs.TwoRunsKept.{Goes, IsOfState, IsWhole}
 use Rattle.rl_agrees.proofs.TwoRunsReady.{ready_stays}
 
 pub record Comparison : Type 1 where
   -- of the places where a function begins, which pushes a mark over them; where a form is walked; and where code goes on
-  pub below : List Place → Type 0
-  pub clean : List Place → Type 0
-  pub coded : List Place → Type 0
+  pub below : List EntryPlace → Type 0
+  pub clean : List EntryPlace → Type 0
+  pub coded : List EntryPlace → Type 0
   -- of the states on the left and on the right
   pub states : State → State → Type 0
   -- of a job on the right
   pub asked : Job → State → Type 0
   -- a binding of both leaves places clean, and so does the mark of a function that begins
-  pub bound : (ps : List Place) → clean ps → clean (Both ∷ ps)
-  pub marked : (ps : List Place) → below ps → clean (BothMark ∷ ps)
+  pub bound : (ps : List EntryPlace) → clean ps → clean (Both ∷ ps)
+  pub marked : (ps : List EntryPlace) → below ps → clean (BothMark ∷ ps)
   -- where a form is walked a function may begin, and variables are the same ones
-  pub begun : (ps : List Place) → clean ps → below ps
-  pub shown : (ps : List Place) → clean ps → Shown ps
+  pub begun : (ps : List EntryPlace) → clean ps → below ps
+  pub shown : (ps : List EntryPlace) → clean ps → Shown ps
   -- code goes on where no binding is lacking
-  pub whole : (ps : List Place) → coded ps → IsWhole ps
+  pub whole : (ps : List EntryPlace) → coded ps → IsWhole ps
   -- both go on, and what is asked of them stays
   pub stay : (s t u v : State) → Goes s u → Goes t v → states s t → states u v
   pub event : (s t : State) → states s t → EventWithin t
@@ -35,33 +35,33 @@ pub record Comparison : Type 1 where
 -- ---- two states beside each other, and two jobs
 
 -- P: what is asked of the places
-pub record Sides (bounds : Bounds) (c : Comparison) (P : List Place → Type 0) (n : Names) (ps : List Place) (s t : State) : Type 0 where
+pub record Sides (bounds : Bounds) (c : Comparison) (P : List EntryPlace → Type 0) (n : Names) (ps : List EntryPlace) (s t : State) : Type 0 where
   pub like : Like bounds n ps s t
   pub places : P ps
   pub ready : c.states s t
 
 -- where a function begins
-abbrev pub BelowSides : Bounds → Comparison → Names → List Place → State → State → Type 0
+abbrev pub BelowSides : Bounds → Comparison → Names → List EntryPlace → State → State → Type 0
 BelowSides bounds c n ps s t = Sides bounds c c.below n ps s t
 
 -- where a form is walked
-abbrev pub CleanSides : Bounds → Comparison → Names → List Place → State → State → Type 0
+abbrev pub CleanSides : Bounds → Comparison → Names → List EntryPlace → State → State → Type 0
 CleanSides bounds c n ps s t = Sides bounds c c.clean n ps s t
 
 module _ {bounds : Bounds} where
   -- so a function may begin there
-  pub begun_sides : (c : Comparison) (n : Names) (ps : List Place) (s t : State) → CleanSides bounds c n ps s t → BelowSides bounds c n ps s t
+  pub begun_sides : (c : Comparison) (n : Names) (ps : List EntryPlace) (s t : State) → CleanSides bounds c n ps s t → BelowSides bounds c n ps s t
   begun_sides c n ps s t i = record { like = i.like; places = c.begun ps i.places; ready = i.ready }
 
 -- what a job asks of the places
-abbrev pub PlacesOf : Comparison → Job → List Place → Type 0
+abbrev pub PlacesOf : Comparison → Job → List EntryPlace → Type 0
 PlacesOf c (Run name l holder f held vs) ps = c.below ps
 PlacesOf c (Onward f m code) ps = c.coded ps
 PlacesOf c (Call_ name l f vs) ps = c.below ps
 PlacesOf c (From here whole rest) ps = c.clean ps
 PlacesOf c (In here position body) ps = c.clean ps
 
-pub record Starts (bounds : Bounds) (c : Comparison) (n : Names) (ps : List Place) (j : Job) (s : State) (k : Job) (t : State) : Type 0 where
+pub record Starts (bounds : Bounds) (c : Comparison) (n : Names) (ps : List EntryPlace) (j : Job) (s : State) (k : Job) (t : State) : Type 0 where
   pub same : SameJob bounds n j k
   pub like : Like bounds n ps s t
   pub places : PlacesOf c j ps
@@ -70,7 +70,7 @@ pub record Starts (bounds : Bounds) (c : Comparison) (n : Names) (ps : List Plac
 
 -- ---- a run in which code runs, and the walk: no binding is lacking, and each code is right
 
-pub whole_shown : (ps : List Place) → IsWhole ps → Shown ps
+pub whole_shown : (ps : List EntryPlace) → IsWhole ps → Shown ps
 whole_shown [] w = tt
 whole_shown (Both ∷ ps) w = whole_shown ps w
 whole_shown (BothMark ∷ ps) w = tt

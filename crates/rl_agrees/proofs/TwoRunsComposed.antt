@@ -10,14 +10,14 @@ use Rattle.rl_meaning.specs.Holding as holding
 use Rattle.rl_meaning.specs.Variables.{with_mark, restored}
 use Rattle.rl_meaning.specs.Evaluation.{Job, Run, Onward, Call_, From, In, Here, Rec, Frame, walked, eval, statements, applied, longest_chain}
 use Rattle.rl_meaning.specs.Machine.{run, run_code, one_more, at_entry}
-use Rattle.rl_meaning.specs.Jobs.{names_function, code_among, code_outside, code_of, run_held, job_done, rank_of, rank, chain_of, job, jobs, the_compiler}
+use Rattle.rl_meaning.specs.Jobs.{names_function, code_among, code_outside, code_of, run_held, job_done, rank_of_job, rank, chain_of_job, job, jobs, the_compiler}
 use Rattle.rl_meaning.specs.Laws.{below_by, below, IsFuelEnough}
 use Rattle.rl_meaning.specs.TwoRunsLinks.{OneToOne}
 use Rattle.rl_meaning.specs.TwoRunsValues.{Names, Maybe, nothing, just, Each, end, more, SameValue, SameHeld, SamePointer, same_pointer, SameCode, SameCoded, same_coded}
-use Rattle.rl_meaning.specs.TwoRunsStates.{Bounds, Place, all_both, SameExpansion, same_none, same_open, Like, Roomier}
-use Rattle.rl_meaning.specs.TwoRunsEnds.{stopped, Ends}
+use Rattle.rl_meaning.specs.TwoRunsStates.{Bounds, EntryPlace, all_both, SameExpansion, same_none, same_open, Like, Roomier}
+use Rattle.rl_meaning.specs.TwoRunsEnds.{stopped, EndsAgree}
 use Rattle.rl_meaning.specs.Right.{AgreesWith, Right}
-use Rattle.rl_agrees.specs.Later.{IsIn, first, further}
+use Rattle.rl_agrees.specs.Later.{IsMemberOf, first, further}
 use Rattle.rl_agrees.specs.TwoRunsJobs.{SameHere, same_here, SameJob, same_run, same_onward, same_call, same_from, same_in, ReadyCode, Ready}
 use Rattle.rl_agrees.proofs.TwoRunsKept.{IsWhole, EndsSomewhere, EndsOf}
 use Rattle.rl_agrees.proofs.TwoRunsObjects.{linked_same}
@@ -76,18 +76,18 @@ module _ {bounds : Bounds} where
   here_chain : (n : Names) (h g : Here) → SameHere bounds n h g → h.chain ≡ g.chain
   here_chain n h g (same_here chain kept l m i j r k) = refl
 
-  chain_same : (n : Names) (j k : Job) → SameJob bounds n j k → chain_of j ≡ chain_of k
+  chain_same : (n : Names) (j k : Job) → SameJob bounds n j k → chain_of_job j ≡ chain_of_job k
   chain_same n j k (same_run name l m h g p q a b vs ws r i x y z) = refl
   chain_same n j k (same_onward f g m l c d x y z) = refl
   chain_same n j k (same_call name l m p q vs ws x y z) = refl
   chain_same n j k (same_from h g a b c d x y z) = here_chain n h g x
   chain_same n j k (same_in h g position a b x y) = here_chain n h g x
 
-  rank_same : (n : Names) (ps : List Place) (j k : Job) (s t : State) → SameJob bounds n j k → Like bounds n ps s t → rank j s ≡ rank k t
-  rank_same n ps j k s t x l = at s.counts.expansion t.counts.expansion l.counts.expansion ∙ ap (λ c. rank_of c t.counts.expansion t.counts.turns) (chain_same n j k x)
+  rank_same : (n : Names) (ps : List EntryPlace) (j k : Job) (s t : State) → SameJob bounds n j k → Like bounds n ps s t → rank j s ≡ rank k t
+  rank_same n ps j k s t x l = at s.counts.expansion t.counts.expansion l.counts.expansion ∙ ap (λ c. rank_of_job c t.counts.expansion t.counts.turns) (chain_same n j k x)
     where
-      at : (e f : Option Expansion) → SameExpansion e f → rank_of (chain_of j) e s.counts.turns ≡ rank_of (chain_of j) f t.counts.turns
-      at e f same_none = ap (λ u. rank_of (chain_of j) None u) l.counts.turns
+      at : (e f : Option Expansion) → SameExpansion e f → rank_of_job (chain_of_job j) e s.counts.turns ≡ rank_of_job (chain_of_job j) f t.counts.turns
+      at e f same_none = ap (λ u. rank_of_job (chain_of_job j) None u) l.counts.turns
       at e f (same_open x) = refl
 
 -- ---- the code on the left, and the entry on the right
@@ -95,7 +95,7 @@ module _ {bounds : Bounds} where
 -- an entry of the right map whose code is the same
 record Matched (n : Names) (code : Code) (q : Option Pointer) (ds : List Coded) : Type 0 where
   entry : Coded
-  is_in : IsIn entry ds
+  is_in : IsMemberOf entry ds
   same : SameCode n code entry.code
   function : q ≡ Some entry.function
 
@@ -163,15 +163,15 @@ held_is f a b x y = cc
 
 -- the jobs below this rank agree
 abbrev Below : Bounds → Comparison → ℕ → Type 0
-Below bounds c i = (n : Names) (ps : List Place) (j : Job) (s : State) (k : Job) (t : State) → Starts bounds c n ps j s k t → rank j s < i → EndsOf bounds j n ps (job the_compiler j s) (job the_compiler k t)
+Below bounds c i = (n : Names) (ps : List EntryPlace) (j : Job) (s : State) (k : Job) (t : State) → Starts bounds c n ps j s k t → rank j s < i → EndsOf bounds j n ps (job the_compiler j s) (job the_compiler k t)
 
 module _ {bounds : Bounds}
     (c : Comparison)
     (fuel : IsFuelEnough)
     (below_goes : (i : ℕ) → AskGoes (below i))
-    (walk_respects : (ask ask' : Ask) → AskGoes ask → AskGoes ask' → asked.Respects bounds c ask ask' → (n : Names) (ps : List Place) (j : Job) (s : State) (k : Job) (t : State) → Starts bounds c n ps j s k t → EndsOf bounds j n ps (walk_done (by ask) j s) (walk_done (by ask') k t))
+    (walk_respects : (ask ask' : Ask) → AskGoes ask → AskGoes ask' → asked.Respects bounds c ask ask' → (n : Names) (ps : List EntryPlace) (j : Job) (s : State) (k : Job) (t : State) → Starts bounds c n ps j s k t → EndsOf bounds j n ps (walk_done (by ask) j s) (walk_done (by ask') k t))
   where
-    ends_stopped : (j : Job) (n : Names) (ps : List Place) (s t : State) → PlacesOf c j ps → Like bounds n ps s t → EndsOf bounds j n ps (Stopped Turns s) (Stopped Turns t)
+    ends_stopped : (j : Job) (n : Names) (ps : List EntryPlace) (s t : State) → PlacesOf c j ps → Like bounds n ps s t → EndsOf bounds j n ps (Stopped Turns s) (Stopped Turns t)
     ends_stopped (Run name levels holder f held vs) n ps s t w l = stopped Turns s t (record { outside = l.outside; turns = l.counts.turns; may = tt })
     ends_stopped (Onward f m code) n ps s t w l = record { places = ps; whole = c.whole ps w; ends = stopped Turns s t (record { outside = l.outside; turns = l.counts.turns; may = tt }) }
     ends_stopped (Call_ name levels f vs) n ps s t w l = stopped Turns s t (record { outside = l.outside; turns = l.counts.turns; may = tt })
@@ -185,7 +185,7 @@ module _ {bounds : Bounds}
         at true e = ih n ps j s k t st (grind (arith, nat_tests, e))
         at false e = ends_stopped j n ps s t st.places st.like
 
-    walk_agrees : (i : ℕ) → Below bounds c i → (n : Names) (ps : List Place) (j : Job) (s : State) (k : Job) (t : State) → Starts bounds c n ps j s k t → rank j s ≤ i → code_in j s ≡ None → EndsOf bounds j n ps (job the_compiler j s) (job the_compiler k t)
+    walk_agrees : (i : ℕ) → Below bounds c i → (n : Names) (ps : List EntryPlace) (j : Job) (s : State) (k : Job) (t : State) → Starts bounds c n ps j s k t → rank j s ≤ i → code_in j s ≡ None → EndsOf bounds j n ps (job the_compiler j s) (job the_compiler k t)
     walk_agrees i ih n ps j s k t st le e =
         let le' : rank k t ≤ i = subst (λ r. r ≤ i) (rank_same n ps j k s t st.same st.like) le in
         let left : job the_compiler j s ≡ walk_done (by (below i)) j s = fuel.less i j s le ∙ walk_is (by (below i)) j s e in
@@ -208,13 +208,13 @@ module _ {bounds : Bounds}
     (job_goes : AskGoes (job the_compiler))
     (code_goes : (levels : Levels) (f : Option Pointer) (held : Held) (code : Code) (vs : List Value) (s : State) → GoesOn s (run_code (jobs the_compiler) levels f held code vs s))
     (below_goes : (i : ℕ) → AskGoes (below i))
-    (walk_respects : (ask ask' : Ask) → AskGoes ask → AskGoes ask' → Respects bounds ask ask' → (n : Names) (ps : List Place) (j : Job) (s : State) (k : Job) (t : State) → Starts bounds code_and_walk n ps j s k t → EndsOf bounds j n ps (walk_done (by ask) j s) (walk_done (by ask') k t))
-    (code_respects : (ask ask' : Ask) → AskGoes ask → AskGoes ask' → Respects bounds ask ask' → (n : Names) (ps : List Place) (l m : Levels) (p q : Option Pointer) (a b : Held) (c d : Code) (vs ws : List Value) (s t : State)
+    (walk_respects : (ask ask' : Ask) → AskGoes ask → AskGoes ask' → Respects bounds ask ask' → (n : Names) (ps : List EntryPlace) (j : Job) (s : State) (k : Job) (t : State) → Starts bounds code_and_walk n ps j s k t → EndsOf bounds j n ps (walk_done (by ask) j s) (walk_done (by ask') k t))
+    (code_respects : (ask ask' : Ask) → AskGoes ask → AskGoes ask' → Respects bounds ask ask' → (n : Names) (ps : List EntryPlace) (l m : Levels) (p q : Option Pointer) (a b : Held) (c d : Code) (vs ws : List Value) (s t : State)
     → Roomier bounds l m → Maybe (SamePointer n) p q → SameHeld n a b → SameCode n c d → Each (SameValue n) vs ws → Like bounds n ps s t → IsWhole ps → Ready the_compiler t
     → EndsSomewhere bounds n (run_code (by ask) l p a c vs s) (run_code (by ask') m q b d ws t))
   where
     -- code from its entry on is a job that has no more to do
-    code_below : (i : ℕ) (levels : Levels) (f : Option Pointer) (held : Held) (code : Code) (vs : List Value) (t : State) → rank_of longest_chain t.counts.expansion t.counts.turns ≤ i → run_code (by (below i)) levels f held code vs t ≡ run_code (jobs the_compiler) levels f held code vs t
+    code_below : (i : ℕ) (levels : Levels) (f : Option Pointer) (held : Held) (code : Code) (vs : List Value) (t : State) → rank_of_job longest_chain t.counts.expansion t.counts.turns ≤ i → run_code (by (below i)) levels f held code vs t ≡ run_code (jobs the_compiler) levels f held code vs t
     code_below i levels f held (Entry name n ∷ rest) vs t le =
         let frame : Frame = record { name = name; function = f; held = held; code = Entry name n ∷ rest; depth = length t.bindings; outside = one_more levels } in
         let j : Job = Onward frame (at_entry vs levels) rest in
@@ -222,12 +222,12 @@ module _ {bounds : Bounds}
     code_below i levels f held other vs t le = refl
 
     -- its code on both sides, then its code and its walk on the right
-    code_by : (i : ℕ) → Below bounds code_and_walk i → (n : Names) (ps : List Place) (name : Option ℕ) (l m : Levels) (h g : ℕ) (p : Option Pointer) (a b : Held) (vs ws : List Value) (s t : State) (code : Code) (entry : Coded)
-        → IsIn entry t.compilation.coded → SameCode n code entry.code → t.counts.expansion ≡ None
+    code_by : (i : ℕ) → Below bounds code_and_walk i → (n : Names) (ps : List EntryPlace) (name : Option ℕ) (l m : Levels) (h g : ℕ) (p : Option Pointer) (a b : Held) (vs ws : List Value) (s t : State) (code : Code) (entry : Coded)
+        → IsMemberOf entry t.compilation.coded → SameCode n code entry.code → t.counts.expansion ≡ None
         → Roomier bounds l m → SameHeld n a b → Each (SameValue n) vs ws
         → rank (Run name l h p a vs) s ≤ i → code_of name p s ≡ Some code
         → Starts bounds code_and_walk n ps (Run name l h p a vs) s (Run name m g (Some entry.function) b ws) t → Maybe (SamePointer n) p (Some entry.function)
-        → Ends bounds n ps (job the_compiler (Run name l h p a vs) s) (job the_compiler (Run name m g (Some entry.function) b ws) t)
+        → EndsAgree bounds n ps (job the_compiler (Run name l h p a vs) s) (job the_compiler (Run name m g (Some entry.function) b ws) t)
     code_by i ih n ps name l m h g p a b vs ws s t code entry is_in same x r hh vv le e st pq =
         let j : Job = Run name l h p a vs in
         let f : Pointer = entry.function in
@@ -246,17 +246,17 @@ module _ {bounds : Bounds}
         let first : EndsSomewhere bounds n (job the_compiler j s) P =
         subst (λ o. EndsSomewhere bounds n o P) (sym left) (subst (λ o. EndsSomewhere bounds n (run_code (by (below i)) l p a code vs s) o) (code_below i m (Some f) b entry.code ws t le')
         (code_respects (below i) (below i) (below_goes i) (below_goes i) (below_respects code_and_walk fuel below_goes walk_respects i ih) n ps l m p (Some f) a b code entry.code vs ws s t r pq hh same vv st.like st.places st.ready)) in
-        subst (λ qs. Ends bounds n qs (job the_compiler j s) (job the_compiler k t)) (sym (whole_places n ps s.bindings t.bindings st.places st.like.bindings))
+        subst (λ qs. EndsAgree bounds n qs (job the_compiler j s) (job the_compiler k t)) (sym (whole_places n ps s.bindings t.bindings st.places st.like.bindings))
         (joined n (names_on_right n) (right_covers n) first.places (all_both t.bindings) first.whole (all_both_whole t.bindings) (job the_compiler j s) P (job the_compiler k t)
         ((job_goes.goes k t).goes.within st.ready.event) second.events (sym (code_goes m (Some f) b entry.code ws t).goes.bounded ∙ (job_goes.goes k t).goes.bounded) first.ends second.ends)
 
-    code_agrees : (i : ℕ) → Below bounds code_and_walk i → (n : Names) (ps : List Place) (name : Option ℕ) (l m : Levels) (h g : ℕ) (p q : Option Pointer) (a b : Held) (vs ws : List Value) (s t : State) (code : Code)
+    code_agrees : (i : ℕ) → Below bounds code_and_walk i → (n : Names) (ps : List EntryPlace) (name : Option ℕ) (l m : Levels) (h g : ℕ) (p q : Option Pointer) (a b : Held) (vs ws : List Value) (s t : State) (code : Code)
         → Starts bounds code_and_walk n ps (Run name l h p a vs) s (Run name m g q b ws) t → Roomier bounds l m → Maybe (SamePointer n) p q → SameHeld n a b → Each (SameValue n) vs ws
-        → rank (Run name l h p a vs) s ≤ i → code_of name p s ≡ Some code → Ends bounds n ps (job the_compiler (Run name l h p a vs) s) (job the_compiler (Run name m g q b ws) t)
+        → rank (Run name l h p a vs) s ≤ i → code_of name p s ≡ Some code → EndsAgree bounds n ps (job the_compiler (Run name l h p a vs) s) (job the_compiler (Run name m g q b ws) t)
     code_agrees i ih n ps name l m h g p q a b vs ws s t code st r pq hh vv le e =
         let c : Chosen name p s code = chosen name p s code e in
         let x : Matched n code q t.compilation.coded = matched n c.called p q code s.compilation.coded t.compilation.coded st.like.functions.once pq st.like.compilation.coded c.among in
-        subst (λ q. Starts bounds code_and_walk n ps (Run name l h p a vs) s (Run name m g q b ws) t → Maybe (SamePointer n) p q → Ends bounds n ps (job the_compiler (Run name l h p a vs) s) (job the_compiler (Run name m g q b ws) t))
+        subst (λ q. Starts bounds code_and_walk n ps (Run name l h p a vs) s (Run name m g q b ws) t → Maybe (SamePointer n) p q → EndsAgree bounds n ps (job the_compiler (Run name l h p a vs) s) (job the_compiler (Run name m g q b ws) t))
         (sym x.function)
         (code_by i ih n ps name l m h g p a b vs ws s t code x.entry x.is_in x.same (expansion_none s.counts.expansion t.counts.expansion c.expansion st.like.counts.expansion) r hh vv le e)
         st pq

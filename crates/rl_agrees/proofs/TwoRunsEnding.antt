@@ -5,16 +5,16 @@ use Rattle.rl_tree.specs.Value.{Value, Id, Str}
 use Rattle.rl_tree.specs.declared.held.VarKind.{VarKind}
 use Rattle.rl_tree.specs.declared.held.VarKind.TheVariants as kind
 use Rattle.rl_meaning.specs.State.{State, Counts, Expansion, Binding, Mark, Local, Fluid, Kept, Pointer, Outside, Scope}
-use Rattle.rl_meaning.specs.Outcome.{Outcome, Done, Failed, Went, Returned, Stopped, Stop, Turns, Depth, Expands, then_do, choose, turn, Levels, entered, deeper, cells_within, run_room, expansion_within, expansion_room, made_pair, run_turn, expansion_turn, turn_of}
+use Rattle.rl_meaning.specs.Outcome.{Outcome, Done, Failed, Went, Returned, Stopped, Stop, Turns, Depth, Expands, then_do, choose, turn, Levels, in_levels, deeper, cells_within, run_room, expansion_within, expansion_room, made_pair, run_turn, expansion_turn, turn_of}
 use Rattle.rl_meaning.specs.Opening.{state_of}
-use Rattle.rl_meaning.specs.Symbols.{nil, is_constant}
+use Rattle.rl_meaning.specs.Symbols.{nil_value_of_state, is_constant}
 use Rattle.rl_meaning.specs.Errors.{fail, error_text, not_bindable}
 use Rattle.rl_meaning.specs.Holding.{kept_kind}
 use Rattle.rl_meaning.specs.Variables.{with_binding, with_mark, bound_as, bind_all, binding_levels, restored, binding}
 use Rattle.rl_meaning.specs.Evaluation.{closed, without_expansion}
 use Rattle.rl_meaning.specs.TwoRunsValues.{Names, Grows, Maybe, Each, end, more, SameValue, same_id, SamePointer}
-use Rattle.rl_meaning.specs.TwoRunsStates.{Bounds, Place, Both, BothMark, SameExpansion, same_none, same_open, SameCounts, Like, Roomier}
-use Rattle.rl_meaning.specs.TwoRunsEnds.{Begins, HasShown, lacks_levels, meets_levels, MayStop, Parted, Related, done, failed, went, returned, stopped, parted, Ends}
+use Rattle.rl_meaning.specs.TwoRunsStates.{Bounds, EntryPlace, Both, BothMark, SameExpansion, same_none, same_open, SameCounts, Like, Roomier}
+use Rattle.rl_meaning.specs.TwoRunsEnds.{IsBegunBy, HasShown, lacks_levels, meets_levels, MayStop, Parted, Related, done, failed, went, returned, stopped, parted, EndsAgree}
 use Rattle.rl_meaning.specs.TwoRunsEnds as ends
 use Rattle.rl_agrees.specs.TwoRunsJobs.{EventWithin}
 use Rattle.rl_agrees.proofs.TwoRunsKept.{Goes}
@@ -28,11 +28,11 @@ use Rattle.rl_agrees.proofs.TwoRunsGoes.{goes_with, goes_to, then_goes, parted_i
 use Rattle.rl_agrees.proofs.TwoRunsCompared.{Comparison, Sides, BelowSides, CleanSides}
 
 -- the ends of two runs of which the left one may run code
-abbrev pub Alike : Bounds → {A : Type 0} → (Names → A → A → Type 0) → Names → List Place → Outcome A → Outcome A → Type 0
+abbrev pub Alike : Bounds → {A : Type 0} → (Names → A → A → Type 0) → Names → List EntryPlace → Outcome A → Outcome A → Type 0
 Alike bounds {A} R n ps o p = Related bounds {A = A} (Parted bounds) R n ps o p
 
 module _ {bounds : Bounds} where
-  pub further_ends : {A : Type 0} {R : Names → A → A → Type 0} (n m : Names) (ps : List Place) (o p : Outcome A) → Grows n m → Alike bounds R m ps o p → Alike bounds R n ps o p
+  pub further_ends : {A : Type 0} {R : Names → A → A → Type 0} (n m : Names) (ps : List EntryPlace) (o p : Outcome A) → Grows n m → Alike bounds R m ps o p → Alike bounds R n ps o p
   further_ends n m ps o p g (done k a b s t h r l) = done k a b s t (grows_trans n m k g h) r l
   further_ends n m ps o p g (failed k z v w s t h r l) = failed k z v w s t (grows_trans n m k g h) r l
   further_ends n m ps o p g (went k x s t h l) = went k x s t (grows_trans n m k g h) l
@@ -40,20 +40,20 @@ module _ {bounds : Bounds} where
   further_ends n m ps o p g (stopped why s t e) = stopped why s t e
   further_ends n m ps o p g (parted _ _ a) = parted _ _ a
 
-  pub done_here : {A : Type 0} {R : Names → A → A → Type 0} {P : List Place → Type 0} (c : Comparison) (n : Names) (ps : List Place) (a b : A) (s t : State) → R n a b → Sides bounds c P n ps s t → Alike bounds R n ps (Done a s) (Done b t)
+  pub done_here : {A : Type 0} {R : Names → A → A → Type 0} {P : List EntryPlace → Type 0} (c : Comparison) (n : Names) (ps : List EntryPlace) (a b : A) (s t : State) → R n a b → Sides bounds c P n ps s t → Alike bounds R n ps (Done a s) (Done b t)
   done_here c n ps a b s t r i = done n a b s t (grows_refl n) r i.like
 
-  pub stopped_here : {A : Type 0} {R : Names → A → A → Type 0} {P : List Place → Type 0} (c : Comparison) (n : Names) (ps : List Place) (why : Stop) (s t : State) → MayStop bounds why → Sides bounds c P n ps s t → Alike bounds {A = A} R n ps (Stopped why s) (Stopped why t)
+  pub stopped_here : {A : Type 0} {R : Names → A → A → Type 0} {P : List EntryPlace → Type 0} (c : Comparison) (n : Names) (ps : List EntryPlace) (why : Stop) (s t : State) → MayStop bounds why → Sides bounds c P n ps s t → Alike bounds {A = A} R n ps (Stopped why s) (Stopped why t)
   stopped_here c n ps why s t may i = stopped why s t (record { outside = i.like.outside; turns = i.like.counts.turns; may = may })
 
 module _ (c : Comparison) where
   module _ {bounds : Bounds} where
-    pub sides_on : {P : List Place → Type 0} (n m : Names) (ps : List Place) (s t u v : State) → Sides bounds c P n ps s t → Goes s u → Goes t v → Like bounds m ps u v → Sides bounds c P m ps u v
+    pub sides_on : {P : List EntryPlace → Type 0} (n m : Names) (ps : List EntryPlace) (s t u v : State) → Sides bounds c P n ps s t → Goes s u → Goes t v → Like bounds m ps u v → Sides bounds c P m ps u v
     sides_on n m ps s t u v i h g l = record { like = l; places = i.places; ready = c.stay s t u v h g i.ready }
 
     -- ---- and then
 
-    pub then_ends : {A B : Type 0} {R : Names → A → A → Type 0} {S : Names → B → B → Type 0} {P : List Place → Type 0} (n : Names) (ps : List Place) (s t : State) (o p : Outcome A) (f g : A → State → Outcome B)
+    pub then_ends : {A B : Type 0} {R : Names → A → A → Type 0} {S : Names → B → B → Type 0} {P : List EntryPlace → Type 0} (n : Names) (ps : List EntryPlace) (s t : State) (o p : Outcome A) (f g : A → State → Outcome B)
         → Sides bounds c P n ps s t → GoesOn s o → GoesOn t p → ((a : A) (s : State) → GoesOn s (f a s)) → ((a : A) (s : State) → GoesOn s (g a s)) → Alike bounds R n ps o p
         → ((m : Names) (a b : A) (u v : State) → Grows n m → R m a b → Sides bounds c P m ps u v → Alike bounds S m ps (f a u) (g b v)) → Alike bounds S n ps (then_do o f) (then_do p g)
     then_ends n ps s t o p f g i d w x y (done m a b u v k r l) h = further_ends n m ps _ _ k (h m a b u v k r (sides_on n m ps s t u v i d.goes w.goes l))
@@ -63,7 +63,7 @@ module _ (c : Comparison) where
     then_ends n ps s t o p f g i d w x y (stopped why u v e) h = stopped why u v e
     then_ends n ps s t o p f g i d w x y (parted _ _ a) h = parted _ _ (parted_in (λ o. then_do o f) (λ o. then_do o g) o p (then_context f x) (then_context g y) (w.goes.within (c.event s t i.ready)) a)
 
-    pub closed_ends : {A : Type 0} {R : Names → A → A → Type 0} (n : Names) (ps : List Place) (o p : Outcome A) → ((m : Names) (u v : State) → Like bounds m ps u v → Like bounds m ps (without_expansion u) (without_expansion v)) → EventWithin (state_of p) → Alike bounds R n ps o p → Alike bounds R n ps (closed o) (closed p)
+    pub closed_ends : {A : Type 0} {R : Names → A → A → Type 0} (n : Names) (ps : List EntryPlace) (o p : Outcome A) → ((m : Names) (u v : State) → Like bounds m ps u v → Like bounds m ps (without_expansion u) (without_expansion v)) → EventWithin (state_of p) → Alike bounds R n ps o p → Alike bounds R n ps (closed o) (closed p)
     closed_ends n ps o p h w (done m a b u v k r l) = done m a b _ _ k r (h m u v l)
     closed_ends n ps o p h w (failed m z a b u v k r l) = failed m z a b _ _ k r (h m u v l)
     closed_ends n ps o p h w (went m z u v k l) = went m z _ _ k (h m u v l)
@@ -71,7 +71,7 @@ module _ (c : Comparison) where
     closed_ends n ps o p h w (stopped why u v e) = stopped why u v e
     closed_ends n ps o p h w (parted _ _ a) = parted _ _ (parted_in (λ o. closed o) (λ o. closed o) o p closed_context closed_context w a)
 
-    pub choose_ends : {A : Type 0} {R : Names → A → A → Type 0} (n : Names) (ps : List Place) (b d : Bool) (s t : State) (f g f' g' : State → Outcome A) → b ≡ d → Alike bounds R n ps (f s) (f' t) → Alike bounds R n ps (g s) (g' t) → Alike bounds R n ps (choose b s f g) (choose d t f' g')
+    pub choose_ends : {A : Type 0} {R : Names → A → A → Type 0} (n : Names) (ps : List EntryPlace) (b d : Bool) (s t : State) (f g f' g' : State → Outcome A) → b ≡ d → Alike bounds R n ps (f s) (f' t) → Alike bounds R n ps (g s) (g' t) → Alike bounds R n ps (choose b s f g) (choose d t f' g')
     choose_ends {R = R} n ps b d s t f g f' g' e h k = subst (λ x. Alike bounds R n ps (choose b s f g) (choose x t f' g')) e (at b)
       where
         at : (b : Bool) → Alike bounds R n ps (choose b s f g) (choose b t f' g')
@@ -80,11 +80,11 @@ module _ (c : Comparison) where
 
     -- ---- turns and levels
 
-    pub counts_sides : {P : List Place → Type 0} (n : Names) (ps : List Place) (s t : State) (a b : Counts) → is_some s.counts.cells ≡ is_some a.cells → is_some t.counts.cells ≡ is_some b.cells → SameCounts bounds a b → Sides bounds c P n ps s t → Sides bounds c P n ps (record s { counts = a }) (record t { counts = b })
+    pub counts_sides : {P : List EntryPlace → Type 0} (n : Names) (ps : List EntryPlace) (s t : State) (a b : Counts) → is_some s.counts.cells ≡ is_some a.cells → is_some t.counts.cells ≡ is_some b.cells → SameCounts bounds a b → Sides bounds c P n ps s t → Sides bounds c P n ps (record s { counts = a }) (record t { counts = b })
     counts_sides n ps s t a b d e h i = record { like = with_counts_like n ps s t a b h i.like; places = i.places; ready = c.stay s t _ _ (goes_with s a s.bindings d) (goes_with t b t.bindings e) i.ready }
 
   -- E: how outcomes end, where a stop of both, and what is apart, is an end
-  module _ {bounds : Bounds} {A : Type 0} {P : List Place → Type 0} (E : Outcome A → Outcome A → Type 0) (n : Names) (ps : List Place) (s t : State) (i : Sides bounds c P n ps s t) (stops : (why : Stop) → MayStop bounds why → E (Stopped why s) (Stopped why t)) where
+  module _ {bounds : Bounds} {A : Type 0} {P : List EntryPlace → Type 0} (E : Outcome A → Outcome A → Type 0) (n : Names) (ps : List EntryPlace) (s t : State) (i : Sides bounds c P n ps s t) (stops : (why : Stop) → MayStop bounds why → E (Stopped why s) (Stopped why t)) where
     pub turn_by : (f g : State → Outcome A) → ((u v : State) → Goes s u → Goes t v → Sides bounds c P n ps u v → E (f u) (g v)) → E (turn s f) (turn t g)
     turn_by f g h = at s.counts.expansion t.counts.expansion i.like.counts.expansion
       where
@@ -118,17 +118,17 @@ module _ (c : Comparison) where
       left_stops : (m : Levels) → bounds.levels ≡ false → E (Stopped Depth s) (g m)
       left_stops m b = parts _ _ (ends.left_short Depth s (g m) (lacks_levels b) (shown_on t s (sym i.like.outside) _ (y m).goes))
 
-      entered_by : (b d : Bool) (l m : ℕ) → (d ≡ true → b ≡ true) → m ≤ l → true ≡ bounds.levels → E (entered b l s f) (entered d m t g)
+      entered_by : (b d : Bool) (l m : ℕ) → (d ≡ true → b ≡ true) → m ≤ l → true ≡ bounds.levels → E (in_levels b l s f) (in_levels d m t g)
       entered_by true true l m e le w = h (Some l) (Some m) (record { is = le; bound = w })
       entered_by false true l m e le w = absurd (let z : false ≡ true = e refl in cc)
       entered_by true false l m e le w = right_stops (Some l) w
       entered_by false false l m e le w = stops Depth (sym w)
 
-      left_entered : (b : Bool) (l : ℕ) → false ≡ bounds.levels → E (entered b l s f) (g None)
+      left_entered : (b : Bool) (l : ℕ) → false ≡ bounds.levels → E (in_levels b l s f) (g None)
       left_entered true l w = h (Some l) None (record { is = tt; bound = w })
       left_entered false l w = left_stops None (sym w)
 
-      right_entered : (d : Bool) (m : ℕ) → true ≡ bounds.levels → E (f None) (entered d m t g)
+      right_entered : (d : Bool) (m : ℕ) → true ≡ bounds.levels → E (f None) (in_levels d m t g)
       right_entered true m w = h None (Some m) (record { is = tt; bound = w })
       right_entered false m w = right_stops None w
 
@@ -139,11 +139,11 @@ module _ (c : Comparison) where
       deeper_by k (Some l) (Some m) r = let le : m ≤ l = r.is in entered_by (nat_le k l) (nat_le k m) (l - k) (m - k) (test_wider k l m le) (omega (arith, le)) r.bound
 
   module _ {bounds : Bounds} where
-    pub turn_ends : {A : Type 0} {R : Names → A → A → Type 0} {P : List Place → Type 0} (n : Names) (ps : List Place) (s t : State) (f g : State → Outcome A) → Sides bounds c P n ps s t
+    pub turn_ends : {A : Type 0} {R : Names → A → A → Type 0} {P : List EntryPlace → Type 0} (n : Names) (ps : List EntryPlace) (s t : State) (f g : State → Outcome A) → Sides bounds c P n ps s t
         → ((u v : State) → Goes s u → Goes t v → Sides bounds c P n ps u v → Alike bounds R n ps (f u) (g v)) → Alike bounds R n ps (turn s f) (turn t g)
     turn_ends {R = R} n ps s t f g i h = turn_by (Alike bounds R n ps) n ps s t i (λ why may. stopped_here c n ps why s t may i) f g h
 
-    pub deeper_ends : {A : Type 0} {R : Names → A → A → Type 0} {P : List Place → Type 0} (n : Names) (ps : List Place) (s t : State) (f g : Levels → Outcome A) → Sides bounds c P n ps s t → ((l : Levels) → GoesOn s (f l)) → ((l : Levels) → GoesOn t (g l)) → ((l m : Levels) → Roomier bounds l m → Alike bounds R n ps (f l) (g m))
+    pub deeper_ends : {A : Type 0} {R : Names → A → A → Type 0} {P : List EntryPlace → Type 0} (n : Names) (ps : List EntryPlace) (s t : State) (f g : Levels → Outcome A) → Sides bounds c P n ps s t → ((l : Levels) → GoesOn s (f l)) → ((l : Levels) → GoesOn t (g l)) → ((l m : Levels) → Roomier bounds l m → Alike bounds R n ps (f l) (g m))
         → (k : ℕ) (l m : Levels) → Roomier bounds l m → Alike bounds R n ps (deeper k l s f) (deeper k m t g)
     deeper_ends {R = R} n ps s t f g i x y h = deeper_by (Alike bounds R n ps) n ps s t i (λ why may. stopped_here c n ps why s t may i) (λ o p a. parted o p a) f g x y h
 
@@ -161,7 +161,7 @@ module _ {bounds : Bounds} where
   quiet_short s t o p e h k (left_short why u _ x) = ends.left_short why u p x (quiet_shown t s p o (sym e) k h)
 
   -- outcomes that are alike, or of which one stops short, where neither prints
-  pub quiet_ends : {A : Type 0} {R : Names → A → A → Type 0} (n : Names) (ps : List Place) (s t : State) (o p : Outcome A) → Like bounds n ps s t → Quiet s o → Quiet t p → Beside bounds R n ps o p → Alike bounds R n ps o p
+  pub quiet_ends : {A : Type 0} {R : Names → A → A → Type 0} (n : Names) (ps : List EntryPlace) (s t : State) (o p : Outcome A) → Like bounds n ps s t → Quiet s o → Quiet t p → Beside bounds R n ps o p → Alike bounds R n ps o p
   quiet_ends n ps s t o p i h k (done m a b u v g r l) = done m a b u v g r l
   quiet_ends n ps s t o p i h k (failed m z a b u v g r l) = failed m z a b u v g r l
   quiet_ends n ps s t o p i h k (went m z u v g l) = went m z u v g l
@@ -200,49 +200,49 @@ pub pair_quiet : (a d : Value) (s : State) → Quiet s (made_pair a d s)
 pair_quiet a d s = pair_quiet_from s a d s refl refl
 
 pub fail_quiet : {A : Type 0} (n : ℕ) (v : Value) (s : State) → Quiet {A = A} s (fail n v s)
-fail_quiet n v s = quiet_then s _ _ (pair_quiet (Str (error_text n)) nil s) (λ a t x y. quiet_then s _ _ (pair_quiet_from s v a t x y) (λ b u x y. record { output = x; notes = y }))
+fail_quiet n v s = quiet_then s _ _ (pair_quiet (Str (error_text n)) nil_value_of_state s) (λ a t x y. quiet_then s _ _ (pair_quiet_from s v a t x y) (λ b u x y. record { output = x; notes = y }))
 
 module _ {bounds : Bounds} where
-  pub fail_ends : {A : Type 0} {R : Names → A → A → Type 0} {P : List Place → Type 0} (c : Comparison) (n : Names) (ps : List Place) (k : ℕ) (v w : Value) (s t : State) → Sides bounds c P n ps s t → SameValue n v w → Alike bounds {A = A} R n ps (fail k v s) (fail k w t)
+  pub fail_ends : {A : Type 0} {R : Names → A → A → Type 0} {P : List EntryPlace → Type 0} (c : Comparison) (n : Names) (ps : List EntryPlace) (k : ℕ) (v w : Value) (s t : State) → Sides bounds c P n ps s t → SameValue n v w → Alike bounds {A = A} R n ps (fail k v s) (fail k w t)
   fail_ends {A} c n ps k v w s t i r = quiet_ends n ps s t _ _ i.like (fail_quiet {A = A} k v s) (fail_quiet {A = A} k w t) (fail_related n ps k v w s t i.like r)
 
 module _ (facts : OneRunFacts) where
   pub fail_goes : (A : Type 0) (n : ℕ) (v : Value) (s : State) → GoesOn {A = A} s (fail n v s)
-  fail_goes A n v s = then_goes s _ _ (facts.pair_goes (Str (error_text n)) nil s) (λ a t. then_goes t _ _ (facts.pair_goes v a t) (λ b u. record { goes = facts.top_goes _ b u }))
+  fail_goes A n v s = then_goes s _ _ (facts.pair_goes (Str (error_text n)) nil_value_of_state s) (λ a t. then_goes t _ _ (facts.pair_goes v a t) (λ b u. record { goes = facts.top_goes _ b u }))
 
 -- ---- bindings
 
 -- outcomes behind more entries than those of these places
-pub record EndsIn (bounds : Bounds) {A : Type 0} (base : List Place) (R : Names → A → A → Type 0) (n : Names) (o p : Outcome A) : Type 0 where
-  pub places : List Place
+pub record EndsIn (bounds : Bounds) {A : Type 0} (base : List EntryPlace) (R : Names → A → A → Type 0) (n : Names) (o p : Outcome A) : Type 0 where
+  pub places : List EntryPlace
   pub above : Above base places
   pub ends : Alike bounds R n places o p
 
 module _ {bounds : Bounds} where
-  pub further_in : {A : Type 0} {R : Names → A → A → Type 0} (base : List Place) (n m : Names) (o p : Outcome A) → Grows n m → EndsIn bounds base R m o p → EndsIn bounds base R n o p
+  pub further_in : {A : Type 0} {R : Names → A → A → Type 0} (base : List EntryPlace) (n m : Names) (o p : Outcome A) → Grows n m → EndsIn bounds base R m o p → EndsIn bounds base R n o p
   further_in base n m o p g e = record { places = e.places; above = e.above; ends = further_ends n m e.places o p g e.ends }
 
   -- former bindings are back
-  pub restored_ends : {A : Type 0} {R : Names → A → A → Type 0} (n : Names) (ps : List Place) (s t : State) (o p : Outcome A) → Like bounds n ps s t → EndsIn bounds ps R n o p → Alike bounds R n ps (restored (length s.bindings) o) (restored (length t.bindings) p)
+  pub restored_ends : {A : Type 0} {R : Names → A → A → Type 0} (n : Names) (ps : List EntryPlace) (s t : State) (o p : Outcome A) → Like bounds n ps s t → EndsIn bounds ps R n o p → Alike bounds R n ps (restored (length s.bindings) o) (restored (length t.bindings) p)
   restored_ends n ps s t o p l e = restored_related n ps s t l n e.places o p e.above e.ends
 
 module _ (c : Comparison) where
   module _ {bounds : Bounds} where
-    bound_sides : (n : Names) (ps : List Place) (x : ℕ) (scope : Scope) (v w : Value) (s t : State) → SameValue n v w → CleanSides bounds c n ps s t → CleanSides bounds c n (Both ∷ ps) (with_binding x scope v s) (with_binding x scope w t)
+    bound_sides : (n : Names) (ps : List EntryPlace) (x : ℕ) (scope : Scope) (v w : Value) (s t : State) → SameValue n v w → CleanSides bounds c n ps s t → CleanSides bounds c n (Both ∷ ps) (with_binding x scope v s) (with_binding x scope w t)
     bound_sides n ps x scope v w s t r i = record {
       like = bound_like n ps x scope v w s t r i.like;
       places = c.bound ps i.places;
       ready = c.stay s t _ _ (goes_with s s.counts (Binding x scope v ∷ s.bindings) refl) (goes_with t t.counts (Binding x scope w ∷ t.bindings) refl) i.ready;
     }
 
-    pub mark_sides : (n : Names) (ps : List Place) (f g : Option Pointer) (s t : State) → Maybe (SamePointer n) f g → BelowSides bounds c n ps s t → CleanSides bounds c n (BothMark ∷ ps) (with_mark f s) (with_mark g t)
+    pub mark_sides : (n : Names) (ps : List EntryPlace) (f g : Option Pointer) (s t : State) → Maybe (SamePointer n) f g → BelowSides bounds c n ps s t → CleanSides bounds c n (BothMark ∷ ps) (with_mark f s) (with_mark g t)
     mark_sides n ps f g s t r i = record {
       like = mark_like n ps f g s t r i.like;
       places = c.marked ps i.places;
       ready = c.stay s t _ _ (goes_with s s.counts (Mark f ∷ s.bindings) refl) (goes_with t t.counts (Mark g ∷ t.bindings) refl) i.ready;
     }
 
-    pub then_in : {A B : Type 0} {R : Names → A → A → Type 0} {S : Names → B → B → Type 0} (base : List Place) (n : Names) (ps : List Place) (s t : State) (o p : Outcome A) (f g : A → State → Outcome B)
+    pub then_in : {A B : Type 0} {R : Names → A → A → Type 0} {S : Names → B → B → Type 0} (base : List EntryPlace) (n : Names) (ps : List EntryPlace) (s t : State) (o p : Outcome A) (f g : A → State → Outcome B)
         → CleanSides bounds c n ps s t → Above base ps → GoesOn s o → GoesOn t p → ((a : A) (s : State) → GoesOn s (f a s)) → ((a : A) (s : State) → GoesOn s (g a s)) → Alike bounds R n ps o p
         → ((m : Names) (a b : A) (u v : State) → Grows n m → R m a b → CleanSides bounds c m ps u v → EndsIn bounds base S m (f a u) (g b v)) → EndsIn bounds base S n (then_do o f) (then_do p g)
     then_in base n ps s t o p f g i le d w x y (done m a b u v j r l) h = further_in base n m _ _ j (h m a b u v j r (sides_on c n m ps s t u v i d.goes w.goes l))
@@ -263,12 +263,12 @@ module _ (c : Comparison) where
     data Never {A : Type 0} (n : Names) (a b : A) : Type 0 where
 
     module _ {bounds : Bounds} where
-      fail_then : {A B : Type 0} {S : Names → B → B → Type 0} (base : List Place) (n : Names) (ps : List Place) (e : ℕ) (v w : Value) (s t : State) (f g : A → State → Outcome B) → CleanSides bounds c n ps s t → Above base ps → SameValue n v w
+      fail_then : {A B : Type 0} {S : Names → B → B → Type 0} (base : List EntryPlace) (n : Names) (ps : List EntryPlace) (e : ℕ) (v w : Value) (s t : State) (f g : A → State → Outcome B) → CleanSides bounds c n ps s t → Above base ps → SameValue n v w
           → ((a : A) (s : State) → GoesOn s (f a s)) → ((a : A) (s : State) → GoesOn s (g a s)) → EndsIn bounds base S n (then_do (fail e v s) f) (then_do (fail e w t) g)
       fail_then {A} base n ps e v w s t f g i le r x y = then_in base n ps s t (fail e v s) (fail e w t) f g i le (fail_goes facts A e v s) (fail_goes facts A e w t) x y (fail_ends {A = A} {R = Never} c n ps e v w s t i r) (λ m a b u v j r h. elim r [ ])
 
-    module _ {bounds : Bounds} {A : Type 0} {R : Names → A → A → Type 0} (base : List Place) (kept : List Kept) (f g : State → Outcome A) (x : (s : State) → GoesOn s (f s)) (y : (s : State) → GoesOn s (g s)) where
-      fail_twice : (n : Names) (ps : List Place) (i : ℕ) (xs : List ℕ) (vs ws : List Value) (s t : State) → Above base ps → CleanSides bounds c n ps s t
+    module _ {bounds : Bounds} {A : Type 0} {R : Names → A → A → Type 0} (base : List EntryPlace) (kept : List Kept) (f g : State → Outcome A) (x : (s : State) → GoesOn s (f s)) (y : (s : State) → GoesOn s (g s)) where
+      fail_twice : (n : Names) (ps : List EntryPlace) (i : ℕ) (xs : List ℕ) (vs ws : List Value) (s t : State) → Above base ps → CleanSides bounds c n ps s t
           → EndsIn bounds base R n (then_do (then_do (fail not_bindable (Id i) s) (λ (done : Unit {0}) s. bind_all kept xs vs s)) (λ done s. f s)) (then_do (then_do (fail not_bindable (Id i) t) (λ (done : Unit {0}) t. bind_all kept xs ws t)) (λ done t. g t))
       fail_twice n ps i xs vs ws s t le side =
           let o : Outcome (Unit {0}) = fail not_bindable (Id i) s in
@@ -278,30 +278,30 @@ module _ (c : Comparison) where
           (fail_then base n ps not_bindable (Id i) (Id i) s t (λ done s. then_do (bind_all kept xs vs s) (λ done s. f s)) (λ done t. then_do (bind_all kept xs ws t) (λ done t. g t)) side le (same_id i)
           (λ done s. then_goes s _ _ (facts.bind_all_goes kept xs vs s) (λ done s. x s)) (λ done s. then_goes s _ _ (facts.bind_all_goes kept xs ws s) (λ done s. y s))))
 
-      bound_ends : (n : Names) (ps : List Place) (kind' : VarKind) (i : ℕ) (xs : List ℕ) (v w : Value) (vs ws : List Value) (s t : State) → SameValue n v w → Above base ps → CleanSides bounds c n ps s t
-          → ((ps : List Place) (s t : State) → Above base ps → CleanSides bounds c n ps s t → EndsIn bounds base R n (then_do (bind_all kept xs vs s) (λ done s. f s)) (then_do (bind_all kept xs ws t) (λ done t. g t)))
+      bound_ends : (n : Names) (ps : List EntryPlace) (kind' : VarKind) (i : ℕ) (xs : List ℕ) (v w : Value) (vs ws : List Value) (s t : State) → SameValue n v w → Above base ps → CleanSides bounds c n ps s t
+          → ((ps : List EntryPlace) (s t : State) → Above base ps → CleanSides bounds c n ps s t → EndsIn bounds base R n (then_do (bind_all kept xs vs s) (λ done s. f s)) (then_do (bind_all kept xs ws t) (λ done t. g t)))
           → EndsIn bounds base R n (then_do (then_do (bound_as kind' i v s) (λ done s. bind_all kept xs vs s)) (λ done s. f s)) (then_do (then_do (bound_as kind' i w t) (λ done t. bind_all kept xs ws t)) (λ done t. g t))
       bound_ends n ps kind.Plain i xs v w vs ws s t r le side next = next (Both ∷ ps) _ _ (over Both ps le) (bound_sides n ps i Local v w s t r side)
       bound_ends n ps kind.Fluid i xs v w vs ws s t r le side next = next (Both ∷ ps) _ _ (over Both ps le) (bound_sides n ps i Fluid v w s t r side)
       bound_ends n ps kind.Global i xs v w vs ws s t r le side next = fail_twice n ps i xs vs ws s t le side
 
-      one_bound : (n : Names) (ps : List Place) (b : Bool) (i : ℕ) (xs : List ℕ) (v w : Value) (vs ws : List Value) (s t : State) → SameValue n v w → Above base ps → CleanSides bounds c n ps s t
-          → ((ps : List Place) (s t : State) → Above base ps → CleanSides bounds c n ps s t → EndsIn bounds base R n (then_do (bind_all kept xs vs s) (λ done s. f s)) (then_do (bind_all kept xs ws t) (λ done t. g t)))
+      one_bound : (n : Names) (ps : List EntryPlace) (b : Bool) (i : ℕ) (xs : List ℕ) (v w : Value) (vs ws : List Value) (s t : State) → SameValue n v w → Above base ps → CleanSides bounds c n ps s t
+          → ((ps : List EntryPlace) (s t : State) → Above base ps → CleanSides bounds c n ps s t → EndsIn bounds base R n (then_do (bind_all kept xs vs s) (λ done s. f s)) (then_do (bind_all kept xs ws t) (λ done t. g t)))
           → EndsIn bounds base R n (then_do (then_do (choose b s (λ s. fail not_bindable (Id i) s) (λ s. bound_as (kept_kind kept i) i v s)) (λ done s. bind_all kept xs vs s)) (λ done s. f s))
           (then_do (then_do (choose b t (λ t. fail not_bindable (Id i) t) (λ t. bound_as (kept_kind kept i) i w t)) (λ done t. bind_all kept xs ws t)) (λ done t. g t))
       one_bound n ps true i xs v w vs ws s t r le side next = fail_twice n ps i xs vs ws s t le side
       one_bound n ps false i xs v w vs ws s t r le side next = bound_ends n ps (kept_kind kept i) i xs v w vs ws s t r le side next
 
-      pub bind_ends : (xs : List ℕ) (n : Names) (ps : List Place) (vs ws : List Value) (s t : State) → Each (SameValue n) vs ws → ((m : Names) (ps : List Place) (s t : State) → Grows n m → Above base ps → CleanSides bounds c m ps s t → EndsIn bounds base R m (f s) (g t)) → Above base ps → CleanSides bounds c n ps s t → EndsIn bounds base R n (then_do (bind_all kept xs vs s) (λ done s. f s)) (then_do (bind_all kept xs ws t) (λ done t. g t))
+      pub bind_ends : (xs : List ℕ) (n : Names) (ps : List EntryPlace) (vs ws : List Value) (s t : State) → Each (SameValue n) vs ws → ((m : Names) (ps : List EntryPlace) (s t : State) → Grows n m → Above base ps → CleanSides bounds c m ps s t → EndsIn bounds base R m (f s) (g t)) → Above base ps → CleanSides bounds c n ps s t → EndsIn bounds base R n (then_do (bind_all kept xs vs s) (λ done s. f s)) (then_do (bind_all kept xs ws t) (λ done t. g t))
       bind_ends [] n ps vs ws s t r next le side = next n ps s t (grows_refl n) le side
       bind_ends (i ∷ xs) n ps vs ws s t (more v w as' bs h r) next le side = one_bound n ps (is_constant i) i xs v w as' bs s t h le side (λ ps s t le side. bind_ends xs n ps as' bs s t r next le side)
-      bind_ends (i ∷ xs) n ps vs ws s t end next le side = one_bound n ps (is_constant i) i xs nil nil [] [] s t (same_id 0) le side (λ ps s t le side. bind_ends xs n ps [] [] s t end next le side)
+      bind_ends (i ∷ xs) n ps vs ws s t end next le side = one_bound n ps (is_constant i) i xs nil_value_of_state nil_value_of_state [] [] s t (same_id 0) le side (λ ps s t le side. bind_ends xs n ps [] [] s t end next le side)
 
     module _ {bounds : Bounds} where
       -- variables are bound on both sides, and former bindings come back
-      pub binding_ends : {A : Type 0} {R : Names → A → A → Type 0} (n : Names) (ps : List Place) (l m : Levels) (kept : List Kept) (xs : List ℕ) (vs ws : List Value) (s t : State) (f g : Levels → State → Outcome A) → Roomier bounds l m → Each (SameValue n) vs ws → CleanSides bounds c n ps s t
+      pub binding_ends : {A : Type 0} {R : Names → A → A → Type 0} (n : Names) (ps : List EntryPlace) (l m : Levels) (kept : List Kept) (xs : List ℕ) (vs ws : List Value) (s t : State) (f g : Levels → State → Outcome A) → Roomier bounds l m → Each (SameValue n) vs ws → CleanSides bounds c n ps s t
           → ((l : Levels) (s : State) → GoesOn s (f l s)) → ((l : Levels) (s : State) → GoesOn s (g l s))
-          → ((k : Names) (qs : List Place) (l m : Levels) (s t : State) → Grows n k → Roomier bounds l m → CleanSides bounds c k qs s t → Alike bounds R k qs (f l s) (g m t))
+          → ((k : Names) (qs : List EntryPlace) (l m : Levels) (s t : State) → Grows n k → Roomier bounds l m → CleanSides bounds c k qs s t → Alike bounds R k qs (f l s) (g m t))
           → Alike bounds R n ps (binding l kept xs vs s f) (binding m kept xs ws t g)
       binding_ends {A} {R} n ps l m kept xs vs ws s t f g r h i x y next =
           deeper_ends c n ps s t _ _ i (λ l. left l) (λ l. right l) (λ l m r. restored_ends n ps s t _ _ i.like

@@ -7,7 +7,7 @@ use Rattle.rl_meaning.specs.State.{State, Code, Tree, Kept, Held, Pointer, Funct
 use Rattle.rl_meaning.specs.Outcome.{Outcome, Levels, made_pair}
 use Rattle.rl_meaning.specs.Symbols.{with_top, list_elements}
 use Rattle.rl_meaning.specs.Constants.{objects_read}
-use Rattle.rl_meaning.specs.Holding.{hold_form, hold_expansion, hold_function, elements_of}
+use Rattle.rl_meaning.specs.Holding.{hold_form, hold_expansion, hold_function, elements_walked}
 use Rattle.rl_meaning.specs.Copying.{copied}
 use Rattle.rl_meaning.specs.Variables.{variable, assigned, bind_all}
 use Rattle.rl_meaning.specs.Numbers.{operated}
@@ -23,9 +23,9 @@ use Rattle.rl_meaning.specs.Evaluation.{Job, Rec, Here, Position, Machine, Frame
 use Rattle.rl_meaning.specs.Compiling.{Compiler}
 use Rattle.rl_meaning.specs.Machine.{linked, run, seek, run_code}
 use Rattle.rl_meaning.specs.TwoRunsValues.{Names, Maybe, Each, SameValue, SameParts, SameTree, SamePointer, SameNumber}
-use Rattle.rl_meaning.specs.TwoRunsStates.{Bounds, Place, Like, Roomier, Shown}
-use Rattle.rl_meaning.specs.TwoRunsEnds.{Parted, Related, Ends}
-use Rattle.rl_agrees.specs.Leaving.{IsPlain, is_statement}
+use Rattle.rl_meaning.specs.TwoRunsStates.{Bounds, EntryPlace, Like, Roomier, Shown}
+use Rattle.rl_meaning.specs.TwoRunsEnds.{Parted, Related, EndsAgree}
+use Rattle.rl_agrees.specs.Leaving.{IsNoTransfer, is_statement}
 use Rattle.rl_agrees.proofs.TwoRunsKept.{Goes}
 use Rattle.rl_meaning.specs.HeadCases.{special_form}
 use Rattle.rl_agrees.proofs.TwoRunsWays.{Beside, Is}
@@ -44,13 +44,13 @@ Ask = Job → State → Outcome Value
 -- jobs go on, and only a statement of a PROG leaves by GO or RETURN
 pub record AskGoes (ask : Ask) : Type 0 where
   pub goes : (j : Job) (s : State) → GoesOn s (ask j s)
-  pub plain : (j : Job) (s : State) → is_statement j ≡ false → IsPlain (ask j s)
+  pub plain : (j : Job) (s : State) → is_statement j ≡ false → IsNoTransfer (ask j s)
 
 -- compilation neither goes nor returns
 pub record IsPlainCompiler (c : Compiler) : Type 0 where
-  pub names : (vs : List Value) (s : State) → IsPlain (c.compile_names vs s)
-  pub writes : (vs : List Value) (s : State) → IsPlain (c.write_file vs s)
-  pub loads : (vs : List Value) (s : State) → IsPlain (c.load_file vs s)
+  pub names : (vs : List Value) (s : State) → IsNoTransfer (c.compile_names vs s)
+  pub writes : (vs : List Value) (s : State) → IsNoTransfer (c.write_file vs s)
+  pub loads : (vs : List Value) (s : State) → IsNoTransfer (c.load_file vs s)
 
 -- jobs go on, and what compilation does
 pub record RecGoes (rec : Rec) : Type 0 where
@@ -74,7 +74,7 @@ pub record OneRunFacts : Type 0 where
   pub hold_function_goes : (kind : Kind) (l : Levels) (u v : Value) (s : State) → GoesOn s (hold_function kind l u v s)
   pub hold_part_goes : (kind : Kind) (l : Levels) (a c : Tree) (s : State) → GoesOn s (hold_part kind l a c s)
   pub hold_lambda_goes : (kind : Kind) (l : Levels) (o : Option (Value × Value)) (s : State) → GoesOn s (hold_lambda kind l o s)
-  pub elements_goes : (v : Value) (s : State) → GoesOn s (elements_of v s)
+  pub elements_goes : (v : Value) (s : State) → GoesOn s (elements_walked v s)
   pub copied_goes : (l : Levels) (a : Tree) (s : State) → GoesOn s (copied l a s)
   pub operated_goes : (o : Operation) (vs : List Value) (s : State) → GoesOn s (operated o vs s)
   pub native_goes : (o : Native) (l : Levels) (vs : List Value) (s : State) → GoesOn s (native o l vs s)
@@ -132,32 +132,32 @@ abbrev pub SameList : (n : Names) → Walked (List Value) → Walked (List Value
 SameList n v w = SameWalked (λ n xs ys. Each (SameValue n) xs ys) n v w
 
 pub record TwoRunsFacts (bounds : Bounds) : Type 0 where
-  pub hold_form_ : (n : Names) (ps : List Place) (l m : Levels) (v w : Value) (s t : State) → Roomier bounds l m → SameValue n v w → Like bounds n ps s t → Beside bounds SameNumber n ps (hold_form l v s) (hold_form m w t)
-  pub hold_expansion_ : (n : Names) (ps : List Place) (l m : Levels) (kept : List Kept) (v w : Value) (s t : State) → Roomier bounds l m → SameValue n v w → Like bounds n ps s t → Beside bounds SameNumber n ps (hold_expansion l kept v s) (hold_expansion m kept w t)
-  pub hold_function_ : (n : Names) (ps : List Place) (kind : Kind) (l m : Levels) (u v x y : Value) (s t : State) → Roomier bounds l m → SameValue n u v → SameValue n x y → Like bounds n ps s t → Beside bounds SameNumber n ps (hold_function kind l u x s) (hold_function kind m v y t)
-  pub hold_part_ : (n : Names) (ps : List Place) (kind : Kind) (l m : Levels) (a b c d : Tree) (s t : State) → Roomier bounds l m → SameTree n a b → SameTree n c d → Like bounds n ps s t → Beside bounds SameNumber n ps (hold_part kind l a c s) (hold_part kind m b d t)
-  pub hold_lambda_ : (n : Names) (ps : List Place) (kind : Kind) (l m : Levels) (o p : Option (Value × Value)) (s t : State) → Roomier bounds l m → Maybe (SameParts n) o p → Like bounds n ps s t → Beside bounds SameNumber n ps (hold_lambda kind l o s) (hold_lambda kind m p t)
-  pub elements_ : (n : Names) (ps : List Place) (v w : Value) (s t : State) → SameValue n v w → Like bounds n ps s t → Beside bounds SameList n ps (elements_of v s) (elements_of w t)
-  pub copied_ : (n : Names) (ps : List Place) (l m : Levels) (a b : Tree) (s t : State) → Roomier bounds l m → SameTree n a b → Like bounds n ps s t → Beside bounds SameValue n ps (copied l a s) (copied m b t)
-  pub operated_ : (n : Names) (ps : List Place) (o : Operation) (xs ys : List Value) (s t : State) → Each (SameValue n) xs ys → Like bounds n ps s t → Beside bounds SameValue n ps (operated o xs s) (operated o ys t)
-  pub native_ : (n : Names) (ps : List Place) (o : Native) (l m : Levels) (xs ys : List Value) (s t : State) → may_part o ≡ false → Roomier bounds l m → Each (SameValue n) xs ys → Like bounds n ps s t → Beside bounds SameValue n ps (native o l xs s) (native o m ys t)
+  pub hold_form_ : (n : Names) (ps : List EntryPlace) (l m : Levels) (v w : Value) (s t : State) → Roomier bounds l m → SameValue n v w → Like bounds n ps s t → Beside bounds SameNumber n ps (hold_form l v s) (hold_form m w t)
+  pub hold_expansion_ : (n : Names) (ps : List EntryPlace) (l m : Levels) (kept : List Kept) (v w : Value) (s t : State) → Roomier bounds l m → SameValue n v w → Like bounds n ps s t → Beside bounds SameNumber n ps (hold_expansion l kept v s) (hold_expansion m kept w t)
+  pub hold_function_ : (n : Names) (ps : List EntryPlace) (kind : Kind) (l m : Levels) (u v x y : Value) (s t : State) → Roomier bounds l m → SameValue n u v → SameValue n x y → Like bounds n ps s t → Beside bounds SameNumber n ps (hold_function kind l u x s) (hold_function kind m v y t)
+  pub hold_part_ : (n : Names) (ps : List EntryPlace) (kind : Kind) (l m : Levels) (a b c d : Tree) (s t : State) → Roomier bounds l m → SameTree n a b → SameTree n c d → Like bounds n ps s t → Beside bounds SameNumber n ps (hold_part kind l a c s) (hold_part kind m b d t)
+  pub hold_lambda_ : (n : Names) (ps : List EntryPlace) (kind : Kind) (l m : Levels) (o p : Option (Value × Value)) (s t : State) → Roomier bounds l m → Maybe (SameParts n) o p → Like bounds n ps s t → Beside bounds SameNumber n ps (hold_lambda kind l o s) (hold_lambda kind m p t)
+  pub elements_ : (n : Names) (ps : List EntryPlace) (v w : Value) (s t : State) → SameValue n v w → Like bounds n ps s t → Beside bounds SameList n ps (elements_walked v s) (elements_walked w t)
+  pub copied_ : (n : Names) (ps : List EntryPlace) (l m : Levels) (a b : Tree) (s t : State) → Roomier bounds l m → SameTree n a b → Like bounds n ps s t → Beside bounds SameValue n ps (copied l a s) (copied m b t)
+  pub operated_ : (n : Names) (ps : List EntryPlace) (o : Operation) (xs ys : List Value) (s t : State) → Each (SameValue n) xs ys → Like bounds n ps s t → Beside bounds SameValue n ps (operated o xs s) (operated o ys t)
+  pub native_ : (n : Names) (ps : List EntryPlace) (o : Native) (l m : Levels) (xs ys : List Value) (s t : State) → may_part o ≡ false → Roomier bounds l m → Each (SameValue n) xs ys → Like bounds n ps s t → Beside bounds SameValue n ps (native o l xs s) (native o m ys t)
   -- what prints nothing
   pub hold_form_quiet : (l : Levels) (v : Value) (s : State) → Quiet s (hold_form l v s)
   pub hold_expansion_quiet : (l : Levels) (kept : List Kept) (v : Value) (s : State) → Quiet s (hold_expansion l kept v s)
   pub hold_function_quiet : (kind : Kind) (l : Levels) (u v : Value) (s : State) → Quiet s (hold_function kind l u v s)
   pub hold_part_quiet : (kind : Kind) (l : Levels) (a c : Tree) (s : State) → Quiet s (hold_part kind l a c s)
   pub hold_lambda_quiet : (kind : Kind) (l : Levels) (o : Option (Value × Value)) (s : State) → Quiet s (hold_lambda kind l o s)
-  pub elements_quiet : (v : Value) (s : State) → Quiet s (elements_of v s)
+  pub elements_quiet : (v : Value) (s : State) → Quiet s (elements_walked v s)
   pub copied_quiet : (l : Levels) (a : Tree) (s : State) → Quiet s (copied l a s)
   pub operated_quiet : (o : Operation) (vs : List Value) (s : State) → Quiet s (operated o vs s)
   pub native_quiet : (o : Native) (l : Levels) (vs : List Value) (s : State) → may_part o ≡ false → Quiet s (native o l vs s)
   -- what may part
-  pub native_parts : (n : Names) (ps : List Place) (o : Native) (l m : Levels) (xs ys : List Value) (s t : State) → may_part o ≡ true → Roomier bounds l m → Each (SameValue n) xs ys → Like bounds n ps s t → Ends bounds n ps (native o l xs s) (native o m ys t)
-  pub variable_ : (n : Names) (ps : List Place) (x : ℕ) (s t : State) → Shown ps → Like bounds n ps s t → Ends bounds n ps (variable x s) (variable x t)
-  pub assigned_ : (n : Names) (ps : List Place) (x : ℕ) (v w : Value) (s t : State) → SameValue n v w → Shown ps → Like bounds n ps s t → Ends bounds n ps (assigned x v s) (assigned x w t)
-  pub print_error_ : (n : Names) (ps : List Place) (l m : Levels) (v w : Value) (s t : State) → Roomier bounds l m → SameValue n v w → Like bounds n ps s t → Related bounds {A = Unit {0}} (Parted bounds) Is n ps (print_error l v s) (print_error m w t)
-  pub define_ : (n : Names) (ps : List Place) (i : ℕ) (kind : Kind) (p q : Pointer) (s t : State) → SamePointer n p q → Like bounds n ps s t → Like bounds n ps (define i kind p s) (define i kind q t)
-  pub list_elements_ : (n : Names) (ps : List Place) (s t : State) (v w : Value) → Like bounds n ps s t → SameValue n v w → Maybe (Each (SameValue n)) (list_elements s v) (list_elements t w)
+  pub native_parts : (n : Names) (ps : List EntryPlace) (o : Native) (l m : Levels) (xs ys : List Value) (s t : State) → may_part o ≡ true → Roomier bounds l m → Each (SameValue n) xs ys → Like bounds n ps s t → EndsAgree bounds n ps (native o l xs s) (native o m ys t)
+  pub variable_ : (n : Names) (ps : List EntryPlace) (x : ℕ) (s t : State) → Shown ps → Like bounds n ps s t → EndsAgree bounds n ps (variable x s) (variable x t)
+  pub assigned_ : (n : Names) (ps : List EntryPlace) (x : ℕ) (v w : Value) (s t : State) → SameValue n v w → Shown ps → Like bounds n ps s t → EndsAgree bounds n ps (assigned x v s) (assigned x w t)
+  pub print_error_ : (n : Names) (ps : List EntryPlace) (l m : Levels) (v w : Value) (s t : State) → Roomier bounds l m → SameValue n v w → Like bounds n ps s t → Related bounds {A = Unit {0}} (Parted bounds) Is n ps (print_error l v s) (print_error m w t)
+  pub define_ : (n : Names) (ps : List EntryPlace) (i : ℕ) (kind : Kind) (p q : Pointer) (s t : State) → SamePointer n p q → Like bounds n ps s t → Like bounds n ps (define i kind p s) (define i kind q t)
+  pub list_elements_ : (n : Names) (ps : List EntryPlace) (s t : State) (v w : Value) → Like bounds n ps s t → SameValue n v w → Maybe (Each (SameValue n)) (list_elements s v) (list_elements t w)
   -- reading
-  pub read_ : (n : Names) (ps : List Place) (turns : Bool) (l m : Levels) (bytes : List ℕ) (s t : State) → Roomier bounds l m → Like bounds n ps s t → Beside bounds SameReading n ps (read_bytes turns l bytes s) (read_bytes turns m bytes t)
+  pub read_ : (n : Names) (ps : List EntryPlace) (turns : Bool) (l m : Levels) (bytes : List ℕ) (s t : State) → Roomier bounds l m → Like bounds n ps s t → Beside bounds SameReading n ps (read_bytes turns l bytes s) (read_bytes turns m bytes t)
   pub read_quiet : (turns : Bool) (l : Levels) (bytes : List ℕ) (s : State) → Quiet s (read_bytes turns l bytes s)

@@ -8,12 +8,12 @@ use Rattle.rl_tree.specs.declared.held.Kind.TheVariants.{Expr}
 use Rattle.rl_meaning.specs.Names.{Special, Quote, Cond, Progn, And, Or, Setq, Prog, Go, Return, List_, Plus, Times, Max, Min, De, Df, Dm}
 use Rattle.rl_meaning.specs.Names as names
 use Rattle.rl_meaning.specs.State.{State, Tree, Literal, Kept, Pointer, Definition, Symbol, Function, SpecialForm, NativeFunction, HeldFunction}
-use Rattle.rl_meaning.specs.Symbols.{nil_id, progn_id, lambda_id}
-use Rattle.rl_meaning.specs.Holding.{function_id, in_front, tree_identifiers, when, checked_parameters, is_list_end, is_list, body_of, nodes_in, either_part, part_of_literal, part_at, is_lambda, is_function_form, numbered, numbered_rest, pairs_of, with_identifier, with_identifiers, parameters_of, forms_of, lambda_held, no_function, function_part, function_in, function_at, form_part, form_in, form_at}
-use Rattle.rl_meaning.specs.Forms.{Head, Form, Call, Applied, Bad, head_in, head_of, count_of, is_identifier_tree, is_clause, are_clauses, begins_with_identifier, begins_with_identifiers, is_quoted_leaf, fits, lambda_parameters, after_label, unnumbered_tree}
+use Rattle.rl_meaning.specs.Symbols.{nil_number, progn_number, lambda_number}
+use Rattle.rl_meaning.specs.Holding.{function_number, in_front, tree_identifiers, when, checked_parameters, is_list_end, is_list, body_of, nodes_in, either_part, part_of_literal, part_at, is_lambda, is_function_form, numbered, numbered_rest, pairs_of, with_identifier, with_identifiers, parameters_of, forms_of, lambda_held, no_function, function_part, function_in, function_at, form_part, form_in, form_at}
+use Rattle.rl_meaning.specs.Forms.{Head, Form, Call, Applied, Bad, head_in, head_of, element_count, is_identifier_tree, is_clause, are_clauses, begins_with_identifier, begins_with_identifiers, is_quoted_leaf, fits, lambda_parameters, after_label, unnumbered_tree}
 use Rattle.rl_meaning.specs.TwoRunsLinks.{Linked}
 use Rattle.rl_meaning.specs.TwoRunsValues.{Names, Maybe, nothing, just, SameValue, same_int, same_id, same_str, same_ref, same_fun, SameTree, same_atom, same_quoted, same_node, same_literal, held_of, same_held, SameFunction, same_special, same_native, same_held_function, SamePointer, same_pointer, SameDefinition, same_definition, SameSymbol, same_symbol}
-use Rattle.rl_meaning.specs.TwoRunsStates.{Bounds, Place, Like}
+use Rattle.rl_meaning.specs.TwoRunsStates.{Bounds, EntryPlace, Like}
 use Rattle.rl_agrees.proofs.TwoRunsObjects.{nil_same, symbol_same}
 
 -- ---- what is the same of trees
@@ -30,7 +30,7 @@ list_same n _ _ (same_quoted v w r) = refl
 list_same n _ _ (same_node a d b e h k) = list_same n d e k
 list_same n _ _ (same_literal i a b h) = refl
 
-pub count_same : (n : Names) (x y : Tree) → SameTree n x y → count_of x ≡ count_of y
+pub count_same : (n : Names) (x y : Tree) → SameTree n x y → element_count x ≡ element_count y
 count_same n _ _ (same_atom v w r) = refl
 count_same n _ _ (same_quoted v w r) = refl
 count_same n _ _ (same_node a d b e h k) = ap suc (count_same n d e k)
@@ -124,18 +124,18 @@ identifiers_in_same n _ _ (same_atom _ _ (same_ref r q i)) xs ys e = e
 identifiers_in_same n _ _ (same_atom _ _ (same_fun f g place i)) xs ys e = e
 identifiers_in_same n _ _ (same_quoted v w h) xs ys e = e
 identifiers_in_same n _ _ (same_node a d b c h k) xs ys e = identifiers_in_same n d c k _ _ (identifiers_in_same n a b h xs ys e)
-identifiers_in_same n _ _ (same_literal i a b h) xs ys e = identifiers_in_same n a b h _ _ (ap (λ zs. with_identifier zs function_id) e)
+identifiers_in_same n _ _ (same_literal i a b h) xs ys e = identifiers_in_same n a b h _ _ (ap (λ zs. with_identifier zs function_number) e)
 
 -- ---- trees that are made of trees
 
 pub body_same : (n : Names) (x y : Tree) → SameTree n x y → SameTree n (body_of x) (body_of y)
-body_same n _ _ (same_node _ _ _ _ h (same_node a d b e i j)) = same_node _ _ _ _ (same_atom _ _ (same_id progn_id)) (same_node _ _ _ _ h (same_node a d b e i j))
+body_same n _ _ (same_node _ _ _ _ h (same_node a d b e i j)) = same_node _ _ _ _ (same_atom _ _ (same_id progn_number)) (same_node _ _ _ _ h (same_node a d b e i j))
 body_same n _ _ (same_node _ _ _ _ h k) = h
-body_same n _ _ h = same_atom _ _ (same_id nil_id)
+body_same n _ _ h = same_atom _ _ (same_id nil_number)
 
 pub plain_same : (n : Names) (x y : Tree) → SameTree n x y → SameTree n (unnumbered_tree x) (unnumbered_tree y)
 plain_same n _ _ (same_node x c y d h k) = same_node _ _ _ _ (plain_same n x y h) (plain_same n c d k)
-plain_same n _ _ (same_literal i x y h) = same_node _ _ _ _ (same_atom _ _ (same_id function_id)) (same_node _ _ _ _ (plain_same n x y h) (same_atom _ _ (same_id nil_id)))
+plain_same n _ _ (same_literal i x y h) = same_node _ _ _ _ (same_atom _ _ (same_id function_number)) (same_node _ _ _ _ (plain_same n x y h) (same_atom _ _ (same_id nil_number)))
 plain_same n _ _ (same_atom v w h) = same_atom v w h
 plain_same n _ _ (same_quoted v w h) = same_quoted v w h
 
@@ -163,10 +163,10 @@ when_same n b c x y e h = subst (λ d. Maybe (SameTree n) (when b x) (when d y))
 
 -- behind the first pair of a FUNCTION form
 literal_part_same : (n : Names) (x y : Tree) → SameTree n x y → ((i : ℕ) → Maybe (SameTree n) (part_at i x) (part_at i y)) → (i : ℕ) → Maybe (SameTree n) (part_of_literal (λ i. part_at i x) i x) (part_of_literal (λ i. part_at i y) i y)
-literal_part_same n x y h part zero = just _ _ (same_atom _ _ (same_id function_id))
-literal_part_same n x y h part (suc zero) = just _ _ (same_node x _ y _ h (same_atom _ _ (same_id nil_id)))
+literal_part_same n x y h part zero = just _ _ (same_atom _ _ (same_id function_number))
+literal_part_same n x y h part (suc zero) = just _ _ (same_node x _ y _ h (same_atom _ _ (same_id nil_number)))
 literal_part_same n x y h part (suc (suc i)) =
-    either_same n _ _ _ _ _ _ (ap (λ j. nat_lt i j) (nodes_same n x y h)) (part i) (when_same n _ _ _ _ (ap (λ j. i == j) (nodes_same n x y h)) (same_atom _ _ (same_id nil_id)))
+    either_same n _ _ _ _ _ _ (ap (λ j. nat_lt i j) (nodes_same n x y h)) (part i) (when_same n _ _ _ _ (ap (λ j. i == j) (nodes_same n x y h)) (same_atom _ _ (same_id nil_number)))
 
 pub part_same : (n : Names) (x y : Tree) → SameTree n x y → (i : ℕ) → Maybe (SameTree n) (part_at i x) (part_at i y)
 part_same n x y h zero = just x y h
@@ -180,14 +180,14 @@ part_same n _ _ (same_quoted v w h) (suc i) = nothing
 -- ---- numbers of FUNCTION forms
 
 lambda_same : (n : Names) (x y : Tree) → SameTree n x y → is_lambda x ≡ is_lambda y
-lambda_same n _ _ (same_node _ _ _ _ (same_atom _ _ (same_id i)) (same_node p f q g h k)) = λ j. (i == lambda_id) && list_same n f g k j && is_some (checked_parameters Expr (identifiers_same n p q h j))
+lambda_same n _ _ (same_node _ _ _ _ (same_atom _ _ (same_id i)) (same_node p f q g h k)) = λ j. (i == lambda_number) && list_same n f g k j && is_some (checked_parameters Expr (identifiers_same n p q h j))
 lambda_same n _ _ (same_node _ _ _ _ (same_atom _ _ (same_id i)) k) = refl
 lambda_same n _ _ (same_node _ _ _ _ (same_atom _ _ r) k) = refl
 lambda_same n _ _ (same_node _ _ _ _ h k) = refl
 lambda_same n _ _ h = refl
 
 function_form_same : (n : Names) (x y a b c d : Tree) → SameTree n x y → SameTree n a b → SameTree n c d → is_function_form x a c ≡ is_function_form y b d
-function_form_same n _ _ a b c d (same_atom _ _ (same_id i)) k h = λ j. (i == function_id) && list_end_same n c d h j && lambda_same n a b k j
+function_form_same n _ _ a b c d (same_atom _ _ (same_id i)) k h = λ j. (i == function_number) && list_end_same n c d h j && lambda_same n a b k j
 function_form_same n _ _ a b c d (same_atom _ _ r) k h = refl
 function_form_same n _ _ a b c d r k h = refl
 
@@ -222,8 +222,8 @@ mutual
 
 forms_same : (n : Names) (x y : Tree) → SameTree n x y → SameTree n (forms_of x) (forms_of y)
 forms_same n _ _ (same_node _ _ _ _ h (same_node a d b e i j)) = j
-forms_same n _ _ (same_node _ _ _ _ h k) = same_atom _ _ (same_id nil_id)
-forms_same n _ _ h = same_atom _ _ (same_id nil_id)
+forms_same n _ _ (same_node _ _ _ _ h k) = same_atom _ _ (same_id nil_number)
+forms_same n _ _ h = same_atom _ _ (same_id nil_number)
 
 parameters_of_same : (n : Names) (x y : Tree) → SameTree n x y → parameters_of x ≡ parameters_of y
 parameters_of_same n _ _ (same_node _ _ _ _ h (same_node a d b e i j)) = λ k. unwrap_or (identifiers_same n a b i k) []
@@ -254,10 +254,10 @@ or_same R _ _ d e r nothing = r
 or_same R _ _ d e r (just a b h) = h
 
 module _ {bounds : Bounds} where
-  function_numbered : (n : Names) (ps : List Place) (s t : State) (f g : ℕ) → Like bounds n ps s t → Linked n.functions f g → SameFunction n (slice_index_or s.functions f no_function) (slice_index_or t.functions g no_function)
+  function_numbered : (n : Names) (ps : List EntryPlace) (s t : State) (f g : ℕ) → Like bounds n ps s t → Linked n.functions f g → SameFunction n (slice_index_or s.functions f no_function) (slice_index_or t.functions g no_function)
   function_numbered n ps s t f g l h = rw (← unwrap_or-slice_get s.functions f no_function, ← unwrap_or-slice_get t.functions g no_function) (or_same (SameFunction n) _ _ _ _ (same_special Quote) (l.functions.is f g h))
 
-  pub function_same : (n : Names) (ps : List Place) (s t : State) (p q : Pointer) → Like bounds n ps s t → SamePointer n p q → SameFunction n (function_at s p) (function_at t q)
+  pub function_same : (n : Names) (ps : List EntryPlace) (s t : State) (p q : Pointer) → Like bounds n ps s t → SamePointer n p q → SameFunction n (function_at s p) (function_at t q)
   function_same n ps s t _ _ l (same_pointer f g place h) = function_in_same n _ _ place (function_numbered n ps s t f g l h)
 
 form_part_same : (n : Names) (v w : Value) (o p : Option Tree) → SameValue n v w → Maybe (SameTree n) o p → SameTree n (form_part v o) (form_part w p)
@@ -274,7 +274,7 @@ form_in_same n v w _ _ i r (same_special form) = same_quoted v w r
 form_in_same n v w _ _ i r (same_native native) = same_quoted v w r
 
 module _ {bounds : Bounds} where
-  pub form_same : (n : Names) (ps : List Place) (s t : State) (v w : Value) → Like bounds n ps s t → SameValue n v w → SameTree n (form_at s v) (form_at t w)
+  pub form_same : (n : Names) (ps : List EntryPlace) (s t : State) (v w : Value) → Like bounds n ps s t → SameValue n v w → SameTree n (form_at s v) (form_at t w)
   form_same n ps s t _ _ l (same_fun f g place h) = form_in_same n _ _ _ _ place (same_fun f g place h) (function_numbered n ps s t f g l h)
   form_same n ps s t _ _ l (same_int z) = same_quoted _ _ (same_int z)
   form_same n ps s t _ _ l (same_id i) = same_quoted _ _ (same_id i)
@@ -298,19 +298,19 @@ named_head n f kind _ _ (same_native native) = same_call kind f
 named_head n f kind _ _ (same_held_function a b h) = same_call kind f
 
 module _ {bounds : Bounds} where
-  head_in_same : (n : Names) (ps : List Place) (s t : State) (f : ℕ) (o p : Option Definition) → Like bounds n ps s t → Maybe (SameDefinition n) o p → SameHead n (head_in f o s) (head_in f p t)
+  head_in_same : (n : Names) (ps : List EntryPlace) (s t : State) (f : ℕ) (o p : Option Definition) → Like bounds n ps s t → Maybe (SameDefinition n) o p → SameHead n (head_in f o s) (head_in f p t)
   head_in_same n ps s t f _ _ l nothing = same_call Expr f
   head_in_same n ps s t f _ _ l (just _ _ (same_definition kind p q h)) = named_head n f kind _ _ (function_same n ps s t p q l h)
 
-  pub head_same : (n : Names) (ps : List Place) (s t : State) (x y : Tree) → Like bounds n ps s t → SameTree n x y → SameHead n (head_of x s) (head_of y t)
+  pub head_same : (n : Names) (ps : List EntryPlace) (s t : State) (x y : Tree) → Like bounds n ps s t → SameTree n x y → SameHead n (head_of x s) (head_of y t)
   head_same n ps s t _ _ l (same_atom _ _ (same_id i)) = head_in_same n ps s t i _ _ l (definition_same n _ _ (symbol_same n ps s t i l))
   head_same n ps s t _ _ l (same_atom v w r) = same_bad _ _ r
   head_same n ps s t _ _ l (same_quoted v w r) = same_bad v w r
-  head_same n ps s t _ _ l (same_node _ d _ e (same_atom _ _ (same_id i)) k) = at (i == lambda_id)
+  head_same n ps s t _ _ l (same_node _ d _ e (same_atom _ _ (same_id i)) k) = at (i == lambda_number)
     where
-      at : (b : Bool) → SameHead n (if b then Applied else Bad (Id lambda_id)) (if b then Applied else Bad (Id lambda_id))
+      at : (b : Bool) → SameHead n (if b then Applied else Bad (Id lambda_number)) (if b then Applied else Bad (Id lambda_number))
       at true = same_applied
-      at false = same_bad _ _ (same_id lambda_id)
-  head_same n ps s t _ _ l (same_node _ d _ e (same_atom _ _ r) k) = same_bad _ _ (same_id lambda_id)
-  head_same n ps s t _ _ l (same_node _ d _ e h k) = same_bad _ _ (same_id lambda_id)
-  head_same n ps s t _ _ l (same_literal i a b h) = same_bad _ _ (same_id lambda_id)
+      at false = same_bad _ _ (same_id lambda_number)
+  head_same n ps s t _ _ l (same_node _ d _ e (same_atom _ _ r) k) = same_bad _ _ (same_id lambda_number)
+  head_same n ps s t _ _ l (same_node _ d _ e h k) = same_bad _ _ (same_id lambda_number)
+  head_same n ps s t _ _ l (same_literal i a b h) = same_bad _ _ (same_id lambda_number)

@@ -3,11 +3,11 @@ use Rattle.std.proofs.Common.{◌≡◌, ◌∙◌, inl, inr, ◌≤◌, ℕ, Bo
 use Rattle.std.proofs.Common.{length-append}
 use Rattle.std.proofs.lemmas.List.{take-append-le}
 use Rattle.rl_meaning.specs.State.{State, Counts, Entry}
-use Rattle.rl_meaning.specs.Outcome.{Outcome, Done, Failed, Went, Returned, Stopped, Stop, then_do, choose, entered, deeper, Levels}
+use Rattle.rl_meaning.specs.Outcome.{Outcome, Done, Failed, Went, Returned, Stopped, Stop, then_do, choose, in_levels, deeper, Levels}
 use Rattle.rl_meaning.specs.Opening.{state_of}
 use Rattle.rl_meaning.specs.Variables.{restored}
 use Rattle.rl_meaning.specs.Evaluation.{closed}
-use Rattle.rl_meaning.specs.TwoRunsEnds.{Begins, HasShown, OneBegins, Parted, by_event, right_short, left_short, short_by_event, both_short}
+use Rattle.rl_meaning.specs.TwoRunsEnds.{IsBegunBy, HasShown, OneBegins, Parted, by_event, right_short, left_short, short_by_event, both_short}
 use Rattle.rl_meaning.specs.TwoRunsStates.{Bounds}
 use Rattle.rl_agrees.specs.Later.{IsMore, IsNoted, StaysOrNoted, NotedBefore, Later}
 use Rattle.rl_agrees.specs.TwoRunsJobs.{EventWithin}
@@ -94,7 +94,7 @@ pub choose_goes : {A : Type 0} (b : Bool) (s : State) (f g : State → Outcome A
 choose_goes true s f g h k = h
 choose_goes false s f g h k = k
 
-entered_goes : {A : Type 0} (b : Bool) (l : ℕ) (s : State) (f : Levels → Outcome A) → ((l : Levels) → GoesOn s (f l)) → GoesOn s (entered b l s f)
+entered_goes : {A : Type 0} (b : Bool) (l : ℕ) (s : State) (f : Levels → Outcome A) → ((l : Levels) → GoesOn s (f l)) → GoesOn s (in_levels b l s f)
 entered_goes true l s f h = h (Some l)
 entered_goes false l s f h = record { goes = goes_refl s }
 
@@ -119,7 +119,7 @@ pub record Context {A B : Type 0} (C : Outcome A → Outcome B) : Type 0 where
   pub stops : (why : Stop) (s : State) → C (Stopped why s) ≡ Stopped why s
   pub goes : (o : Outcome A) → Goes (state_of o) (state_of (C o))
 
-begins_more : (x y z : List ℕ) → Begins x y → IsMore y z → Begins x z
+begins_more : (x y z : List ℕ) → IsBegunBy x y → IsMore y z → IsBegunBy x z
 begins_more x y z h g = begins_trans x y z h (record { rest = g.rest; is = g.is })
 
 shown_more : (x y : List ℕ) (s t : State) → HasShown x y s.outside → Goes s t → HasShown x y t.outside

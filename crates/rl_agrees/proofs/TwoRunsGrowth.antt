@@ -4,7 +4,7 @@ use Rattle.rl_tree.specs.Value.{Value, Object}
 use Rattle.rl_meaning.specs.CMacros.{Operand, CMacro}
 use Rattle.rl_meaning.specs.State.{Tree, Held, Pointer, Function, Definition, Symbol, Entry, Dependency, Code, Coded, Compilation}
 use Rattle.rl_meaning.specs.TwoRunsValues.{Names, Grows, Maybe, nothing, just, Each, end, more, SameValue, same_int, same_id, same_str, same_ref, same_fun, SameObject, same_pair, same_vector, SameTree, same_atom, same_quoted, same_node, same_literal, SameHeld, same_held, SameFunction, same_special, same_native, same_held_function, SamePointer, same_pointer, SameNumber, SameDefinition, same_definition, SameSymbol, same_symbol, SameOperand, same_slot, same_constant, same_variable, same_register, SameMacro, same_load, same_copy, same_jump_eq, same_jump_ne, same_macro, SameCode, SameDependency, same_called, same_fexpr, same_whole, SameCoded, same_coded}
-use Rattle.rl_meaning.specs.TwoRunsStates.{Place, Aligned, bottom, both, both_mark, hidden, hidden_mark, SameCompilation}
+use Rattle.rl_meaning.specs.TwoRunsStates.{EntryPlace, Aligned, bottom, both, both_mark, hidden, hidden_mark, SameCompilation}
 
 -- ---- growth
 
@@ -63,7 +63,7 @@ symbol_grows n m x y (same_symbol name interned system kind a b p q d e h k l) g
 number_grows : (n m : Names) (x y : ℕ) → SameNumber n x y → Grows n m → SameNumber m x y
 number_grows n m x y h g = record { linked = g.functions x y h.linked }
 
-pub aligned_grows : (n m : Names) (ps : List Place) (xs ys : List Entry) → Aligned n ps xs ys → Grows n m → Aligned m ps xs ys
+pub aligned_grows : (n m : Names) (ps : List EntryPlace) (xs ys : List Entry) → Aligned n ps xs ys → Grows n m → Aligned m ps xs ys
 aligned_grows n m ps xs ys bottom g = bottom
 aligned_grows n m ps xs ys (both x scope v w qs as' bs h k) g = both x scope v w qs as' bs (value_grows n m v w h g) (aligned_grows n m qs as' bs k g)
 aligned_grows n m ps xs ys (both_mark p q qs as' bs h k) g = both_mark p q qs as' bs (maybe_grows (SamePointer n) (SamePointer m) (λ a b r. pointer_grows n m a b r g) p q h) (aligned_grows n m qs as' bs k g)

@@ -6,10 +6,10 @@ use Rattle.rl_meaning.specs.CMacros.{Operand, CMacro}
 use Rattle.rl_meaning.specs.State.{State, Tree, Held, Pointer, Function, Definition, Symbol, Entry, Dependency, Coded, Compilation, Counts, Expansion, Outside, Recorded}
 use Rattle.rl_meaning.specs.TwoRunsLinks.{Links, unlinked, link, Linked, newest, older, OneToOne, Within}
 use Rattle.rl_meaning.specs.TwoRunsValues.{Names, Grows, Maybe, nothing, just, Each, end, more, SameValue, same_int, same_id, same_str, same_ref, same_fun, SameObject, same_pair, same_vector, SameTree, same_atom, same_quoted, same_node, same_literal, SameHeld, same_held, SameFunction, same_special, same_native, same_held_function, SamePointer, same_pointer, SameDefinition, same_definition, SameSymbol, same_symbol, SameOperand, same_slot, same_constant, same_variable, same_register, SameMacro, same_load, same_copy, same_jump_eq, same_jump_ne, same_macro, SameDependency, same_called, same_fexpr, same_whole, SameCoded, same_coded}
-use Rattle.rl_meaning.specs.TwoRunsStates.{Bounds, SameStore, SameFunctions, Place, Aligned, bottom, both, both_mark, hidden, hidden_mark, SameExpansion, same_none, same_open, IsRoomier, SameCounts, SameCompilation, Like}
+use Rattle.rl_meaning.specs.TwoRunsStates.{Bounds, SameStore, SameFunctions, EntryPlace, Aligned, bottom, both, both_mark, hidden, hidden_mark, SameExpansion, same_none, same_open, IsRoomier, SameCounts, SameCompilation, Like}
 use Rattle.rl_meaning.specs.Outcome.{Outcome, Done, Failed, Went, Returned, Stopped, Stop}
 use Rattle.rl_meaning.specs.Opening.{state_of}
-use Rattle.rl_meaning.specs.TwoRunsEnds.{Begins, HasShown, IsShort, short_of_cells, short_of_levels, IsLacking, IsMeeting, meets_cells, meets_levels, MayStop, OneBegins, Parted, by_event, right_short, left_short, short_by_event, both_short, SameStop, Related, done, failed, went, returned, stopped, parted, Ends}
+use Rattle.rl_meaning.specs.TwoRunsEnds.{IsBegunBy, HasShown, IsShort, short_of_cells, short_of_levels, IsLackingBound, IsMeeting, meets_cells, meets_levels, MayStop, OneBegins, Parted, by_event, right_short, left_short, short_by_event, both_short, SameStop, Related, done, failed, went, returned, stopped, parted, EndsAgree}
 use Rattle.rl_meaning.specs.Right.{Leaves, at_event, at_bound, IsForeseen, as_event, past_bound}
 use Rattle.rl_agrees.specs.TwoRunsJobs.{EventWithin}
 use Rattle.rl_agrees.proofs.TwoRunsKept.{IsWhole}
@@ -215,7 +215,7 @@ module _ (m k : Names) (once : Once k) where
         maybe_joined _ _ _ function_joined (slice_get s r) (slice_get t b.middle) (slice_get u q) (h.is r b.middle b.first) (g.is b.middle q b.second);
   }
 
-  aligned_joined : (ps qs : List Place) (xs ys zs : List Entry) → IsWhole ps → IsWhole qs → Aligned m ps xs ys → Aligned k qs ys zs → Aligned J qs xs zs
+  aligned_joined : (ps qs : List EntryPlace) (xs ys zs : List Entry) → IsWhole ps → IsWhole qs → Aligned m ps xs ys → Aligned k qs ys zs → Aligned J qs xs zs
   aligned_joined ps qs xs ys zs w v bottom bottom = bottom
   aligned_joined ps qs xs ys zs w v (both x scope a b ps' as' bs r h) (both _ _ _ d qs' _ cs s g) = both x scope a d qs' as' cs (value_joined a b d r s) (aligned_joined ps' qs' as' bs cs w v h g)
   aligned_joined ps qs xs ys zs w v (both_mark f i ps' as' bs r h) (both_mark _ j qs' _ cs s g) = both_mark f j qs' as' cs (maybe_joined _ _ _ pointer_joined f i j r s) (aligned_joined ps' qs' as' bs cs w v h g)
@@ -249,7 +249,7 @@ module _ (m k : Names) (once : Once k) where
   }
 
 module _ {bounds : Bounds} where
-  like_joined : (m k : Names) (ps qs : List Place) (s t u : State) → is_some t.counts.cells ≡ is_some u.counts.cells → IsWhole ps → IsWhole qs → Like bounds m ps s t → Like bounds k qs t u → Like bounds (names_through m k) qs s u
+  like_joined : (m k : Names) (ps qs : List EntryPlace) (s t u : State) → is_some t.counts.cells ≡ is_some u.counts.cells → IsWhole ps → IsWhole qs → Like bounds m ps s t → Like bounds k qs t u → Like bounds (names_through m k) qs s u
   like_joined m k ps qs s t u e w v h g = let once : Once k = record { objects = g.store.once; functions = g.functions.once } in record {
     store = store_joined m k once s.store t.store u.store h.store g.store;
     functions = functions_joined m k once s.functions t.functions u.functions h.functions g.functions;
@@ -263,25 +263,25 @@ module _ {bounds : Bounds} where
 
 -- ---- fronts
 
-pub begins_refl : (x : List ℕ) → Begins x x
+pub begins_refl : (x : List ℕ) → IsBegunBy x x
 begins_refl x = record { rest = []; is = sym (append-nil x) }
 
-pub begins_trans : (x y z : List ℕ) → Begins x y → Begins y z → Begins x z
+pub begins_trans : (x y z : List ℕ) → IsBegunBy x y → IsBegunBy y z → IsBegunBy x z
 begins_trans x y z h g = record { rest = h.rest ++ g.rest; is = g.is ∙ (ap (λ w. w ++ g.rest) h.is ∙ append_assoc x h.rest g.rest) }
 
 -- a front of a list begins with what the list begins with, where that is no longer
-cut_begins : (n : ℕ) (x rest : List ℕ) → length x ≤ n → Begins x (take n (x ++ rest))
+cut_begins : (n : ℕ) (x rest : List ℕ) → length x ≤ n → IsBegunBy x (take n (x ++ rest))
 cut_begins n [] rest le = record { rest = take n rest; is = refl }
 cut_begins zero (a ∷ x) rest le = absurd (omega (arith, le))
-cut_begins (suc n) (a ∷ x) rest le = let h : Begins x (take n (x ++ rest)) = cut_begins n x rest (omega (arith, le)) in record { rest = h.rest; is = ap (λ w. a ∷ w) h.is }
+cut_begins (suc n) (a ∷ x) rest le = let h : IsBegunBy x (take n (x ++ rest)) = cut_begins n x rest (omega (arith, le)) in record { rest = h.rest; is = ap (λ w. a ∷ w) h.is }
 
-begins_cut : (n : ℕ) (x z : List ℕ) → Begins x z → length x ≤ n → Begins x (take n z)
-begins_cut n x z h le = subst (λ w. Begins x (take n w)) (sym h.is) (cut_begins n x h.rest le)
+begins_cut : (n : ℕ) (x z : List ℕ) → IsBegunBy x z → length x ≤ n → IsBegunBy x (take n z)
+begins_cut n x z h le = subst (λ w. IsBegunBy x (take n w)) (sym h.is) (cut_begins n x h.rest le)
 
-pub take_begins : (n : ℕ) (x : List ℕ) → Begins (take n x) x
+pub take_begins : (n : ℕ) (x : List ℕ) → IsBegunBy (take n x) x
 take_begins zero x = record { rest = x; is = refl }
 take_begins (suc n) [] = record { rest = []; is = refl }
-take_begins (suc n) (a ∷ x) = let h : Begins (take n x) x = take_begins n x in record { rest = h.rest; is = ap (λ w. a ∷ w) h.is }
+take_begins (suc n) (a ∷ x) = let h : IsBegunBy (take n x) x = take_begins n x in record { rest = h.rest; is = ap (λ w. a ∷ w) h.is }
 
 take_length : (n : ℕ) (x : List ℕ) → length (take n x) ≤ n
 take_length zero x = omega arith
@@ -298,7 +298,7 @@ fronts [] y u v e = inl (record { rest = y; is = refl })
 fronts (a ∷ x) [] u v e = inr (record { rest = a ∷ x; is = refl })
 fronts (a ∷ x) (b ∷ y) u v e = let h : a ≡ b = cc in let t : x ++ u ≡ y ++ v = cc in subst (λ c. OneBegins (a ∷ x) (c ∷ y)) h (one_more a x y (fronts x y u v t))
 
-pub both_begin : (x y z : List ℕ) → Begins x z → Begins y z → OneBegins x y
+pub both_begin : (x y z : List ℕ) → IsBegunBy x z → IsBegunBy y z → OneBegins x y
 both_begin x y z h g = fronts x y h.rest g.rest (sym h.is ∙ g.is)
 
 -- ---- what was shown
@@ -315,7 +315,7 @@ shown_at x y p o e h = subst (λ w. HasShown x y w) e h
 -- ---- ends
 
 -- the second and the third from one state
-abbrev pub Follows : Bounds → Names → List Place → Outcome Value → Outcome Value → Type 0
+abbrev pub Follows : Bounds → Names → List EntryPlace → Outcome Value → Outcome Value → Type 0
 Follows bounds known qs = Related bounds (Leaves bounds) SameValue known qs
 
 -- what was printed and noted by an event
@@ -328,7 +328,7 @@ module _ {bounds : Bounds} where
   seen_by_right o p q e (at_bound _ why t x h) = right_short o why t x (shown_at _ _ _ _ e h)
 
   -- what the third had printed and noted by its event, the second has
-  second_shows : (known : Names) (qs : List Place) (p q : Outcome Value) (w : Recorded) → (state_of q).watched.event ≡ Some w → Follows bounds known qs p q → Front w (state_of q) (state_of p).outside
+  second_shows : (known : Names) (qs : List EntryPlace) (p q : Outcome Value) (w : Recorded) → (state_of q).watched.event ≡ Some w → Follows bounds known qs p q → Front w (state_of q) (state_of p).outside
   second_shows known qs p q w e g = at p q w e g
     where
       same : (s t : State) (w : Recorded) → s.outside ≡ t.outside → Front w t s.outside
@@ -345,13 +345,13 @@ module _ {bounds : Bounds} where
 
 -- that is a front of what the second had by its own event
 front_of_front : (c w : Recorded) (p q : Outcome Value) → w.printed ≤ c.printed → w.noted ≤ c.noted → Front w (state_of q) (state_of p).outside
-    → Begins (take w.printed (state_of q).outside.output) (take c.printed (state_of p).outside.output) × Begins (take w.noted (state_of q).outside.notes) (take c.noted (state_of p).outside.notes)
+    → IsBegunBy (take w.printed (state_of q).outside.output) (take c.printed (state_of p).outside.output) × IsBegunBy (take w.noted (state_of q).outside.notes) (take c.noted (state_of p).outside.notes)
 front_of_front c w p q a b h = (
   begins_cut c.printed _ (state_of p).outside.output h.output (omega (arith, a, take_length w.printed (state_of q).outside.output)),
   begins_cut c.noted _ (state_of p).outside.notes h.notes (omega (arith, b, take_length w.noted (state_of q).outside.notes)),
 )
 
-either_front : (x y z : List ℕ) → Begins x y → OneBegins y z → OneBegins x z
+either_front : (x y z : List ℕ) → IsBegunBy x y → OneBegins y z → OneBegins x z
 either_front x y z h (inl g) = inl (begins_trans x y z h g)
 either_front x y z h (inr g) = both_begin x z y h g
 
@@ -361,11 +361,11 @@ module _ {bounds : Bounds} where
   meeting _ short_of_cells may = meets_cells may
   meeting _ short_of_levels may = meets_levels may
 
-module _ (known : Names) (qs : List Place) where
+module _ (known : Names) (qs : List EntryPlace) where
   -- what a third that met its bound had printed and noted, the second had by its event, or else the third has an event
   data Past (bounds : Bounds) (why : Stop) (c : Recorded) (p : Outcome Value) (t : State) : Type 0 where
-    past_all : IsMeeting bounds why → Begins t.outside.output (take c.printed (state_of p).outside.output) → Begins t.outside.notes (take c.noted (state_of p).outside.notes) → Past bounds why c p t
-    past_event : (r : Recorded) → t.watched.event ≡ Some r → Begins (take r.printed t.outside.output) (take c.printed (state_of p).outside.output) → Begins (take r.noted t.outside.notes) (take c.noted (state_of p).outside.notes) → Past bounds why c p t
+    past_all : IsMeeting bounds why → IsBegunBy t.outside.output (take c.printed (state_of p).outside.output) → IsBegunBy t.outside.notes (take c.noted (state_of p).outside.notes) → Past bounds why c p t
+    past_event : (r : Recorded) → t.watched.event ≡ Some r → IsBegunBy (take r.printed t.outside.output) (take c.printed (state_of p).outside.output) → IsBegunBy (take r.noted t.outside.notes) (take c.noted (state_of p).outside.notes) → Past bounds why c p t
 
   module _ {bounds : Bounds} where
     past : (c : Recorded) (p : Outcome Value) (why : Stop) (t : State) → IsShort why → length t.outside.output ≤ c.printed → length t.outside.notes ≤ c.noted → EventWithin t → Follows bounds known qs p (Stopped why t) → Past bounds why c p t
@@ -373,7 +373,7 @@ module _ (known : Names) (qs : List Place) where
         let h : HasShown t.outside.output t.outside.notes s.outside = shown_at _ _ _ _ (sym x.outside) (shown_refl t.outside) in
         past_all (meeting why short x.may) (begins_cut c.printed _ _ h.output a) (begins_cut c.noted _ _ h.notes b)
     past c p why t short a b w (parted _ _ (at_event _ _ r e h)) =
-        let f : Begins (take r.printed t.outside.output) (take c.printed (state_of p).outside.output) × Begins (take r.noted t.outside.notes) (take c.noted (state_of p).outside.notes) =
+        let f : IsBegunBy (take r.printed t.outside.output) (take c.printed (state_of p).outside.output) × IsBegunBy (take r.noted t.outside.notes) (take c.noted (state_of p).outside.notes) =
         front_of_front c r p (Stopped why t) (omega (arith, w.printed r e, a)) (omega (arith, w.noted r e, b)) h in
         past_event r e f.0 f.1
     past c p why t short a b w (parted _ _ (at_bound _ _ _ x h)) = past_all x (begins_cut c.printed _ _ h.output a) (begins_cut c.noted _ _ h.notes b)
@@ -384,7 +384,7 @@ module _ (known : Names) (qs : List Place) where
 
     join_event : (o p q : Outcome Value) (c : Recorded) → EventWithin (state_of q) → Front c (state_of p) (state_of o).outside → IsForeseen c q → Follows bounds known qs p q → Parted bounds o q
     join_event o p q c v h (as_event _ w e a b) g =
-        let f : Begins (take w.printed (state_of q).outside.output) (take c.printed (state_of p).outside.output) × Begins (take w.noted (state_of q).outside.notes) (take c.noted (state_of p).outside.notes) =
+        let f : IsBegunBy (take w.printed (state_of q).outside.output) (take c.printed (state_of p).outside.output) × IsBegunBy (take w.noted (state_of q).outside.notes) (take c.noted (state_of p).outside.notes) =
         front_of_front c w p q a b (second_shows known qs p q w e g) in
         by_event o q w e (record { output = begins_trans _ _ _ f.0 h.output; notes = begins_trans _ _ _ f.1 h.notes })
     join_event o p q c v h (past_bound why t x a b) g = join_past o p c why t h (past c p why t x a b v g)
@@ -394,7 +394,7 @@ module _ (known : Names) (qs : List Place) where
     join_right_short o q why t x h (parted _ _ (at_event _ _ r y g)) = by_event o q r y (shown_trans _ _ t.outside _ g h)
     join_right_short o q why t x h (parted _ _ (at_bound _ other u y g)) = right_short o other u y (shown_trans _ _ t.outside _ g h)
 
-    join_left_short : (why : Stop) (s : State) (p q : Outcome Value) → IsLacking bounds why → HasShown s.outside.output s.outside.notes (state_of p).outside → Follows bounds known qs p q → Parted bounds (Stopped why s) q
+    join_left_short : (why : Stop) (s : State) (p q : Outcome Value) → IsLackingBound bounds why → HasShown s.outside.output s.outside.notes (state_of p).outside → Follows bounds known qs p q → Parted bounds (Stopped why s) q
     join_left_short why s p q x h (done k a b t u y r l) = left_short why s q x (shown_at _ _ _ _ l.outside h)
     join_left_short why s p q x h (failed k z a b t u y r l) = left_short why s q x (shown_at _ _ _ _ l.outside h)
     join_left_short why s p q x h (went k y t u z l) = left_short why s q x (shown_at _ _ _ _ l.outside h)
@@ -403,20 +403,20 @@ module _ (known : Names) (qs : List Place) where
     join_left_short why s p q x h (parted _ _ (at_event _ _ r y g)) = short_by_event why s q r x y (both_begin _ _ _ g.output h.output) (both_begin _ _ _ g.notes h.notes)
     join_left_short why s p q x h (parted _ _ (at_bound _ other u y g)) = both_short why other s u x y (both_begin _ _ _ g.output h.output) (both_begin _ _ _ g.notes h.notes)
 
-    short_past : (why : Stop) (s : State) (p : Outcome Value) (c : Recorded) (other : Stop) (t : State) → IsLacking bounds why
+    short_past : (why : Stop) (s : State) (p : Outcome Value) (c : Recorded) (other : Stop) (t : State) → IsLackingBound bounds why
         → OneBegins (take c.printed (state_of p).outside.output) s.outside.output → OneBegins (take c.noted (state_of p).outside.notes) s.outside.notes → Past bounds other c p t → Parted bounds {A = Value} (Stopped why s) (Stopped other t)
     short_past why s p c other t x a b (past_all y f g) = both_short why other s t x y (either_front _ _ _ f a) (either_front _ _ _ g b)
     short_past why s p c other t x a b (past_event r e f g) = short_by_event why s (Stopped other t) r x e (either_front _ _ _ f a) (either_front _ _ _ g b)
 
-    join_short_event : (why : Stop) (s : State) (p q : Outcome Value) (c : Recorded) → IsLacking bounds why → EventWithin (state_of q)
+    join_short_event : (why : Stop) (s : State) (p q : Outcome Value) (c : Recorded) → IsLackingBound bounds why → EventWithin (state_of q)
         → OneBegins (take c.printed (state_of p).outside.output) s.outside.output → OneBegins (take c.noted (state_of p).outside.notes) s.outside.notes → IsForeseen c q → Follows bounds known qs p q → Parted bounds (Stopped why s) q
     join_short_event why s p q c x v a b (as_event _ w e i j) g =
-        let f : Begins (take w.printed (state_of q).outside.output) (take c.printed (state_of p).outside.output) × Begins (take w.noted (state_of q).outside.notes) (take c.noted (state_of p).outside.notes) =
+        let f : IsBegunBy (take w.printed (state_of q).outside.output) (take c.printed (state_of p).outside.output) × IsBegunBy (take w.noted (state_of q).outside.notes) (take c.noted (state_of p).outside.notes) =
         front_of_front c w p q i j (second_shows known qs p q w e g) in
         short_by_event why s q w x e (either_front _ _ _ f.0 a) (either_front _ _ _ f.1 b)
     join_short_event why s p q c x v a b (past_bound other t y i j) g = short_past why s p c other t x a b (past c p other t y i j v g)
 
-    join_both_short : (why other : Stop) (s t : State) (q : Outcome Value) → IsLacking bounds why → IsMeeting bounds other → OneBegins t.outside.output s.outside.output → OneBegins t.outside.notes s.outside.notes → Follows bounds known qs (Stopped other t) q → Parted bounds (Stopped why s) q
+    join_both_short : (why other : Stop) (s t : State) (q : Outcome Value) → IsLackingBound bounds why → IsMeeting bounds other → OneBegins t.outside.output s.outside.output → OneBegins t.outside.notes s.outside.notes → Follows bounds known qs (Stopped other t) q → Parted bounds (Stopped why s) q
     join_both_short why other s t q x y a b (stopped _ _ u f) = both_short why other s u x y (subst (λ (w : Outside). OneBegins w.output s.outside.output) f.outside a) (subst (λ (w : Outside). OneBegins w.notes s.outside.notes) f.outside b)
     join_both_short why other s t q x y a b (parted _ _ (at_event _ _ r z g)) = short_by_event why s q r x z (either_front _ _ _ g.output a) (either_front _ _ _ g.notes b)
     join_both_short why other s t q x y a b (parted _ _ (at_bound _ last u z g)) = both_short why last s u x z (either_front _ _ _ g.output a) (either_front _ _ _ g.notes b)
@@ -442,33 +442,33 @@ module _ (n known : Names) (covers : Covers n known) where
     functions = λ r q l. links_through m.functions k.functions r q q once.functions (g.functions r q l) (h.functions q q (covers.functions r q l));
   }
 
-  module _ {bounds : Bounds} (ps qs : List Place) (w : IsWhole ps) (v : IsWhole qs) where
-    join_done : (m : Names) (a b : Value) (s t : State) (q : Outcome Value) → is_some t.counts.cells ≡ is_some (state_of q).counts.cells → Grows n m → SameValue m a b → Like bounds m ps s t → Follows bounds known qs (Done b t) q → Ends bounds n qs (Done a s) q
+  module _ {bounds : Bounds} (ps qs : List EntryPlace) (w : IsWhole ps) (v : IsWhole qs) where
+    join_done : (m : Names) (a b : Value) (s t : State) (q : Outcome Value) → is_some t.counts.cells ≡ is_some (state_of q).counts.cells → Grows n m → SameValue m a b → Like bounds m ps s t → Follows bounds known qs (Done b t) q → EndsAgree bounds n qs (Done a s) q
     join_done m a b s t q e g r l (done k _ c _ u h r' l') = let once : Once k = record { objects = l'.store.once; functions = l'.functions.once } in
         done (names_through m k) a c s u (grows_through m k once g h) (value_joined m k once a b c r r') (like_joined m k ps qs s t u e w v l l')
     join_done m a b s t q e g r l (parted _ _ x) = parted _ _ (seen_by_right (Done a s) (Done b t) q (sym l.outside) x)
 
-    join_failed : (m : Names) (z : ℤ) (a b : Value) (s t : State) (q : Outcome Value) → is_some t.counts.cells ≡ is_some (state_of q).counts.cells → Grows n m → SameValue m a b → Like bounds m ps s t → Follows bounds known qs (Failed z b t) q → Ends bounds n qs (Failed z a s) q
+    join_failed : (m : Names) (z : ℤ) (a b : Value) (s t : State) (q : Outcome Value) → is_some t.counts.cells ≡ is_some (state_of q).counts.cells → Grows n m → SameValue m a b → Like bounds m ps s t → Follows bounds known qs (Failed z b t) q → EndsAgree bounds n qs (Failed z a s) q
     join_failed m z a b s t q e g r l (failed k _ _ c _ u h r' l') = let once : Once k = record { objects = l'.store.once; functions = l'.functions.once } in
         failed (names_through m k) z a c s u (grows_through m k once g h) (value_joined m k once a b c r r') (like_joined m k ps qs s t u e w v l l')
     join_failed m z a b s t q e g r l (parted _ _ x) = parted _ _ (seen_by_right (Failed z a s) (Failed z b t) q (sym l.outside) x)
 
-    join_went : (m : Names) (x : ℕ) (s t : State) (q : Outcome Value) → is_some t.counts.cells ≡ is_some (state_of q).counts.cells → Grows n m → Like bounds m ps s t → Follows bounds known qs (Went x t) q → Ends bounds n qs (Went x s) q
+    join_went : (m : Names) (x : ℕ) (s t : State) (q : Outcome Value) → is_some t.counts.cells ≡ is_some (state_of q).counts.cells → Grows n m → Like bounds m ps s t → Follows bounds known qs (Went x t) q → EndsAgree bounds n qs (Went x s) q
     join_went m x s t q e g l (went k _ _ u h l') = let once : Once k = record { objects = l'.store.once; functions = l'.functions.once } in
         went (names_through m k) x s u (grows_through m k once g h) (like_joined m k ps qs s t u e w v l l')
     join_went m x s t q e g l (parted _ _ y) = parted _ _ (seen_by_right (Went x s) (Went x t) q (sym l.outside) y)
 
-    join_returned : (m : Names) (a b : Value) (s t : State) (q : Outcome Value) → is_some t.counts.cells ≡ is_some (state_of q).counts.cells → Grows n m → SameValue m a b → Like bounds m ps s t → Follows bounds known qs (Returned b t) q → Ends bounds n qs (Returned a s) q
+    join_returned : (m : Names) (a b : Value) (s t : State) (q : Outcome Value) → is_some t.counts.cells ≡ is_some (state_of q).counts.cells → Grows n m → SameValue m a b → Like bounds m ps s t → Follows bounds known qs (Returned b t) q → EndsAgree bounds n qs (Returned a s) q
     join_returned m a b s t q e g r l (returned k _ c _ u h r' l') = let once : Once k = record { objects = l'.store.once; functions = l'.functions.once } in
         returned (names_through m k) a c s u (grows_through m k once g h) (value_joined m k once a b c r r') (like_joined m k ps qs s t u e w v l l')
     join_returned m a b s t q e g r l (parted _ _ x) = parted _ _ (seen_by_right (Returned a s) (Returned b t) q (sym l.outside) x)
 
-    join_stopped : (why : Stop) (s t : State) (q : Outcome Value) → SameStop bounds why s t → Follows bounds known qs (Stopped why t) q → Ends bounds n qs (Stopped why s) q
+    join_stopped : (why : Stop) (s t : State) (q : Outcome Value) → SameStop bounds why s t → Follows bounds known qs (Stopped why t) q → EndsAgree bounds n qs (Stopped why s) q
     join_stopped why s t q e (stopped _ _ u f) = stopped why s u (record { outside = e.outside ∙ f.outside; turns = e.turns ∙ f.turns; may = f.may })
     join_stopped why s t q e (parted _ _ x) = parted _ _ (seen_by_right (Stopped why s) (Stopped why t) q (sym e.outside) x)
 
     -- one run beside a second, and the second, from one state, beside a third
-    pub joined : (o p q : Outcome Value) → EventWithin (state_of q) → ((c : Recorded) → (state_of p).watched.event ≡ Some c → IsForeseen c q) → is_some (state_of p).counts.cells ≡ is_some (state_of q).counts.cells → Ends bounds n ps o p → Follows bounds known qs p q → Ends bounds n qs o q
+    pub joined : (o p q : Outcome Value) → EventWithin (state_of q) → ((c : Recorded) → (state_of p).watched.event ≡ Some c → IsForeseen c q) → is_some (state_of p).counts.cells ≡ is_some (state_of q).counts.cells → EndsAgree bounds n ps o p → Follows bounds known qs p q → EndsAgree bounds n qs o q
     joined o p q inside foreseen e (done m a b s t g r l) h = join_done m a b s t q e g r l h
     joined o p q inside foreseen e (failed m z a b s t g r l) h = join_failed m z a b s t q e g r l h
     joined o p q inside foreseen e (went m x s t g l) h = join_went m x s t q e g l h

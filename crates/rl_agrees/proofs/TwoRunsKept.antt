@@ -6,8 +6,8 @@ use Rattle.rl_meaning.specs.Outcome.{Outcome}
 use Rattle.rl_meaning.specs.Holding.{function_at}
 use Rattle.rl_meaning.specs.Evaluation.{Job, Run, Onward}
 use Rattle.rl_meaning.specs.TwoRunsValues.{Names}
-use Rattle.rl_meaning.specs.TwoRunsStates.{Bounds, Place, Both, BothMark}
-use Rattle.rl_meaning.specs.TwoRunsEnds.{Ends}
+use Rattle.rl_meaning.specs.TwoRunsStates.{Bounds, EntryPlace, Both, BothMark}
+use Rattle.rl_meaning.specs.TwoRunsEnds.{EndsAgree}
 use Rattle.rl_agrees.specs.Later.{Later}
 use Rattle.rl_agrees.specs.TwoRunsJobs.{EventWithin}
 
@@ -24,7 +24,7 @@ IsOfState (Run name l holder (Some p) held vs) t = (function_at t p ≡ HeldFunc
 IsOfState j t = Unit {0}
 
 -- no binding is lacking
-abbrev pub IsWhole : List Place → Type 0
+abbrev pub IsWhole : List EntryPlace → Type 0
 IsWhole [] = Unit {0}
 IsWhole (Both ∷ ps) = IsWhole ps
 IsWhole (BothMark ∷ ps) = IsWhole ps
@@ -32,10 +32,10 @@ IsWhole (p ∷ ps) = ⊥
 
 -- code that goes on may leave other bindings, of which all are there on both sides
 pub record EndsSomewhere (bounds : Bounds) (n : Names) (o p : Outcome Value) : Type 0 where
-  pub places : List Place
+  pub places : List EntryPlace
   pub whole : IsWhole places
-  pub ends : Ends bounds n places o p
+  pub ends : EndsAgree bounds n places o p
 
-abbrev pub EndsOf : Bounds → Job → Names → List Place → Outcome Value → Outcome Value → Type 0
+abbrev pub EndsOf : Bounds → Job → Names → List EntryPlace → Outcome Value → Outcome Value → Type 0
 EndsOf bounds (Onward f m code) n ps o p = EndsSomewhere bounds n o p
-EndsOf bounds j n ps o p = Ends bounds n ps o p
+EndsOf bounds j n ps o p = EndsAgree bounds n ps o p

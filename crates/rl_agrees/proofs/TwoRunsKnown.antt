@@ -5,7 +5,7 @@ use Rattle.rl_meaning.specs.CMacros.{Operand, CMacro}
 use Rattle.rl_meaning.specs.State.{State, Tree, Held, Pointer, Function, Definition, Symbol, Entry, Dependency, Code, Coded, Expansion, Binding, Mark}
 use Rattle.rl_meaning.specs.TwoRunsLinks.{Links, unlinked, link, Linked, newest, older, OneToOne, Within}
 use Rattle.rl_meaning.specs.TwoRunsValues.{Names, Maybe, nothing, just, Each, end, more, SameValue, same_int, same_id, same_str, same_ref, same_fun, SameObject, same_pair, same_vector, SameTree, same_atom, same_quoted, same_node, same_literal, SameHeld, same_held, SameFunction, same_special, same_native, same_held_function, SamePointer, same_pointer, SameDefinition, same_definition, SameSymbol, same_symbol, SameOperand, same_slot, same_constant, same_variable, same_register, SameMacro, same_load, same_copy, same_jump_eq, same_jump_ne, same_macro, SameCode, SameDependency, same_called, same_fexpr, same_whole, SameCoded, same_coded}
-use Rattle.rl_meaning.specs.TwoRunsStates.{Bounds, SameStore, SameFunctions, Place, Both, BothMark, Aligned, bottom, both, both_mark, hidden, hidden_mark, all_both, SameExpansion, same_none, same_open, IsRoomier, Like}
+use Rattle.rl_meaning.specs.TwoRunsStates.{Bounds, SameStore, SameFunctions, EntryPlace, Both, BothMark, Aligned, bottom, both, both_mark, hidden, hidden_mark, all_both, SameExpansion, same_none, same_open, IsRoomier, Like}
 use Rattle.rl_meaning.specs.Right.{IsIdentity, Knows}
 use Rattle.rl_agrees.proofs.TwoRunsKept.{IsWhole}
 use Rattle.rl_agrees.proofs.TwoRunsLinked.{linked_cases}
@@ -150,7 +150,7 @@ module _ (n : Names) where
         subst (λ z. Maybe (SameFunction K) (slice_get t r) (slice_get t z)) x.is (maybe_right _ _ function_right (slice_get s x.number) (slice_get t r) (h.is x.number r x.linked));
   }
 
-  aligned_right : (ps : List Place) (xs ys : List Entry) → IsWhole ps → Aligned n ps xs ys → Aligned K (all_both ys) ys ys
+  aligned_right : (ps : List EntryPlace) (xs ys : List Entry) → IsWhole ps → Aligned n ps xs ys → Aligned K (all_both ys) ys ys
   aligned_right ps xs ys w bottom = bottom
   aligned_right ps xs ys w (both x scope a b qs as' bs r h) = both x scope b b (all_both bs) bs bs (value_right a b r) (aligned_right qs as' bs w h)
   aligned_right ps xs ys w (both_mark f g qs as' bs r h) = both_mark g g (all_both bs) bs bs (maybe_right _ _ pointer_right f g r) (aligned_right qs as' bs w h)
@@ -166,7 +166,7 @@ module _ (n : Names) where
   roomier_self (Some x) = omega arith
 
   module _ {bounds : Bounds} where
-    pub like_right : (ps : List Place) (s t : State) → IsWhole ps → Like bounds n ps s t → Like bounds K (all_both t.bindings) t t
+    pub like_right : (ps : List EntryPlace) (s t : State) → IsWhole ps → Like bounds n ps s t → Like bounds K (all_both t.bindings) t t
     like_right ps s t w l = record {
       store = store_right s.store t.store l.store;
       functions = functions_right s.functions t.functions l.functions;
@@ -186,11 +186,11 @@ module _ (n : Names) where
     }
 
     -- the right state knows what it has from the left
-    pub knows : (ps : List Place) (s t : State) (vs ws : List Value) (a b : Code) → IsWhole ps → Like bounds n ps s t → Each (SameValue n) vs ws → SameCode n a b → Knows bounds K ws b t
+    pub knows : (ps : List EntryPlace) (s t : State) (vs ws : List Value) (a b : Code) → IsWhole ps → Like bounds n ps s t → Each (SameValue n) vs ws → SameCode n a b → Knows bounds K ws b t
     knows ps s t vs ws a b w l r c = record { identity = right_identity n; state = like_right ps s t w l; values = each_right _ _ value_right vs ws r; constants = code_right a b c }
 
 -- all places are of both
-pub whole_places : (n : Names) (ps : List Place) (xs ys : List Entry) → IsWhole ps → Aligned n ps xs ys → ps ≡ all_both ys
+pub whole_places : (n : Names) (ps : List EntryPlace) (xs ys : List Entry) → IsWhole ps → Aligned n ps xs ys → ps ≡ all_both ys
 whole_places n ps xs ys w bottom = refl
 whole_places n ps xs ys w (both x scope a b qs as' bs r h) = λ i. Both ∷ whole_places n qs as' bs w h i
 whole_places n ps xs ys w (both_mark f g qs as' bs r h) = λ i. BothMark ∷ whole_places n qs as' bs w h i

@@ -4,14 +4,14 @@ use Rattle.rl_tree.specs.Value.{Value}
 use Rattle.rl_meaning.specs.Names.{Native, Set, Prin1, Prin2, Print, Terpri}
 use Rattle.rl_meaning.specs.State.{State, Tree, Pair}
 use Rattle.rl_meaning.specs.Outcome.{Outcome, Levels}
-use Rattle.rl_meaning.specs.Symbols.{nil, nil_id}
+use Rattle.rl_meaning.specs.Symbols.{nil_value_of_state, nil_number}
 use Rattle.rl_meaning.specs.Natives.{native}
 use Rattle.rl_meaning.specs.Evaluation.{Job, Run, Onward, Call_, From, In, Position, Inside, Statement, Here, Rec, arguments}
 use Rattle.rl_meaning.specs.Jobs.{job, the_compiler}
 use Rattle.rl_meaning.specs.Laws.{IsFuelEnough}
 use Rattle.rl_meaning.specs.TwoRunsValues.{Names, Each, SameValue, same_id}
-use Rattle.rl_meaning.specs.TwoRunsStates.{Bounds, Place, Like, Roomier}
-use Rattle.rl_meaning.specs.TwoRunsEnds.{Ends, done}
+use Rattle.rl_meaning.specs.TwoRunsStates.{Bounds, EntryPlace, Like, Roomier}
+use Rattle.rl_meaning.specs.TwoRunsEnds.{EndsAgree, done}
 use Rattle.rl_agrees.specs.Laws.{CodeAgrees, WalksAgree}
 use Rattle.rl_agrees.proofs.TwoRunsKept.{Goes}
 use Rattle.rl_agrees.proofs.OneRun.{Follows, follows_same, LeadsAt, Leads}
@@ -165,12 +165,12 @@ module _ {bounds : Bounds} where
   defining : DefinitionsAgree bounds
   defining = record { getd_ = definitions.getd_related; putd_ = definitions.putd_related; remd_ = definitions.remd_related; fluid_ = definitions.fluid_related; global_ = definitions.global_related; unfluid_ = definitions.unfluid_related; set_ = definitions.set_related }
 
-  parts : (n : Names) (ps : List Place) (o : Native) (l m : Levels) (xs ys : List Value) (s t : State) → may_part o ≡ true → Roomier bounds l m → Each (SameValue n) xs ys → Like bounds n ps s t → Ends bounds n ps (native o l xs s) (native o m ys t)
+  parts : (n : Names) (ps : List EntryPlace) (o : Native) (l m : Levels) (xs ys : List Value) (s t : State) → may_part o ≡ true → Roomier bounds l m → Each (SameValue n) xs ys → Like bounds n ps s t → EndsAgree bounds n ps (native o l xs s) (native o m ys t)
   parts n ps Set l m xs ys s t e r h x = set_related defining n ps l m xs ys s t h x
   parts n ps Prin1 l m xs ys s t e r h x = printer_related n ps Prin1 l m xs ys s t refl r h x
   parts n ps Prin2 l m xs ys s t e r h x = printer_related n ps Prin2 l m xs ys s t refl r h x
   parts n ps Print l m xs ys s t e r h x = printer_related n ps Print l m xs ys s t refl r h x
-  parts n ps Terpri l m xs ys s t e r h x = done n nil nil _ _ (grows_refl n) (same_id nil_id) (mark_like n ps _ s t x)
+  parts n ps Terpri l m xs ys s t e r h x = done n nil_value_of_state nil_value_of_state _ _ (grows_refl n) (same_id nil_number) (mark_like n ps _ s t x)
   parts n ps other l m xs ys s t e r h x = absurd (cc)
 
   two : TwoRunsFacts bounds

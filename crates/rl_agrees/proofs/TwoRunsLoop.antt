@@ -13,19 +13,19 @@ use Rattle.rl_meaning.specs.Reach.{same_definition}
 use Rattle.rl_meaning.specs.Standing.{stands, all_stand}
 use Rattle.rl_meaning.specs.Holding.{pointer_to, function_at}
 use Rattle.rl_meaning.specs.Printing.{print_error}
-use Rattle.rl_meaning.specs.Input.{Reading, Form, End, Unreadable, read_bytes}
+use Rattle.rl_meaning.specs.Input.{FormReading, Form, End, Unreadable, read_bytes}
 use Rattle.rl_meaning.specs.Evaluation.{In, Inside, Here, longest_chain}
 use Rattle.rl_meaning.specs.Jobs.{job, the_compiler, evaluate}
 use Rattle.rl_meaning.specs.Laws.{IsFuelEnough}
-use Rattle.rl_meaning.specs.Run.{Ending, Finished, Stops, Ran, held_evaluated, statement, after_statement, print_atom, print_unreadable, behind_line, goes_on, read_and_run, run_within, run_bytes, source_of, run_file}
+use Rattle.rl_meaning.specs.Run.{RunEnding, Finished, Stops, Ran, held_evaluated, statement, after_statement, print_atom, print_unreadable, behind_line, run_goes_on, read_and_run, run_within, run_bytes, source_of, run_file}
 use Rattle.rl_meaning.specs.TwoRunsLinks.{Linked, OneToOne, Within}
 use Rattle.rl_meaning.specs.TwoRunsValues.{Names, Maybe, Each, SameValue, same_id, SameTree, SameFunction, same_special, same_native, same_held_function, same_held, same_pointer, SameNumber}
-use Rattle.rl_meaning.specs.TwoRunsStates.{Bounds, bounds_of, Place, all_both, SameExpansion, same_none, same_open, IsRoomier, Roomier, Like}
-use Rattle.rl_meaning.specs.TwoRunsEnds.{Begins, HasShown, IsShort, short_of_cells, short_of_levels, IsLacking, lacks_cells, lacks_levels, IsMeeting, meets_cells, meets_levels, OneBegins, Parted, by_event, right_short, left_short, short_by_event, both_short, Related, done, failed, went, returned, stopped, parted, Ends}
+use Rattle.rl_meaning.specs.TwoRunsStates.{Bounds, bounds_of, EntryPlace, all_both, SameExpansion, same_none, same_open, IsRoomier, Roomier, Like}
+use Rattle.rl_meaning.specs.TwoRunsEnds.{IsBegunBy, HasShown, IsShort, short_of_cells, short_of_levels, IsLackingBound, lacks_cells, lacks_levels, IsMeeting, meets_cells, meets_levels, OneBegins, Parted, by_event, right_short, left_short, short_by_event, both_short, Related, done, failed, went, returned, stopped, parted, EndsAgree}
 use Rattle.rl_meaning.specs.Right.{Stood, AllAsTheyStood}
 use Rattle.rl_agrees.specs.TwoRunsJobs.{SameHere, same_here, same_in, ReadyCode, Ready}
 use Rattle.rl_agrees.proofs.TwoRunsKept.{Goes}
-use Rattle.rl_agrees.specs.TwoRunsRuns.{StopsLacking, StopsMeeting, MayEnd, RunsAgree, alike, until_event, until_right_stop, until_left_stop, until_either, until_both_stop, HasRoom, HasNoEvent, SameRun, printed_by, noted_by, printed_first, noted_first, each_itself, names_of, IsSound, running, walking}
+use Rattle.rl_agrees.specs.TwoRunsRuns.{StopsLacking, StopsMeeting, MayEnd, RunsAgree, alike, until_event, until_right_stop, until_left_stop, until_either, until_both_stop, HasRoom, HasNoEvent, SameRun, printed_at_event, noted_by, printed_first, noted_first, each_itself, names_of, IsSoundState, with_running_code, walking}
 use Rattle.rl_agrees.specs.Laws.{CodeAgrees}
 use Rattle.rl_agrees.proofs.TwoRunsLinked.{linked_cases}
 use Rattle.rl_agrees.proofs.TwoRunsGrowth.{grows_refl}
@@ -45,24 +45,24 @@ use Rattle.rl_agrees.proofs.TwoRunsCompared.{CleanSides, code_and_walk}
 -- ---- an atom is printed, which may break a line
 
 module _ {bounds : Bounds} where
-  atom_like : (n : Names) (ps : List Place) (bytes : List ℕ) (s t : State) → Like bounds n ps s t → Like bounds n ps (print_atom bytes s) (print_atom bytes t)
+  atom_like : (n : Names) (ps : List EntryPlace) (bytes : List ℕ) (s t : State) → Like bounds n ps s t → Like bounds n ps (print_atom bytes s) (print_atom bytes t)
   atom_like n ps bytes s t l = record { store = l.store; functions = l.functions; symbols = l.symbols; bindings = l.bindings; counts = l.counts; outside = λ k. let page : Page = with_atom (l.outside k).line_length (record { text = (l.outside k).output; column = (l.outside k).column }) bytes in record (l.outside k) { output = page.text; column = page.column }; gensyms = l.gensyms; compilation = l.compilation }
 
 -- ---- runs that are apart
 
-outcome_of : Ending → State → Outcome (Unit {0})
+outcome_of : RunEnding → State → Outcome (Unit {0})
 outcome_of Finished s = Done tt s
 outcome_of (Stops why) s = Stopped why s
 
 abbrev as_outcome : Ran → Outcome (Unit {0})
 as_outcome x = outcome_of x.ending x.state
 
-state_is : (e : Ending) (s : State) → state_of (outcome_of e s) ≡ s
+state_is : (e : RunEnding) (s : State) → state_of (outcome_of e s) ≡ s
 unfolding outcome_of
 state_is Finished s = refl
 state_is (Stops why) s = refl
 
-stops_as : (e : Ending) (s : State) (why : Stop) (t : State) → Stopped why t ≡ outcome_of e s → (e ≡ Stops why) × (t ≡ s)
+stops_as : (e : RunEnding) (s : State) (why : Stop) (t : State) → Stopped why t ≡ outcome_of e s → (e ≡ Stops why) × (t ≡ s)
 unfolding outcome_of
 stops_as Finished s why t h = absurd (cc)
 stops_as (Stops other) s why t h = (let x : other ≡ why = cc in ap (λ w. Stops w) x, cc)
@@ -96,28 +96,28 @@ module _ {bounds : Bounds} where
 
 -- ---- and then, in a run
 
-goes_on_goes : {A : Type 0} (s : State) (o : Outcome A) (f : A → State → Ran) → Goes s (state_of o) → ((a : A) (t : State) → Goes t (f a t).state) → Goes s (goes_on o f).state
+goes_on_goes : {A : Type 0} (s : State) (o : Outcome A) (f : A → State → Ran) → Goes s (state_of o) → ((a : A) (t : State) → Goes t (f a t).state) → Goes s (run_goes_on o f).state
 goes_on_goes s (Done a t) f h k = goes_trans s t (f a t).state h (k a t)
 goes_on_goes s (Failed n m t) f h k = h
 goes_on_goes s (Went l t) f h k = h
 goes_on_goes s (Returned v t) f h k = h
 goes_on_goes s (Stopped why t) f h k = h
 
-goes_on_context : {A : Type 0} (f : A → State → Ran) → ((a : A) (t : State) → Goes t (f a t).state) → Context (λ (o : Outcome A). as_outcome (goes_on o f))
+goes_on_context : {A : Type 0} (f : A → State → Ran) → ((a : A) (t : State) → Goes t (f a t).state) → Context (λ (o : Outcome A). as_outcome (run_goes_on o f))
 unfolding outcome_of
-goes_on_context {A} f h = record { stops = λ why s. refl; goes = λ o. subst (λ u. Goes (state_of o) u) (sym (state_is (goes_on o f).ending (goes_on o f).state)) (goes_on_goes (state_of o) o f (goes_refl (state_of o)) h) }
+goes_on_context {A} f h = record { stops = λ why s. refl; goes = λ o. subst (λ u. Goes (state_of o) u) (sym (state_is (run_goes_on o f).ending (run_goes_on o f).state)) (goes_on_goes (state_of o) o f (goes_refl (state_of o)) h) }
 
 module _ {bounds : Bounds} where
-  goes_on_agrees : {A : Type 0} {R : Names → A → A → Type 0} (n : Names) (ps : List Place) (s t : State) (o p : Outcome A) (f g : A → State → Ran)
+  goes_on_agrees : {A : Type 0} {R : Names → A → A → Type 0} (n : Names) (ps : List EntryPlace) (s t : State) (o p : Outcome A) (f g : A → State → Ran)
       → CleanSides bounds code_and_walk n ps s t → Goes s (state_of o) → Goes t (state_of p) → ((a : A) (t : State) → Goes t (f a t).state) → ((a : A) (t : State) → Goes t (g a t).state) → Related bounds {A = A} (Parted bounds) R n ps o p
-      → ((m : Names) (a b : A) (u v : State) → R m a b → CleanSides bounds code_and_walk m ps u v → RunsAgree bounds (f a u) (g b v)) → RunsAgree bounds (goes_on o f) (goes_on p g)
+      → ((m : Names) (a b : A) (u v : State) → R m a b → CleanSides bounds code_and_walk m ps u v → RunsAgree bounds (f a u) (g b v)) → RunsAgree bounds (run_goes_on o f) (run_goes_on p g)
   goes_on_agrees n ps s t o p f g i d w x y (done m a b u v k r l) h = h m a b u v r (sides_on code_and_walk n m ps s t u v i d w l)
   goes_on_agrees n ps s t o p f g i d w x y (failed m z a b u v k r l) h = alike _ _ refl l.outside l.counts.turns tt
   goes_on_agrees n ps s t o p f g i d w x y (went m z u v k l) h = alike _ _ refl l.outside l.counts.turns tt
   goes_on_agrees n ps s t o p f g i d w x y (returned m a b u v k r l) h = alike _ _ refl l.outside l.counts.turns tt
   goes_on_agrees n ps s t o p f g i d w x y (stopped why u v e) h = alike _ _ refl e.outside e.turns e.may
   goes_on_agrees n ps s t o p f g i d w x y (parted _ _ a) h =
-      ran_agrees (goes_on o f) (goes_on p g) _ _ refl refl (parted_in (λ o. as_outcome (goes_on o f)) (λ o. as_outcome (goes_on o g)) o p (goes_on_context f x) (goes_on_context g y) (w.within i.ready.event) a)
+      ran_agrees (run_goes_on o f) (run_goes_on p g) _ _ refl refl (parted_in (λ o. as_outcome (run_goes_on o f)) (λ o. as_outcome (run_goes_on o g)) o p (goes_on_context f x) (goes_on_context g y) (w.within i.ready.event) a)
 
 -- evaluation respects the relation; and what is taken of one run, and of two
 pub record LoopFacts (bounds : Bounds) : Type 0 where
@@ -133,9 +133,9 @@ module _ {bounds : Bounds} (facts : LoopFacts bounds) where
   evaluate_is : (h : Here) (a : Tree) (s : State) → job the_compiler (In h Inside a) s ≡ evaluate h a s
   evaluate_is h a s = facts.fuel.done (In h Inside a) s
 
-  evaluate_ends : (n : Names) (ps : List Place) (h g : Here) (a b : Tree) (s t : State) → SameHere bounds n h g → SameTree n a b → CleanSides bounds code_and_walk n ps s t → Ends bounds n ps (evaluate h a s) (evaluate g b t)
+  evaluate_ends : (n : Names) (ps : List EntryPlace) (h g : Here) (a b : Tree) (s t : State) → SameHere bounds n h g → SameTree n a b → CleanSides bounds code_and_walk n ps s t → EndsAgree bounds n ps (evaluate h a s) (evaluate g b t)
   evaluate_ends n ps h g a b s t x y i =
-      subst (λ o. Ends bounds n ps o (evaluate g b t)) (evaluate_is h a s) (subst (λ o. Ends bounds n ps (job the_compiler (In h Inside a) s) o) (evaluate_is g b t)
+      subst (λ o. EndsAgree bounds n ps o (evaluate g b t)) (evaluate_is h a s) (subst (λ o. EndsAgree bounds n ps (job the_compiler (In h Inside a) s) o) (evaluate_is g b t)
       (facts.composed n ps (In h Inside a) s (In g Inside b) t (record { same = same_in h g Inside a b x y; like = i.like; places = i.places; asked = tt; ready = i.ready })))
 
   held_goes : (l : Levels) (f : ℕ) (function : Function) (s : State) → GoesOn s (held_evaluated l f function s)
@@ -143,7 +143,7 @@ module _ {bounds : Bounds} (facts : LoopFacts bounds) where
   held_goes l f (SpecialForm form) s = record { goes = goes_refl s }
   held_goes l f (NativeFunction native) s = record { goes = goes_refl s }
 
-  held_ends : (n : Names) (ps : List Place) (l m : Levels) (f g : ℕ) (a b : Function) (s t : State) → Roomier bounds l m → Linked n.functions f g → SameFunction n a b → CleanSides bounds code_and_walk n ps s t → Ends bounds n ps (held_evaluated l f a s) (held_evaluated m g b t)
+  held_ends : (n : Names) (ps : List EntryPlace) (l m : Levels) (f g : ℕ) (a b : Function) (s t : State) → Roomier bounds l m → Linked n.functions f g → SameFunction n a b → CleanSides bounds code_and_walk n ps s t → EndsAgree bounds n ps (held_evaluated l f a s) (held_evaluated m g b t)
   held_ends n ps l m f g _ _ s t r h (same_special form) i = done n _ _ s t (grows_refl n) (same_id _) i.like
   held_ends n ps l m f g _ _ s t r h (same_native native) i = done n _ _ s t (grows_refl n) (same_id _) i.like
   held_ends n ps l m f g _ _ s t r h (same_held_function _ _ (same_held kind parameters kept a b k)) i = evaluate_ends n ps _ _ a b s t (same_here longest_chain kept l m f g r h) k i
@@ -151,7 +151,7 @@ module _ {bounds : Bounds} (facts : LoopFacts bounds) where
   statement_goes : (l : Levels) (v : Value) (s : State) → GoesOn s (statement l v s)
   statement_goes l v s = then_goes s _ _ (facts.one.hold_form_goes l v s) (λ f t. held_goes l f (function_at t (pointer_to f)) t)
 
-  pub statement_ends : (n : Names) (ps : List Place) (l m : Levels) (v w : Value) (s t : State) → Roomier bounds l m → SameValue n v w → CleanSides bounds code_and_walk n ps s t → Ends bounds n ps (statement l v s) (statement m w t)
+  pub statement_ends : (n : Names) (ps : List EntryPlace) (l m : Levels) (v w : Value) (s t : State) → Roomier bounds l m → SameValue n v w → CleanSides bounds code_and_walk n ps s t → EndsAgree bounds n ps (statement l v s) (statement m w t)
   statement_ends n ps l m v w s t r x i =
       then_ends code_and_walk {R = SameNumber} n ps s t _ _ _ _ i (facts.one.hold_form_goes l v s) (facts.one.hold_form_goes m w t) (λ f u. held_goes l f (function_at u (pointer_to f)) u) (λ f u. held_goes m f (function_at u (pointer_to f)) u)
       (quiet_ends n ps s t _ _ i.like (facts.two.hold_form_quiet l v s) (facts.two.hold_form_quiet m w t) (facts.two.hold_form_ n ps l m v w s t r x i.like))
@@ -170,7 +170,7 @@ module _ {bounds : Bounds} (facts : LoopFacts bounds) where
       goes (Returned v s) = goes_refl s
       goes (Stopped why s) = goes_refl s
 
-  pub after_ends : (n : Names) (ps : List Place) (l m : Levels) (s t : State) (o p : Outcome Value) → Roomier bounds l m → CleanSides bounds code_and_walk n ps s t → Goes t (state_of p) → Ends bounds n ps o p → Related bounds {A = Unit {0}} (Parted bounds) Is n ps (after_statement l o) (after_statement m p)
+  pub after_ends : (n : Names) (ps : List EntryPlace) (l m : Levels) (s t : State) (o p : Outcome Value) → Roomier bounds l m → CleanSides bounds code_and_walk n ps s t → Goes t (state_of p) → EndsAgree bounds n ps o p → Related bounds {A = Unit {0}} (Parted bounds) Is n ps (after_statement l o) (after_statement m p)
   after_ends n ps l m s t o p q i w (done k a b u v g r x) = done k tt tt u v g (is tt) x
   after_ends n ps l m s t o p q i w (failed k z a b u v g r x) = further_ends n k ps _ _ g (facts.two.print_error_ k ps l m a b u v q r x)
   after_ends n ps l m s t o p q i w (went k z u v g x) = done k tt tt u v g (is tt) x
@@ -186,20 +186,20 @@ module _ {bounds : Bounds} (facts : LoopFacts bounds) where
   read_goes : (l : Levels) (bytes : List ℕ) (s : State) → Goes s (state_of (read_bytes false l bytes s))
   read_goes l bytes s = let g : GoesOn s (read_bytes false l bytes s) = facts.one.read_goes false l bytes s in g.goes
 
-  reading_goes : (l : Levels) (size : ℕ) (f : List ℕ → State → Ran) → ((bytes : List ℕ) (s : State) → Goes s (f bytes s).state) → (reading : Reading) (s : State) → Goes s (read_and_run l size f reading s).state
+  reading_goes : (l : Levels) (size : ℕ) (f : List ℕ → State → Ran) → ((bytes : List ℕ) (s : State) → Goes s (f bytes s).state) → (reading : FormReading) (s : State) → Goes s (read_and_run l size f reading s).state
   reading_goes l size f h (Form v rest) s = goes_on_goes {A = Unit {0}} s (after_statement l (statement l v s)) (λ x t. f rest t) (after_goes l v s) (λ x t. h rest t)
   reading_goes l size f h End s = goes_refl s
   reading_goes l size f h (Unreadable k from) s = goes_trans s _ _ (facts.one.unreadable_goes (size - length from) s) (h (behind_line from) _)
 
   run_goes : (n : ℕ) (l : Levels) (size : ℕ) (bytes : List ℕ) (s : State) → Goes s (run_within n l size bytes s).state
   run_goes zero l size bytes s = goes_refl s
-  run_goes (suc n) l size bytes s = goes_on_goes {A = Reading} s (read_bytes false l bytes s) (λ reading t. read_and_run l size (λ rest s. run_within n l size rest s) reading t) (read_goes l bytes s) (λ reading t. reading_goes l size (λ rest s. run_within n l size rest s) (λ rest s. run_goes n l size rest s) reading t)
+  run_goes (suc n) l size bytes s = goes_on_goes {A = FormReading} s (read_bytes false l bytes s) (λ reading t. read_and_run l size (λ rest s. run_within n l size rest s) reading t) (read_goes l bytes s) (λ reading t. reading_goes l size (λ rest s. run_within n l size rest s) (λ rest s. run_goes n l size rest s) reading t)
 
-  unreadable_like : (n : Names) (ps : List Place) (k : ℕ) (s t : State) → Like bounds n ps s t → Like bounds n ps (print_unreadable k s) (print_unreadable k t)
+  unreadable_like : (n : Names) (ps : List EntryPlace) (k : ℕ) (s t : State) → Like bounds n ps s t → Like bounds n ps (print_unreadable k s) (print_unreadable k t)
   unreadable_like n ps k s t l =
       mark_like n ps (10 ∷ []) _ _ (atom_like n ps (error_text unreadable) _ _ (mark_like n ps (32 ∷ []) _ _ (atom_like n ps (decimal (min k (2 ^ 59 - 1))) _ _ (mark_like n ps (codes "***** ") _ _ (fresh_like n ps s t l)))))
 
-  reading_agrees : (n : Names) (ps : List Place) (l m : Levels) (size : ℕ) (f g : List ℕ → State → Ran) (x y : Reading) (s t : State) → Roomier bounds l m
+  reading_agrees : (n : Names) (ps : List EntryPlace) (l m : Levels) (size : ℕ) (f g : List ℕ → State → Ran) (x y : FormReading) (s t : State) → Roomier bounds l m
       → ((bytes : List ℕ) (s : State) → Goes s (f bytes s).state) → ((bytes : List ℕ) (s : State) → Goes s (g bytes s).state)
       → ((m : Names) (bytes : List ℕ) (u v : State) → CleanSides bounds code_and_walk m ps u v → RunsAgree bounds (f bytes u) (g bytes v)) → SameReading n x y → CleanSides bounds code_and_walk n ps s t → RunsAgree bounds (read_and_run l size f x s) (read_and_run m size g y t)
   reading_agrees n ps l m size f g _ _ s t r d e h (same_form v w rest x) i =
@@ -208,7 +208,7 @@ module _ {bounds : Bounds} (facts : LoopFacts bounds) where
   reading_agrees n ps l m size f g _ _ s t r d e h same_end i = alike _ _ refl i.like.outside i.like.counts.turns tt
   reading_agrees n ps l m size f g _ _ s t r d e h (same_unreadable k from) i = h n (behind_line from) _ _ (sides_on code_and_walk n n ps s t _ _ i (facts.one.unreadable_goes (size - length from) s) (facts.one.unreadable_goes (size - length from) t) (unreadable_like n ps (size - length from) s t i.like))
 
-  run_agrees : (i : ℕ) (n : Names) (ps : List Place) (l m : Levels) (size : ℕ) (bytes : List ℕ) (s t : State) → Roomier bounds l m → CleanSides bounds code_and_walk n ps s t → RunsAgree bounds (run_within i l size bytes s) (run_within i m size bytes t)
+  run_agrees : (i : ℕ) (n : Names) (ps : List EntryPlace) (l m : Levels) (size : ℕ) (bytes : List ℕ) (s t : State) → Roomier bounds l m → CleanSides bounds code_and_walk n ps s t → RunsAgree bounds (run_within i l size bytes s) (run_within i m size bytes t)
   run_agrees zero n ps l m size bytes s t r i = alike _ _ refl i.like.outside i.like.counts.turns tt
   run_agrees (suc i) n ps l m size bytes s t r x =
       goes_on_agrees {R = SameReading} n ps s t _ _ _ _ x (read_goes l bytes s) (read_goes m bytes t)
@@ -218,10 +218,10 @@ module _ {bounds : Bounds} (facts : LoopFacts bounds) where
       (λ k a b u v z j. reading_agrees k ps l m size (λ rest s. run_within i l size rest s) (λ rest s. run_within i m size rest s) a b u v r (λ rest s. run_goes i l size rest s) (λ rest s. run_goes i m size rest s)
       (λ o rest u v j. run_agrees i o ps l m size rest u v r j) z j)
 
-  pub bytes_agree : (n : Names) (ps : List Place) (l m : Levels) (bytes : List ℕ) (s t : State) → Roomier bounds l m → CleanSides bounds code_and_walk n ps s t → RunsAgree bounds (run_bytes l bytes s) (run_bytes m bytes t)
+  pub bytes_agree : (n : Names) (ps : List EntryPlace) (l m : Levels) (bytes : List ℕ) (s t : State) → Roomier bounds l m → CleanSides bounds code_and_walk n ps s t → RunsAgree bounds (run_bytes l bytes s) (run_bytes m bytes t)
   bytes_agree n ps l m bytes s t r i = run_agrees (suc (length bytes)) n ps l m (length bytes) bytes s t r i
 
-  pub file_agrees : (n : Names) (ps : List Place) (l m : Levels) (name : Name) (file : Option (List ℕ)) (s t : State) → Roomier bounds l m → CleanSides bounds code_and_walk n ps s t → RunsAgree bounds (run_file l name file s) (run_file m name file t)
+  pub file_agrees : (n : Names) (ps : List EntryPlace) (l m : Levels) (name : Name) (file : Option (List ℕ)) (s t : State) → Roomier bounds l m → CleanSides bounds code_and_walk n ps s t → RunsAgree bounds (run_file l name file s) (run_file m name file t)
   file_agrees n ps l m name None s t r i = alike _ _ refl i.like.outside i.like.counts.turns tt
   file_agrees n ps l m name (Some file) s t r i = bytes_agree n ps l m (source_of file) s t r i
 
@@ -255,7 +255,7 @@ same_expansion None = same_none
 same_expansion (Some e) = same_open e
 
 module _ {bounds : Bounds} where
-  pub begins_like : (s : State) (cells : Option ℕ) → IsSound s → IsRoomier s.counts.cells cells → is_some cells ≡ bounds.cells → Like bounds (names_of s) (all_both s.bindings) (running s) (walking cells s)
+  pub begins_like : (s : State) (cells : Option ℕ) → IsSoundState s → IsRoomier s.counts.cells cells → is_some cells ≡ bounds.cells → Like bounds (names_of s) (all_both s.bindings) (with_running_code s) (walking cells s)
   begins_like s cells h r b = record {
     store = record { once = itself_once (length s.store); within = itself_within (length s.store); is = itself_gets _ (length s.store) s.store h.objects };
     functions = record { once = itself_once (length s.functions); within = itself_within (length s.functions); is = itself_gets _ (length s.functions) s.functions h.functions };
@@ -310,7 +310,7 @@ stops_is o why other e h = let x : Stops other ≡ Stops why = sym h ∙ e in cc
 
 module _ {bounds : Bounds} where
   -- a run that lacks room stops short
-  lacking_short : (why : Stop) → IsLacking bounds why → IsShort why
+  lacking_short : (why : Stop) → IsLackingBound bounds why → IsShort why
   lacking_short _ (lacks_cells e) = short_of_cells
   lacking_short _ (lacks_levels e) = short_of_levels
 
@@ -335,19 +335,19 @@ module _ {bounds : Bounds} where
   front_of _ _ (until_either o p why r e i x h k) n b = absurd (cc)
   front_of _ _ (until_both_stop o p why other e x i j h k) n b = absurd (b (record { why = other; is = x; short = meeting_short other j }))
 
-  bound_met : (o p : Ran) (why : Stop) → RunsAgree bounds o p → HasNoEvent p → o.ending ≡ Stops why → IsShort why → IsLacking bounds why ⊎ StopsMeeting bounds p
+  bound_met : (o p : Ran) (why : Stop) → RunsAgree bounds o p → HasNoEvent p → o.ending ≡ Stops why → IsShort why → IsLackingBound bounds why ⊎ StopsMeeting bounds p
   bound_met _ _ why (alike o p e x y may) n w short = let f : p.ending ≡ Stops why = sym e ∙ w in inr (record { why = why; is = f; meets = meeting why short (subst (λ z. MayEnd bounds z) f may) })
   bound_met _ _ why (until_event o p r e h) n w short = absurd (cc)
   bound_met _ _ why (until_right_stop o p other e i h) n w short = inr (record { why = other; is = e; meets = i })
-  bound_met _ _ why (until_left_stop o p other e i h) n w short = inl (subst (λ w. IsLacking bounds w) (stops_is o why other w e) i)
+  bound_met _ _ why (until_left_stop o p other e i h) n w short = inl (subst (λ w. IsLackingBound bounds w) (stops_is o why other w e) i)
   bound_met _ _ why (until_either o p other r e i x h k) n w short = absurd (cc)
   bound_met _ _ why (until_both_stop o p other last e x i j h k) n w short = inr (record { why = last; is = x; meets = j })
 
-printed_begins : (r : Option Recorded) (xs : List ℕ) → Begins (printed_by r xs) xs
+printed_begins : (r : Option Recorded) (xs : List ℕ) → IsBegunBy (printed_at_event r xs) xs
 printed_begins None xs = begins_refl xs
 printed_begins (Some r) xs = take_begins r.printed xs
 
-noted_begins : (r : Option Recorded) (xs : List ℕ) → Begins (noted_by r xs) xs
+noted_begins : (r : Option Recorded) (xs : List ℕ) → IsBegunBy (noted_by r xs) xs
 noted_begins None xs = begins_refl xs
 noted_begins (Some r) xs = take_begins r.noted xs
 
@@ -356,7 +356,7 @@ first_shown : (o p : Ran) → HasShown p.state.outside.output p.state.outside.no
 first_shown o p h = record { output = begins_trans _ _ _ (printed_begins p.state.watched.event p.state.outside.output) h.output; notes = begins_trans _ _ _ (noted_begins p.state.watched.event p.state.outside.notes) h.notes }
 
 shown_at_event : (o p : Ran) (r : Recorded) → p.state.watched.event ≡ Some r → HasShown (take r.printed p.state.outside.output) (take r.noted p.state.outside.notes) o.state.outside → HasShown (printed_first p) (noted_first p) o.state.outside
-shown_at_event o p r e h = subst (λ w. HasShown (printed_by w p.state.outside.output) (noted_by w p.state.outside.notes) o.state.outside) (sym e) h
+shown_at_event o p r e h = subst (λ w. HasShown (printed_at_event w p.state.outside.output) (noted_by w p.state.outside.notes) o.state.outside) (sym e) h
 
 module _ {bounds : Bounds} where
   event_shown : (o p : Ran) → RunsAgree bounds o p → (StopsLacking bounds o → ⊥) → HasShown (printed_first p) (noted_first p) o.state.outside
@@ -368,7 +368,7 @@ module _ {bounds : Bounds} where
   event_shown _ _ (until_both_stop o p why other e x i j h k) a = absurd (a (record { why = why; is = e; lacks = i }))
 
 -- two lists of which one begins with the other, and a front of the first
-front_begins : (x y z : List ℕ) → Begins x y → OneBegins y z → OneBegins x z
+front_begins : (x y z : List ℕ) → IsBegunBy x y → OneBegins y z → OneBegins x z
 front_begins x y z h (inl k) = inl (begins_trans x y z h k)
 front_begins x y z h (inr k) = both_begin x z y h k
 
@@ -380,7 +380,7 @@ module _ {bounds : Bounds} where
   either_shown _ _ (until_left_stop o p why e i h) =
       (both_begin _ _ p.state.outside.output (printed_begins p.state.watched.event p.state.outside.output) h.output, both_begin _ _ p.state.outside.notes (noted_begins p.state.watched.event p.state.outside.notes) h.notes)
   either_shown _ _ (until_either o p why r e i x h k) =
-      (subst (λ w. OneBegins (printed_by w p.state.outside.output) o.state.outside.output) (sym x) h, subst (λ w. OneBegins (noted_by w p.state.outside.notes) o.state.outside.notes) (sym x) k)
+      (subst (λ w. OneBegins (printed_at_event w p.state.outside.output) o.state.outside.output) (sym x) h, subst (λ w. OneBegins (noted_by w p.state.outside.notes) o.state.outside.notes) (sym x) k)
   either_shown _ _ (until_both_stop o p why other e x i j h k) =
       (front_begins _ _ _ (printed_begins p.state.watched.event p.state.outside.output) h, front_begins _ _ _ (noted_begins p.state.watched.event p.state.outside.notes) k)
 
@@ -388,7 +388,7 @@ module _ {bounds : Bounds} where
 
 pub code_agrees : ((bounds : Bounds) → LoopFacts bounds) → CodeAgrees
 code_agrees facts = record {
-  runs = λ s l m cells source sound ready r e. bytes_agree (facts (bounds_of m cells)) (names_of s) (all_both s.bindings) l m source (running s) (walking cells s) (record { is = r; bound = refl }) (record { like = begins_like s cells sound e refl; places = all_both_whole s.bindings; ready = ready_walking s cells ready });
+  runs = λ s l m cells source sound ready r e. bytes_agree (facts (bounds_of m cells)) (names_of s) (all_both s.bindings) l m source (with_running_code s) (walking cells s) (record { is = r; bound = refl }) (record { like = begins_like s cells sound e refl; places = all_both_whole s.bindings; ready = ready_walking s cells ready });
   same = λ bounds. same_run;
   event = λ bounds. event_shown;
   front = λ bounds. front_of;

@@ -8,22 +8,22 @@ use Rattle.rl_meaning.specs.Names.{Special, De, Df, Dm}
 use Rattle.rl_meaning.specs.State.{State, Code, Counts, Expansion, Tree, Kept, Held, Pointer, Definition, Function, Entry, Scope, Local, Fluid}
 use Rattle.rl_meaning.specs.CMacros.{Operand, CMacro, Alloc, Dealloc, Load, Store, SetVar, Move, Copy, Link, LinkE, Self, CallNative, Jump, JumpNil, JumpT, JumpEq, JumpNe, Label, GoTo, Bind, ProgBind, Free, Exit, Raise}
 use Rattle.rl_meaning.specs.CMacros as macros
-use Rattle.rl_meaning.specs.Outcome.{Outcome, Done, Stopped, Stop, Turns, Depth, Expands, then_do, choose, run_turn, expansion_turn, turn_of, turn, Levels, entered, deeper}
-use Rattle.rl_meaning.specs.Symbols.{nil, nil_id, same, is_constant, symbol_at}
+use Rattle.rl_meaning.specs.Outcome.{Outcome, Done, Stopped, Stop, Turns, Depth, Expands, then_do, choose, run_turn, expansion_turn, turn_of, turn, Levels, in_levels, deeper}
+use Rattle.rl_meaning.specs.Symbols.{nil_value_of_state, nil_number, same, is_constant, symbol_at}
 use Rattle.rl_meaning.specs.Errors.{fail, wrong_count, wrong_type, badly_formed, not_bindable, system_name}
-use Rattle.rl_meaning.specs.Holding.{function_id, kept_kind, hold_function, form_at}
+use Rattle.rl_meaning.specs.Holding.{function_number, kept_kind, hold_function, form_at}
 use Rattle.rl_meaning.specs.Copying.{copied}
 use Rattle.rl_meaning.specs.Variables.{assigned, with_binding, with_mark, bound_as, bind, bind_all, binding_levels, with_oldest, restored}
 use Rattle.rl_meaning.specs.Definitions.{own_name}
 use Rattle.rl_meaning.specs.Forms.{fits}
 use Rattle.rl_meaning.specs.Opening.{state_of}
 use Rattle.rl_meaning.specs.Evaluation.{Rec, Onward, Bound, Machine, Frame, called, kind_of_definition, function_defined, define_function}
-use Rattle.rl_meaning.specs.Machine.{as_list, unless, proper_elements, all_registers, register, with_register, nils, registers_of, after_link, arguments, with_slot, allocated, deallocated, content, with_bound, bound, levels_freed, freed, undone, one_more, ended, at_entry, is_function, is_same, behind, behind_entry, part_linked, list_linked, definition_linked, form_linked, function_linked, linked_to, linked, again, run, seek, run_code}
+use Rattle.rl_meaning.specs.Machine.{as_list, unless, proper_elements, all_registers, register, with_register, nils, registers_of, after_link, arguments, with_slot, allocated, deallocated, content, with_bound, bound, levels_freed, freed, undone, one_more, frame_ended, at_entry, is_function_still, is_same, behind, behind_entry, part_linked, list_linked, definition_linked, form_linked, function_linked, linked_to, linked, again, run, seek, run_code}
 use Rattle.rl_meaning.specs.Jobs.{the_compiler}
 use Rattle.rl_meaning.specs.TwoRunsLinks.{OneToOne}
 use Rattle.rl_meaning.specs.TwoRunsValues.{Names, Grows, Maybe, nothing, just, Each, end, more, SameValue, same_int, same_id, same_str, same_ref, same_fun, SameTree, SameHeld, same_held, SameFunction, same_special, same_native, same_held_function, SamePointer, same_pointer, SameNumber, SameDefinition, same_definition, SameOperand, same_slot, same_constant, same_variable, same_register, SameMacro, same_load, same_copy, same_jump_eq, same_jump_ne, same_macro, SameCode, same_atom, same_quoted, same_node, same_literal}
-use Rattle.rl_meaning.specs.TwoRunsStates.{Bounds, Place, Both, BothMark, Hidden, HiddenMark, Aligned, bottom, both, both_mark, hidden, hidden_mark, SameExpansion, same_none, same_open, SameCounts, Like, Roomier}
-use Rattle.rl_meaning.specs.TwoRunsEnds.{HasShown, MayStop, Parted, Related, done, failed, went, returned, stopped, parted, Ends}
+use Rattle.rl_meaning.specs.TwoRunsStates.{Bounds, EntryPlace, Both, BothMark, Hidden, HiddenMark, Aligned, bottom, both, both_mark, hidden, hidden_mark, SameExpansion, same_none, same_open, SameCounts, Like, Roomier}
+use Rattle.rl_meaning.specs.TwoRunsEnds.{HasShown, MayStop, Parted, Related, done, failed, went, returned, stopped, parted, EndsAgree}
 use Rattle.rl_meaning.specs.TwoRunsEnds as ends
 use Rattle.rl_agrees.specs.TwoRunsJobs.{SameBound, same_bound, SameMachine, same_machine, SameFrame, same_frame, same_onward, Ready}
 use Rattle.rl_agrees.proofs.TwoRunsKept.{Goes, IsWhole, EndsSomewhere}
@@ -51,10 +51,10 @@ use Rattle.rl_agrees.proofs.TwoRunsCompared.{whole_shown, code_and_walk, CleanSi
 
 pub record EvaluationRespects (bounds : Bounds) (rec rec' : Rec) : Type 0 where
   -- a function that is called by name
-  pub called_ : (n : Names) (ps : List Place) (i : ℕ) (l m : Levels) (vs ws : List Value) (s t : State) → Roomier bounds l m → Each (SameValue n) vs ws → Like bounds n ps s t → IsWhole ps → Ready the_compiler t → Ends bounds n ps (called rec i l vs s) (called rec' i m ws t)
+  pub called_ : (n : Names) (ps : List EntryPlace) (i : ℕ) (l m : Levels) (vs ws : List Value) (s t : State) → Roomier bounds l m → Each (SameValue n) vs ws → Like bounds n ps s t → IsWhole ps → Ready the_compiler t → EndsAgree bounds n ps (called rec i l vs s) (called rec' i m ws t)
   -- definitions: of a function that was held, and of a list of arguments that is a part of a held form
-  pub function_defined_ : (n : Names) (ps : List Place) (form : Special) (i : ℕ) (s t : State) (o p : Outcome ℕ) → Like bounds n ps s t → IsWhole ps → Ready the_compiler t → GoesOn s o → GoesOn t p → Related bounds (Parted bounds) SameNumber n ps o p → Ends bounds n ps (function_defined rec form i o) (function_defined rec' form i p)
-  pub define_function_ : (n : Names) (ps : List Place) (form : Special) (l m : Levels) (a b : Tree) (s t : State) → Roomier bounds l m → SameTree n a b → Like bounds n ps s t → IsWhole ps → Ready the_compiler t → Ends bounds n ps (define_function rec form l a s) (define_function rec' form m b t)
+  pub function_defined_ : (n : Names) (ps : List EntryPlace) (form : Special) (i : ℕ) (s t : State) (o p : Outcome ℕ) → Like bounds n ps s t → IsWhole ps → Ready the_compiler t → GoesOn s o → GoesOn t p → Related bounds (Parted bounds) SameNumber n ps o p → EndsAgree bounds n ps (function_defined rec form i o) (function_defined rec' form i p)
+  pub define_function_ : (n : Names) (ps : List EntryPlace) (form : Special) (l m : Levels) (a b : Tree) (s t : State) → Roomier bounds l m → SameTree n a b → Like bounds n ps s t → IsWhole ps → Ready the_compiler t → EndsAgree bounds n ps (define_function rec form l a s) (define_function rec' form m b t)
 
 -- ---- lists of arguments
 
@@ -63,7 +63,7 @@ as_list_same : (n : Names) (a b : Tree) → SameTree n a b → SameTree n (as_li
 as_list_same n _ _ (same_atom v w h) = same_atom v w h
 as_list_same n _ _ (same_quoted v w h) = same_quoted v w h
 as_list_same n _ _ (same_node a d b e h k) = same_node a d b e h k
-as_list_same n _ _ (same_literal i a b h) = same_node _ _ _ _ (same_atom _ _ (same_id function_id)) (same_node _ _ _ _ h (same_atom _ _ (same_id nil_id)))
+as_list_same n _ _ (same_literal i a b h) = same_node _ _ _ _ (same_atom _ _ (same_id function_number)) (same_node _ _ _ _ h (same_atom _ _ (same_id nil_number)))
 
 unless_same : (n : Names) (b c : Bool) (o p : Option (List Value)) → b ≡ c → Maybe (Each (SameValue n)) o p → Maybe (Each (SameValue n)) (unless b o) (unless c p)
 unless_same n b c o p e h = subst (λ x. Maybe (Each (SameValue n)) (unless b o) (unless x p)) e (at b)
@@ -73,21 +73,21 @@ unless_same n b c o p e h = subst (λ x. Maybe (Each (SameValue n)) (unless b o)
     at false = h
 
 module _ {bounds : Bounds} where
-  proper_elements_same : (n : Names) (ps : List Place) (s t : State) (v w : Value) → Like bounds n ps s t → SameValue n v w → Maybe (Each (SameValue n)) (proper_elements s v) (proper_elements t w)
+  proper_elements_same : (n : Names) (ps : List EntryPlace) (s t : State) (v w : Value) → Like bounds n ps s t → SameValue n v w → Maybe (Each (SameValue n)) (proper_elements s v) (proper_elements t w)
   proper_elements_same n ps s t v w l h = unless_same n _ _ _ _ (is_improper_same n ps s t v w l h) (list_elements_same n ps s t v w l h)
 
 -- ---- where no binding is lacking: code leaves other bindings, but all of them are there on both sides
 
 -- two states
 record Abreast (bounds : Bounds) (n : Names) (s t : State) : Type 0 where
-  places : List Place
+  places : List EntryPlace
   whole : IsWhole places
   like : Like bounds n places s t
   ready : Ready the_compiler t
 
 -- two ends
 record Somewhere (bounds : Bounds) {A : Type 0} (R : Names → A → A → Type 0) (n : Names) (o p : Outcome A) : Type 0 where
-  places : List Place
+  places : List EntryPlace
   whole : IsWhole places
   ends : Related bounds (Parted bounds) R n places o p
 
@@ -160,17 +160,17 @@ module _ {bounds : Bounds} {A : Type 0} {R : Names → A → A → Type 0} (n : 
   left_stops : (m : Levels) → bounds.levels ≡ false → Somewhere bounds R n (Stopped Depth s) (g m)
   left_stops m b = record { places = x.places; whole = x.whole; ends = parted _ _ (ends.left_short Depth s (g m) (ends.lacks_levels b) (subst (λ y. HasShown y.output y.notes (state_of (g m)).outside) (sym x.like.outside) (later_shows t (g m) (right m).goes.later))) }
 
-  entered_somewhere : (b c : Bool) (l m : ℕ) → (c ≡ true → b ≡ true) → m ≤ l → true ≡ bounds.levels → Somewhere bounds R n (entered b l s f) (entered c m t g)
+  entered_somewhere : (b c : Bool) (l m : ℕ) → (c ≡ true → b ≡ true) → m ≤ l → true ≡ bounds.levels → Somewhere bounds R n (in_levels b l s f) (in_levels c m t g)
   entered_somewhere true true l m e le w = h (Some l) (Some m) (record { is = le; bound = w })
   entered_somewhere false true l m e le w = absurd (let y : false ≡ true = e refl in cc)
   entered_somewhere true false l m e le w = right_stops (Some l) w
   entered_somewhere false false l m e le w = stopped_somewhere n Depth s t (sym w) x
 
-  left_entered : (b : Bool) (l : ℕ) → false ≡ bounds.levels → Somewhere bounds R n (entered b l s f) (g None)
+  left_entered : (b : Bool) (l : ℕ) → false ≡ bounds.levels → Somewhere bounds R n (in_levels b l s f) (g None)
   left_entered true l w = h (Some l) None (record { is = tt; bound = w })
   left_entered false l w = left_stops None (sym w)
 
-  right_entered : (c : Bool) (m : ℕ) → true ≡ bounds.levels → Somewhere bounds R n (f None) (entered c m t g)
+  right_entered : (c : Bool) (m : ℕ) → true ≡ bounds.levels → Somewhere bounds R n (f None) (in_levels c m t g)
   right_entered true m w = h None (Some m) (record { is = tt; bound = w })
   right_entered false m w = right_stops None w
 
@@ -194,14 +194,14 @@ module _ {bounds : Bounds} where
 
 -- ---- entries that are undone
 
-whole_length : (n : Names) (ps : List Place) (xs ys : List Entry) → IsWhole ps → Aligned n ps xs ys → length xs ≡ length ys
+whole_length : (n : Names) (ps : List EntryPlace) (xs ys : List Entry) → IsWhole ps → Aligned n ps xs ys → length xs ≡ length ys
 whole_length n _ _ _ w bottom = refl
 whole_length n _ _ _ w (both x scope v u ps xs ys h k) = ap suc (whole_length n ps xs ys w k)
 whole_length n _ _ _ w (both_mark f g ps xs ys h k) = ap suc (whole_length n ps xs ys w k)
 whole_length n _ _ _ w (hidden x v ps xs ys k) = absurd w
 whole_length n _ _ _ w (hidden_mark g ps xs ys k) = absurd w
 
-whole_dropped : (i : ℕ) (ps : List Place) → IsWhole ps → IsWhole (drop i ps)
+whole_dropped : (i : ℕ) (ps : List EntryPlace) → IsWhole ps → IsWhole (drop i ps)
 whole_dropped zero ps w = w
 whole_dropped (suc i) [] w = tt
 whole_dropped (suc i) (Both ∷ ps) w = whole_dropped i ps w
@@ -209,7 +209,7 @@ whole_dropped (suc i) (BothMark ∷ ps) w = whole_dropped i ps w
 whole_dropped (suc i) (Hidden x v ∷ ps) w = absurd w
 whole_dropped (suc i) (HiddenMark g ∷ ps) w = absurd w
 
-aligned_dropped : (n : Names) (i : ℕ) (ps : List Place) (xs ys : List Entry) → IsWhole ps → Aligned n ps xs ys → Aligned n (drop i ps) (drop i xs) (drop i ys)
+aligned_dropped : (n : Names) (i : ℕ) (ps : List EntryPlace) (xs ys : List Entry) → IsWhole ps → Aligned n ps xs ys → Aligned n (drop i ps) (drop i xs) (drop i ys)
 aligned_dropped n zero ps xs ys w k = k
 aligned_dropped n (suc i) _ _ _ w bottom = bottom
 aligned_dropped n (suc i) _ _ _ w (both x scope v u ps xs ys h k) = aligned_dropped n i ps xs ys w k
@@ -218,10 +218,10 @@ aligned_dropped n (suc i) _ _ _ w (hidden x v ps xs ys k) = absurd w
 aligned_dropped n (suc i) _ _ _ w (hidden_mark g ps xs ys k) = absurd w
 
 module _ {bounds : Bounds} where
-  undone_like : (n : Names) (i : ℕ) (ps : List Place) (s t : State) → IsWhole ps → Like bounds n ps s t → Like bounds n (drop i ps) (undone i s) (undone i t)
+  undone_like : (n : Names) (i : ℕ) (ps : List EntryPlace) (s t : State) → IsWhole ps → Like bounds n ps s t → Like bounds n (drop i ps) (undone i s) (undone i t)
   undone_like n i ps s t w l = bindings_like n ps (drop i ps) s t _ _ l (aligned_dropped n i ps _ _ w l.bindings)
 
-  oldest_like : (n : Names) (i : ℕ) (ps : List Place) (s t : State) → IsWhole ps → Like bounds n ps s t → Like bounds n (drop (length s.bindings - i) ps) (with_oldest i s) (with_oldest i t)
+  oldest_like : (n : Names) (i : ℕ) (ps : List EntryPlace) (s t : State) → IsWhole ps → Like bounds n ps s t → Like bounds n (drop (length s.bindings - i) ps) (with_oldest i s) (with_oldest i t)
   oldest_like n i ps s t w l = subst (λ j. Like bounds n (drop (length s.bindings - i) ps) (with_oldest i s) (undone (j - i) t)) (whole_length n ps _ _ w l.bindings) (undone_like n (length s.bindings - i) ps s t w l)
 
   undone_abreast : (n : Names) (i : ℕ) (s t : State) → Abreast bounds n s t → Abreast bounds n (undone i s) (undone i t)
@@ -292,7 +292,7 @@ each_taken R (suc i) _ _ (more a b xs ys h k) = more a b _ _ h (each_taken R i x
 
 nils_same : (n : Names) (i : ℕ) → Each (SameValue n) (nils i) (nils i)
 nils_same n zero = end
-nils_same n (suc i) = more nil nil _ _ (same_id nil_id) (nils_same n i)
+nils_same n (suc i) = more nil_value_of_state nil_value_of_state _ _ (same_id nil_number) (nils_same n i)
 
 first_registers_same : (n : Names) (vs ws : List Value) → Each (SameValue n) vs ws → Each (SameValue n) (registers_of vs) (registers_of ws)
 first_registers_same n vs ws h = subst (λ i. Each (SameValue n) (registers_of vs) (ws ++ nils (all_registers - i))) (each_length (SameValue n) vs ws h) (each_append (SameValue n) vs ws _ _ h (nils_same n (all_registers - length vs)))
@@ -303,10 +303,10 @@ module _ {bounds : Bounds} where
 
 module _ {bounds : Bounds} (n : Names) (m k : Machine) (h : SameMachine bounds n m k) where
   register_same : (r : ℕ) → SameValue n (register m r) (register k r)
-  register_same r = each_at (SameValue n) m.registers k.registers nil nil (r - 1) (registers_same n m k h) (same_id nil_id)
+  register_same r = each_at (SameValue n) m.registers k.registers nil_value_of_state nil_value_of_state (r - 1) (registers_same n m k h) (same_id nil_number)
 
-  slot_same : (i : ℕ) → SameValue n (slice_index_or m.slots (i - 1) nil) (slice_index_or k.slots (i - 1) nil)
-  slot_same i = each_at (SameValue n) m.slots k.slots nil nil (i - 1) (slots_same n m k h) (same_id nil_id)
+  slot_same : (i : ℕ) → SameValue n (slice_index_or m.slots (i - 1) nil_value_of_state) (slice_index_or k.slots (i - 1) nil_value_of_state)
+  slot_same i = each_at (SameValue n) m.slots k.slots nil_value_of_state nil_value_of_state (i - 1) (slots_same n m k h) (same_id nil_number)
 
   with_registers_same : (rs qs : List Value) → Each (SameValue n) rs qs → SameMachine bounds n (record m { registers = rs }) (record k { registers = qs })
   with_registers_same rs qs e = same_machine rs qs _ _ _ _ _ _ e (slots_same n m k h) (bounds_same n m k h) (levels_same n m k h)
@@ -380,7 +380,7 @@ behind_entry_same n _ _ (more _ _ xs ys e h) = h
 
 -- ---- the name still has the function
 
-function_is : (n : Names) (p q : Option Pointer) (d e : Option Definition) → OneToOne n.functions → Maybe (SamePointer n) p q → Maybe (SameDefinition n) d e → is_function p d ≡ is_function q e
+function_is : (n : Names) (p q : Option Pointer) (d e : Option Definition) → OneToOne n.functions → Maybe (SamePointer n) p q → Maybe (SameDefinition n) d e → is_function_still p d ≡ is_function_still q e
 function_is n _ _ _ _ one nothing h = refl
 function_is n _ _ _ _ one (just _ _ r) nothing = refl
 function_is n _ _ _ _ one (just _ _ (same_pointer f g place h)) (just _ _ (same_definition kind _ _ (same_pointer x y other k))) = ap (λ b. b && place == other) (linked_same n.functions f x g y one h k)
@@ -449,7 +449,7 @@ module _ {bounds : Bounds} (one : OneRunFacts) (two : TwoRunsFacts bounds) (ask 
       then_somewhere n t (bind kept i v s) (bind kept i w t) _ _ x.ready (bind_goes kept i w t) (λ a u. one.bind_all_goes kept xs vs u) (λ a u. one.bind_all_goes kept xs ws u) (bind_somewhere n kept i v w s t r x)
       (λ m a b u y g r x. bind_all_somewhere kept xs m vs ws u y (values_grow n m vs ws e g) x)
   bind_all_somewhere kept (i ∷ xs) n _ _ s t end x =
-      then_somewhere n t (bind kept i nil s) (bind kept i nil t) _ _ x.ready (bind_goes kept i nil t) (λ a u. one.bind_all_goes kept xs [] u) (λ a u. one.bind_all_goes kept xs [] u) (bind_somewhere n kept i nil nil s t (same_id nil_id) x)
+      then_somewhere n t (bind kept i nil_value_of_state s) (bind kept i nil_value_of_state t) _ _ x.ready (bind_goes kept i nil_value_of_state t) (λ a u. one.bind_all_goes kept xs [] u) (λ a u. one.bind_all_goes kept xs [] u) (bind_somewhere n kept i nil_value_of_state nil_value_of_state s t (same_id nil_number) x)
       (λ m a b u y g r x. bind_all_somewhere kept xs m [] [] u y end x)
 
   bound_somewhere : (n : Names) (h k : Held) (xs : List ℕ) (vs ws : List Value) (m p : Machine) (s t : State) (f g : Machine → State → Outcome Value) → SameHeld n h k → Each (SameValue n) vs ws → SameMachine bounds n m p → Abreast bounds n s t
@@ -547,7 +547,7 @@ module _ {bounds : Bounds} (one : OneRunFacts) (two : TwoRunsFacts bounds) (ask 
 
   -- ---- calls in last place: the frame has ended
 
-  ended_abreast : (n : Names) (f g : Frame) (s t : State) → SameFrame bounds n f g → Abreast bounds n s t → Abreast bounds n (ended f s) (ended g t)
+  ended_abreast : (n : Names) (f g : Frame) (s t : State) → SameFrame bounds n f g → Abreast bounds n s t → Abreast bounds n (frame_ended f s) (frame_ended g t)
   ended_abreast n _ _ s t (same_frame name p q h k c d depth l j a b e r) x = oldest_abreast n depth s t x
 
   own_linked : (n : Names) (f g : Frame) (vs ws : List Value) (s t : State) → SameFrame bounds n f g → Each (SameValue n) vs ws → Abreast bounds n s t → Somewhere bounds SameValue n (linked rec f.name f.outside vs s) (linked rec' g.name g.outside ws t)
@@ -656,10 +656,10 @@ module _ {bounds : Bounds} (one : OneRunFacts) (two : TwoRunsFacts bounds) (ask 
   code_somewhere [] = (λ n f g d m k s t h e i x. no_runs n f g d m k s t e x, λ n f g l d m k s t h e i x. no_seeks n f g l d m k s t e x)
     where
       no_runs : (n : Names) (f g : Frame) (d : Code) (m k : Machine) (s t : State) → SameCode n [] d → Abreast bounds n s t → Somewhere bounds SameValue n (run rec f [] m s) (run rec' g d k t)
-      no_runs n f g _ m k s t end x = done_somewhere n nil nil s t (same_id nil_id) x
+      no_runs n f g _ m k s t end x = done_somewhere n nil_value_of_state nil_value_of_state s t (same_id nil_number) x
 
       no_seeks : (n : Names) (f g : Frame) (l : ℕ) (d : Code) (m k : Machine) (s t : State) → SameCode n [] d → Abreast bounds n s t → Somewhere bounds SameValue n (seek rec f l [] m s) (seek rec' g l d k t)
-      no_seeks n f g l _ m k s t end x = done_somewhere n nil nil s t (same_id nil_id) x
+      no_seeks n f g l _ m k s t end x = done_somewhere n nil_value_of_state nil_value_of_state s t (same_id nil_number) x
   code_somewhere (a ∷ rest) = one_more_macro rest (code_somewhere rest)
     where
       one_more_macro : (rest : Code) → Runs rest × Seeks rest → Runs (a ∷ rest) × Seeks (a ∷ rest)
@@ -687,18 +687,18 @@ module _ {bounds : Bounds} (one : OneRunFacts) (two : TwoRunsFacts bounds) (ask 
 
   run_code_somewhere : (n : Names) (l j : Levels) (p q : Option Pointer) (a b : Held) (c d : Code) (vs ws : List Value) (s t : State) → Roomier bounds l j → Maybe (SamePointer n) p q → SameHeld n a b → SameCode n c d → Each (SameValue n) vs ws → Abreast bounds n s t
       → Somewhere bounds SameValue n (run_code rec l p a c vs s) (run_code rec' j q b d ws t)
-  run_code_somewhere n l j p q a b _ _ vs ws s t r h e end v x = done_somewhere n nil nil s t (same_id nil_id) x
+  run_code_somewhere n l j p q a b _ _ vs ws s t r h e end v x = done_somewhere n nil_value_of_state nil_value_of_state s t (same_id nil_number) x
   run_code_somewhere n l j p q a b _ _ vs ws s t r h e (more _ _ rest others (same_macro (macros.Entry i w) y) c) v x = held_by_code n i w l j p q a b rest others vs ws s t r h e c v x
-  run_code_somewhere n l j p q a b _ _ vs ws s t r h e (more _ _ rest others (same_macro z y) c) v x = done_somewhere n nil nil s t (same_id nil_id) x
-  run_code_somewhere n l j p q a b _ _ vs ws s t r h e (more _ _ rest others (same_load i o w y) c) v x = done_somewhere n nil nil s t (same_id nil_id) x
-  run_code_somewhere n l j p q a b _ _ vs ws s t r h e (more _ _ rest others (same_copy i o w y) c) v x = done_somewhere n nil nil s t (same_id nil_id) x
-  run_code_somewhere n l j p q a b _ _ vs ws s t r h e (more _ _ rest others (same_jump_eq i o w y) c) v x = done_somewhere n nil nil s t (same_id nil_id) x
-  run_code_somewhere n l j p q a b _ _ vs ws s t r h e (more _ _ rest others (same_jump_ne i o w y) c) v x = done_somewhere n nil nil s t (same_id nil_id) x
+  run_code_somewhere n l j p q a b _ _ vs ws s t r h e (more _ _ rest others (same_macro z y) c) v x = done_somewhere n nil_value_of_state nil_value_of_state s t (same_id nil_number) x
+  run_code_somewhere n l j p q a b _ _ vs ws s t r h e (more _ _ rest others (same_load i o w y) c) v x = done_somewhere n nil_value_of_state nil_value_of_state s t (same_id nil_number) x
+  run_code_somewhere n l j p q a b _ _ vs ws s t r h e (more _ _ rest others (same_copy i o w y) c) v x = done_somewhere n nil_value_of_state nil_value_of_state s t (same_id nil_number) x
+  run_code_somewhere n l j p q a b _ _ vs ws s t r h e (more _ _ rest others (same_jump_eq i o w y) c) v x = done_somewhere n nil_value_of_state nil_value_of_state s t (same_id nil_number) x
+  run_code_somewhere n l j p q a b _ _ vs ws s t r h e (more _ _ rest others (same_jump_ne i o w y) c) v x = done_somewhere n nil_value_of_state nil_value_of_state s t (same_id nil_number) x
 
 -- ---- evaluation does
 
 module _ {bounds : Bounds} where
-  whole_sides : (n : Names) (ps : List Place) (s t : State) → Like bounds n ps s t → IsWhole ps → Ready the_compiler t → CleanSides bounds code_and_walk n ps s t
+  whole_sides : (n : Names) (ps : List EntryPlace) (s t : State) → Like bounds n ps s t → IsWhole ps → Ready the_compiler t → CleanSides bounds code_and_walk n ps s t
   whole_sides n ps s t like w ready = record { like = like; places = w; ready = ready }
 
   evaluation_respects : (one : OneRunFacts) (two : TwoRunsFacts bounds) (ask ask' : Ask) → AskGoes ask → AskGoes ask' → Respects bounds code_and_walk ask ask' → EvaluationRespects bounds (by the_compiler ask) (by the_compiler ask')
@@ -710,14 +710,14 @@ module _ {bounds : Bounds} where
 
   -- code that goes on, from related frames and machines, ends alike or apart, whatever bindings it leaves
   pub run_respects : (one : OneRunFacts) (two : TwoRunsFacts bounds) (ask ask' : Ask) → AskGoes ask → AskGoes ask' → Respects bounds code_and_walk ask ask'
-      → (n : Names) (ps : List Place) (f g : Frame) (m k : Machine) (c d : Code) (s t : State) → SameFrame bounds n f g → SameMachine bounds n m k → SameCode n c d → Like bounds n ps s t → IsWhole ps → Ready the_compiler t → EndsSomewhere bounds n (run (by the_compiler ask) f c m s) (run (by the_compiler ask') g d k t)
+      → (n : Names) (ps : List EntryPlace) (f g : Frame) (m k : Machine) (c d : Code) (s t : State) → SameFrame bounds n f g → SameMachine bounds n m k → SameCode n c d → Like bounds n ps s t → IsWhole ps → Ready the_compiler t → EndsSomewhere bounds n (run (by the_compiler ask) f c m s) (run (by the_compiler ask') g d k t)
   run_respects one two ask ask' left right respects n ps f g m k c d s t h i e l w ready =
       let r = (code_somewhere one two ask ask' left right respects (evaluation_respects one two ask ask' left right respects) c).0 n f g d m k s t h e i (record { places = ps; whole = w; like = l; ready = ready }) in
       record { places = r.places; whole = r.whole; ends = r.ends }
 
   -- and so does a held function, by its code
   pub code_respects : (one : OneRunFacts) (two : TwoRunsFacts bounds) (ask ask' : Ask) → AskGoes ask → AskGoes ask' → Respects bounds code_and_walk ask ask'
-      → (n : Names) (ps : List Place) (l m : Levels) (p q : Option Pointer) (a b : Held) (c d : Code) (vs ws : List Value) (s t : State)
+      → (n : Names) (ps : List EntryPlace) (l m : Levels) (p q : Option Pointer) (a b : Held) (c d : Code) (vs ws : List Value) (s t : State)
       → Roomier bounds l m → Maybe (SamePointer n) p q → SameHeld n a b → SameCode n c d → Each (SameValue n) vs ws → Like bounds n ps s t → IsWhole ps → Ready the_compiler t
       → EndsSomewhere bounds n (run_code (by the_compiler ask) l p a c vs s) (run_code (by the_compiler ask') m q b d ws t)
   code_respects one two ask ask' left right respects n ps l m p q a b c d vs ws s t r h i e v like w ready =

@@ -6,7 +6,7 @@ use Rattle.rl_meaning.specs.Names.{Native, Tests, Eq, Equal, Part, Cons, Rplaca,
 use Rattle.rl_meaning.specs.Names as names
 use Rattle.rl_meaning.specs.State.{State}
 use Rattle.rl_meaning.specs.Outcome.{Done, Unbuilt, Levels}
-use Rattle.rl_meaning.specs.Symbols.{nil, truth, same}
+use Rattle.rl_meaning.specs.Symbols.{nil_value_of_state, truth, same}
 use Rattle.rl_meaning.specs.Errors.{raise}
 use Rattle.rl_meaning.specs.Numbers.{with_integer}
 use Rattle.rl_meaning.specs.Atoms.{holds}
@@ -14,7 +14,7 @@ use Rattle.rl_meaning.specs.Definitions.{getd, putd, remd, fluid, global, unflui
 use Rattle.rl_meaning.specs.Printing.{terpri, posn, with_line_length, linelength}
 use Rattle.rl_meaning.specs.Natives.{native, argument}
 use Rattle.rl_meaning.specs.TwoRunsValues.{Names, Each, SameValue, same_int, same_id, same_str, same_ref, same_fun}
-use Rattle.rl_meaning.specs.TwoRunsStates.{Bounds, Place, Like, Roomier}
+use Rattle.rl_meaning.specs.TwoRunsStates.{Bounds, EntryPlace, Like, Roomier}
 use Rattle.rl_meaning.specs.TwoRunsEnds.{Parted, Related}
 use Rattle.rl_agrees.proofs.TwoRunsWays.{Beside, then_is, done_now, choose_related, stopped_now}
 use Rattle.rl_agrees.proofs.TwoRunsObjects.{same_same, each_at, made_pair_related, raise_related, fail_related}
@@ -29,40 +29,40 @@ use Rattle.rl_agrees.proofs.TwoRunsReading.{read_related, readch_related}
 -- ---- the natives that define and declare, which are taken as given here
 
 pub record DefinitionsAgree (bounds : Bounds) : Type 0 where
-  pub getd_ : (n : Names) (ps : List Place) (u v : Value) (s t : State) → SameValue n u v → Like bounds n ps s t → Beside bounds SameValue n ps (getd u s) (getd v t)
-  pub putd_ : (n : Names) (ps : List Place) (l m : Levels) (u v x y b c : Value) (s t : State) → Roomier bounds l m → SameValue n u v → SameValue n x y → SameValue n b c → Like bounds n ps s t → Beside bounds SameValue n ps (putd l u x b s) (putd m v y c t)
-  pub remd_ : (n : Names) (ps : List Place) (u v : Value) (s t : State) → SameValue n u v → Like bounds n ps s t → Beside bounds SameValue n ps (remd u s) (remd v t)
-  pub fluid_ : (n : Names) (ps : List Place) (u v : Value) (s t : State) → SameValue n u v → Like bounds n ps s t → Beside bounds SameValue n ps (fluid u s) (fluid v t)
-  pub global_ : (n : Names) (ps : List Place) (u v : Value) (s t : State) → SameValue n u v → Like bounds n ps s t → Beside bounds SameValue n ps (global u s) (global v t)
-  pub unfluid_ : (n : Names) (ps : List Place) (u v : Value) (s t : State) → SameValue n u v → Like bounds n ps s t → Beside bounds SameValue n ps (unfluid u s) (unfluid v t)
-  pub set_ : (n : Names) (ps : List Place) (u v x y : Value) (s t : State) → SameValue n u v → SameValue n x y → Like bounds n ps s t → Related bounds (Parted bounds) SameValue n ps (set u x s) (set v y t)
+  pub getd_ : (n : Names) (ps : List EntryPlace) (u v : Value) (s t : State) → SameValue n u v → Like bounds n ps s t → Beside bounds SameValue n ps (getd u s) (getd v t)
+  pub putd_ : (n : Names) (ps : List EntryPlace) (l m : Levels) (u v x y b c : Value) (s t : State) → Roomier bounds l m → SameValue n u v → SameValue n x y → SameValue n b c → Like bounds n ps s t → Beside bounds SameValue n ps (putd l u x b s) (putd m v y c t)
+  pub remd_ : (n : Names) (ps : List EntryPlace) (u v : Value) (s t : State) → SameValue n u v → Like bounds n ps s t → Beside bounds SameValue n ps (remd u s) (remd v t)
+  pub fluid_ : (n : Names) (ps : List EntryPlace) (u v : Value) (s t : State) → SameValue n u v → Like bounds n ps s t → Beside bounds SameValue n ps (fluid u s) (fluid v t)
+  pub global_ : (n : Names) (ps : List EntryPlace) (u v : Value) (s t : State) → SameValue n u v → Like bounds n ps s t → Beside bounds SameValue n ps (global u s) (global v t)
+  pub unfluid_ : (n : Names) (ps : List EntryPlace) (u v : Value) (s t : State) → SameValue n u v → Like bounds n ps s t → Beside bounds SameValue n ps (unfluid u s) (unfluid v t)
+  pub set_ : (n : Names) (ps : List EntryPlace) (u v x y : Value) (s t : State) → SameValue n u v → SameValue n x y → Like bounds n ps s t → Related bounds (Parted bounds) SameValue n ps (set u x s) (set v y t)
 
 -- ---- lines
 
 module _ {bounds : Bounds} where
-  pub terpri_related : (n : Names) (ps : List Place) (s t : State) → Like bounds n ps s t → Beside bounds SameValue n ps (terpri s) (terpri t)
-  terpri_related n ps s t l = done_now n ps nil nil _ _ (same_id 0) (mark_like n ps (10 ∷ []) s t l)
+  pub terpri_related : (n : Names) (ps : List EntryPlace) (s t : State) → Like bounds n ps s t → Beside bounds SameValue n ps (terpri s) (terpri t)
+  terpri_related n ps s t l = done_now n ps nil_value_of_state nil_value_of_state _ _ (same_id 0) (mark_like n ps (10 ∷ []) s t l)
 
 number_same : (n : Names) (i j : ℕ) → i ≡ j → SameValue n (Int (pos i)) (Int (pos j))
 number_same n i j e = subst (λ k. SameValue n (Int (pos i)) (Int (pos k))) e (same_int (pos i))
 
 module _ {bounds : Bounds} where
-  pub posn_related : (n : Names) (ps : List Place) (s t : State) → Like bounds n ps s t → Beside bounds SameValue n ps (posn s) (posn t)
+  pub posn_related : (n : Names) (ps : List EntryPlace) (s t : State) → Like bounds n ps s t → Beside bounds SameValue n ps (posn s) (posn t)
   posn_related n ps s t l = done_now n ps _ _ s t (number_same n s.outside.column t.outside.column (λ k. (l.outside k).column)) l
 
-  length_same : (n : Names) (ps : List Place) (s t : State) → Like bounds n ps s t → SameValue n (Int (pos s.outside.line_length)) (Int (pos t.outside.line_length))
+  length_same : (n : Names) (ps : List EntryPlace) (s t : State) → Like bounds n ps s t → SameValue n (Int (pos s.outside.line_length)) (Int (pos t.outside.line_length))
   length_same n ps s t l = number_same n s.outside.line_length t.outside.line_length (λ k. (l.outside k).line_length)
 
-  length_like : (n : Names) (ps : List Place) (i : ℕ) (s t : State) → Like bounds n ps s t → Like bounds n ps (record s { outside = record s.outside { line_length = i } }) (record t { outside = record t.outside { line_length = i } })
+  length_like : (n : Names) (ps : List EntryPlace) (i : ℕ) (s t : State) → Like bounds n ps s t → Like bounds n ps (record s { outside = record s.outside { line_length = i } }) (record t { outside = record t.outside { line_length = i } })
   length_like n ps i s t l = record { store = l.store; functions = l.functions; symbols = l.symbols; bindings = l.bindings; counts = l.counts; outside = λ k. record (l.outside k) { line_length = i }; gensyms = l.gensyms; compilation = l.compilation }
 
-  set_length_related : (n : Names) (ps : List Place) (i : ℕ) (s t : State) → Like bounds n ps s t → Beside bounds SameValue n ps (with_line_length i s) (with_line_length i t)
+  set_length_related : (n : Names) (ps : List EntryPlace) (i : ℕ) (s t : State) → Like bounds n ps s t → Beside bounds SameValue n ps (with_line_length i s) (with_line_length i t)
   set_length_related n ps i s t l = done_now n ps _ _ _ _ (length_same n ps s t l) (length_like n ps i s t l)
 
-  told_related : (n : Names) (ps : List Place) (s t : State) → Like bounds n ps s t → Beside bounds SameValue n ps (Done (Int (pos s.outside.line_length)) s) (Done (Int (pos t.outside.line_length)) t)
+  told_related : (n : Names) (ps : List EntryPlace) (s t : State) → Like bounds n ps s t → Beside bounds SameValue n ps (Done (Int (pos s.outside.line_length)) s) (Done (Int (pos t.outside.line_length)) t)
   told_related n ps s t l = done_now n ps _ _ s t (length_same n ps s t l) l
 
-  pub linelength_related : (n : Names) (ps : List Place) (v w : Value) (s t : State) → SameValue n v w → Like bounds n ps s t → Beside bounds SameValue n ps (linelength v s) (linelength w t)
+  pub linelength_related : (n : Names) (ps : List EntryPlace) (v w : Value) (s t : State) → SameValue n v w → Like bounds n ps s t → Beside bounds SameValue n ps (linelength v s) (linelength w t)
   linelength_related n ps _ _ s t (same_int (pos (suc i))) l = search (choose_related, set_length_related, fail_related, same_int)
   linelength_related n ps _ _ s t (same_int (pos zero)) l = search (fail_related, same_int)
   linelength_related n ps _ _ s t (same_int (negsuc i)) l = search (fail_related, same_int)
@@ -74,16 +74,16 @@ module _ {bounds : Bounds} where
 -- ---- all natives
 
 pub argument_same : (n : Names) (xs ys : List Value) (i : ℕ) → Each (SameValue n) xs ys → SameValue n (argument xs i) (argument ys i)
-argument_same n xs ys i h = each_at (SameValue n) xs ys nil nil i h (same_id 0)
+argument_same n xs ys i h = each_at (SameValue n) xs ys nil_value_of_state nil_value_of_state i h (same_id 0)
 
 module _ {bounds : Bounds} where
-  tested_related : (n : Names) (ps : List Place) (test : names.Test) (v w : Value) (s t : State) → SameValue n v w → Like bounds n ps s t → Beside bounds SameValue n ps (Done (truth (holds test s v)) s) (Done (truth (holds test t w)) t)
+  tested_related : (n : Names) (ps : List EntryPlace) (test : names.Test) (v w : Value) (s t : State) → SameValue n v w → Like bounds n ps s t → Beside bounds SameValue n ps (Done (truth (holds test s v)) s) (Done (truth (holds test t w)) t)
   tested_related n ps test v w s t h l = subst (λ b. Beside bounds SameValue n ps (Done (truth (holds test s v)) s) (Done (truth b) t)) (holds_same n ps s t test v w l h) (done_now n ps _ _ s t (truth_same n (holds test s v)) l)
 
-  eq_related : (n : Names) (ps : List Place) (u v x y : Value) (s t : State) → SameValue n u v → SameValue n x y → Like bounds n ps s t → Beside bounds SameValue n ps (Done (truth (same u x)) s) (Done (truth (same v y)) t)
+  eq_related : (n : Names) (ps : List EntryPlace) (u v x y : Value) (s t : State) → SameValue n u v → SameValue n x y → Like bounds n ps s t → Beside bounds SameValue n ps (Done (truth (same u x)) s) (Done (truth (same v y)) t)
   eq_related n ps u v x y s t h k l = subst (λ b. Beside bounds SameValue n ps (Done (truth (same u x)) s) (Done (truth b) t)) (same_same n u v x y l.store.once l.functions.once h k) (done_now n ps _ _ s t (truth_same n (same u x)) l)
 
-  error_related : (n : Names) (ps : List Place) (u v x y : Value) (s t : State) → SameValue n u v → SameValue n x y → Like bounds n ps s t → Beside bounds SameValue n ps (with_integer u s (λ z s. raise z x s)) (with_integer v t (λ z s. raise z y s))
+  error_related : (n : Names) (ps : List EntryPlace) (u v x y : Value) (s t : State) → SameValue n u v → SameValue n x y → Like bounds n ps s t → Beside bounds SameValue n ps (with_integer u s (λ z s. raise z x s)) (with_integer v t (λ z s. raise z y s))
   error_related n ps u v x y s t h k l = with_integer_related n ps u v s t _ _ h l (λ z. raise_related n ps z x y s t l k)
 
 -- natives that may stop in the middle of what they print
@@ -99,7 +99,7 @@ sets Set = true
 sets other = false
 
 module _ {bounds : Bounds} (d : DefinitionsAgree bounds) where
-  pub native_related : (n : Names) (ps : List Place) (o : Native) (l m : Levels) (xs ys : List Value) (s t : State) → prints o ≡ false → sets o ≡ false → Roomier bounds l m → Each (SameValue n) xs ys → Like bounds n ps s t → Beside bounds SameValue n ps (native o l xs s) (native o m ys t)
+  pub native_related : (n : Names) (ps : List EntryPlace) (o : Native) (l m : Levels) (xs ys : List Value) (s t : State) → prints o ≡ false → sets o ≡ false → Roomier bounds l m → Each (SameValue n) xs ys → Like bounds n ps s t → Beside bounds SameValue n ps (native o l xs s) (native o m ys t)
   native_related n ps (Tests test) l m xs ys s t p q r h e = tested_related n ps test _ _ s t (argument_same n xs ys 0 h) e
   native_related n ps Eq l m xs ys s t p q r h e = eq_related n ps _ _ _ _ s t (argument_same n xs ys 0 h) (argument_same n xs ys 1 h) e
   native_related n ps Equal l m xs ys s t p q r h e = then_is n ps _ _ _ _ (equal_related n ps l m _ _ _ _ s t r (argument_same n xs ys 0 h) (argument_same n xs ys 1 h) e) (λ k b s t g e. done_now k ps _ _ s t (truth_same k b) e)
@@ -147,12 +147,12 @@ module _ {bounds : Bounds} (d : DefinitionsAgree bounds) where
   native_related n ps Print l m xs ys s t p q r h e = absurd (cc)
   native_related n ps other l m xs ys s t p q r h e = stopped_now n ps Unbuilt s t tt e
 
-  pub set_related : (n : Names) (ps : List Place) (l m : Levels) (xs ys : List Value) (s t : State) → Each (SameValue n) xs ys → Like bounds n ps s t → Related bounds (Parted bounds) SameValue n ps (native Set l xs s) (native Set m ys t)
+  pub set_related : (n : Names) (ps : List EntryPlace) (l m : Levels) (xs ys : List Value) (s t : State) → Each (SameValue n) xs ys → Like bounds n ps s t → Related bounds (Parted bounds) SameValue n ps (native Set l xs s) (native Set m ys t)
   set_related n ps l m xs ys s t h e = d.set_ n ps _ _ _ _ s t (argument_same n xs ys 0 h) (argument_same n xs ys 1 h) e
 
 module _ {bounds : Bounds} where
   -- what prints
-  pub printer_related : (n : Names) (ps : List Place) (o : Native) (l m : Levels) (xs ys : List Value) (s t : State) → prints o ≡ true → Roomier bounds l m → Each (SameValue n) xs ys → Like bounds n ps s t → Related bounds (Parted bounds) SameValue n ps (native o l xs s) (native o m ys t)
+  pub printer_related : (n : Names) (ps : List EntryPlace) (o : Native) (l m : Levels) (xs ys : List Value) (s t : State) → prints o ≡ true → Roomier bounds l m → Each (SameValue n) xs ys → Like bounds n ps s t → Related bounds (Parted bounds) SameValue n ps (native o l xs s) (native o m ys t)
   printer_related n ps Prin1 l m xs ys s t p r h e = printing_related atoms.Prin1 n ps l m _ _ s t r (argument_same n xs ys 0 h) e
   printer_related n ps Prin2 l m xs ys s t p r h e = printing_related atoms.Prin2 n ps l m _ _ s t r (argument_same n xs ys 0 h) e
   printer_related n ps Print l m xs ys s t p r h e = print_related n ps l m _ _ s t r (argument_same n xs ys 0 h) e

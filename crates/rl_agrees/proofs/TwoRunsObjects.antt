@@ -8,13 +8,13 @@ use Rattle.rl_tree.specs.Value.{Value, Id, Ref, Object, Store}
 use Rattle.rl_tree.specs.Name.{Name}
 use Rattle.rl_meaning.specs.State.{State, Symbol, Function}
 use Rattle.rl_meaning.specs.Outcome.{Done, made_pair, made_string, made_vector, made_symbol}
-use Rattle.rl_meaning.specs.Symbols.{nil, nil_id, message_id, is_nil, same, parts_of, places_of, pair_at, vector_at, symbol_at, with_symbol, with_top, new_symbol, interned_at, named_from, interned}
+use Rattle.rl_meaning.specs.Symbols.{nil_value_of_state, nil_number, message_id, is_nil, same, parts_of, places_of, pair_at, vector_at, symbol_at, with_symbol, with_top, new_symbol, interned_at, named_from, interned}
 use Rattle.rl_meaning.specs.Errors.{raise, fail}
 use Rattle.rl_meaning.specs.Copying.{with_object}
 use Rattle.rl_meaning.specs.TwoRunsLinks.{Links, link, Linked, newest, older, OneToOne}
 use Rattle.rl_agrees.proofs.TwoRunsLinked.{linked_cases, one_more, within_more, get_left, get_last, get_set_same, get_set_other, length_set}
 use Rattle.rl_meaning.specs.TwoRunsValues.{Names, Grows, Maybe, nothing, just, Each, end, more, SameValue, same_int, same_id, same_str, same_ref, same_fun, SameParts, same_parts, SameObject, same_pair, same_vector, SameFunction, SameSymbol, same_symbol}
-use Rattle.rl_meaning.specs.TwoRunsStates.{Bounds, SameStore, SameFunctions, Place, Like}
+use Rattle.rl_meaning.specs.TwoRunsStates.{Bounds, SameStore, SameFunctions, EntryPlace, Like}
 use Rattle.rl_meaning.specs.TwoRunsEnds.{done, failed}
 use Rattle.rl_agrees.proofs.TwoRunsGrowth.{grows_refl, maybe_grows, each_grows, value_grows, object_grows, function_grows, symbol_grows, aligned_grows, compilation_grows}
 use Rattle.rl_agrees.proofs.TwoRunsWays.{Beside, then_related, done_now, room_related}
@@ -32,14 +32,14 @@ places_same n o p (just _ _ (same_pair a d b e h k)) = nothing
 places_same n o p (just _ _ (same_vector xs ys h)) = just _ _ h
 
 module _ {bounds : Bounds} where
-  pub pair_same : (n : Names) (ps : List Place) (s t : State) (v w : Value) → Like bounds n ps s t → SameValue n v w → Maybe (SameParts n) (pair_at s v) (pair_at t w)
+  pub pair_same : (n : Names) (ps : List EntryPlace) (s t : State) (v w : Value) → Like bounds n ps s t → SameValue n v w → Maybe (SameParts n) (pair_at s v) (pair_at t w)
   pair_same n ps s t v w l (same_ref r q h) = parts_same n _ _ (l.store.is r q h)
   pair_same n ps s t v w l (same_int z) = nothing
   pair_same n ps s t v w l (same_id i) = nothing
   pair_same n ps s t v w l (same_str bytes) = nothing
   pair_same n ps s t v w l (same_fun f g place h) = nothing
 
-  pub vector_same : (n : Names) (ps : List Place) (s t : State) (v w : Value) → Like bounds n ps s t → SameValue n v w → Maybe (Each (SameValue n)) (vector_at s v) (vector_at t w)
+  pub vector_same : (n : Names) (ps : List EntryPlace) (s t : State) (v w : Value) → Like bounds n ps s t → SameValue n v w → Maybe (Each (SameValue n)) (vector_at s v) (vector_at t w)
   vector_same n ps s t v w l (same_ref r q h) = places_same n _ _ (l.store.is r q h)
   vector_same n ps s t v w l (same_int z) = nothing
   vector_same n ps s t v w l (same_id i) = nothing
@@ -148,7 +148,7 @@ functions_links n ls s t g h = record {
 }
 
 module _ {bounds : Bounds} where
-  pub new_like : (n : Names) (ps : List Place) (s t : State) (o p : Object) → Like bounds n ps s t → SameObject n o p → Like bounds (with_link (length s.store) (length t.store) n) ps (record s { store = s.store ++ o ∷ [] }) (record t { store = t.store ++ p ∷ [] })
+  pub new_like : (n : Names) (ps : List EntryPlace) (s t : State) (o p : Object) → Like bounds n ps s t → SameObject n o p → Like bounds (with_link (length s.store) (length t.store) n) ps (record s { store = s.store ++ o ∷ [] }) (record t { store = t.store ++ p ∷ [] })
   new_like n ps s t o p l k =
       let m : Names = with_link (length s.store) (length t.store) n in
       let g : Grows n m = link_grows (length s.store) (length t.store) n in
@@ -163,17 +163,17 @@ module _ {bounds : Bounds} where
         compilation = compilation_grows n m s.compilation t.compilation l.compilation g;
       }
 
-  new_related : (n : Names) (ps : List Place) (s t : State) (o p : Object) → Like bounds n ps s t → SameObject n o p → Beside bounds SameValue n ps (Done (Ref (length s.store)) (record s { store = s.store ++ o ∷ [] })) (Done (Ref (length t.store)) (record t { store = t.store ++ p ∷ [] }))
+  new_related : (n : Names) (ps : List EntryPlace) (s t : State) (o p : Object) → Like bounds n ps s t → SameObject n o p → Beside bounds SameValue n ps (Done (Ref (length s.store)) (record s { store = s.store ++ o ∷ [] })) (Done (Ref (length t.store)) (record t { store = t.store ++ p ∷ [] }))
   new_related n ps s t o p l k =
       done (with_link (length s.store) (length t.store) n) _ _ _ _ (link_grows (length s.store) (length t.store) n) (same_ref _ _ (newest (length s.store) (length t.store) n.objects)) (new_like n ps s t o p l k)
 
-  pub made_pair_related : (n : Names) (ps : List Place) (a b d e : Value) (s t : State) → Like bounds n ps s t → SameValue n a b → SameValue n d e → Beside bounds SameValue n ps (made_pair a d s) (made_pair b e t)
+  pub made_pair_related : (n : Names) (ps : List EntryPlace) (a b d e : Value) (s t : State) → Like bounds n ps s t → SameValue n a b → SameValue n d e → Beside bounds SameValue n ps (made_pair a d s) (made_pair b e t)
   made_pair_related n ps a b d e s t l h k = room_related n ps 1 s t _ _ l (λ s t l. new_related n ps s t _ _ l (same_pair a d b e h k))
 
-  pub made_string_related : (n : Names) (ps : List Place) (bytes : List ℕ) (s t : State) → Like bounds n ps s t → Beside bounds SameValue n ps (made_string bytes s) (made_string bytes t)
+  pub made_string_related : (n : Names) (ps : List EntryPlace) (bytes : List ℕ) (s t : State) → Like bounds n ps s t → Beside bounds SameValue n ps (made_string bytes s) (made_string bytes t)
   made_string_related n ps bytes s t l = room_related n ps _ s t _ _ l (λ s t l. done_now n ps _ _ s t (same_str bytes) l)
 
-  pub made_vector_related : (n : Names) (ps : List Place) (xs ys : List Value) (s t : State) → Like bounds n ps s t → Each (SameValue n) xs ys → Beside bounds SameValue n ps (made_vector xs s) (made_vector ys t)
+  pub made_vector_related : (n : Names) (ps : List EntryPlace) (xs ys : List Value) (s t : State) → Like bounds n ps s t → Each (SameValue n) xs ys → Beside bounds SameValue n ps (made_vector xs s) (made_vector ys t)
   made_vector_related n ps xs ys s t l h = rw (← each_length (SameValue n) xs ys h) (room_related n ps _ s t _ _ l (λ s t l. new_related n ps s t _ _ l (same_vector xs ys h)))
 
 -- ---- changing
@@ -193,10 +193,10 @@ set_store n s t r q o p h l k = record {
         rw (get_set_other s r i o e, get_set_other t q j p (λ f. e (h.once.left i r q (subst (λ y. Linked n.objects i y) f x) l))) (h.is i j x)
 
 module _ {bounds : Bounds} where
-  pub set_like : (n : Names) (ps : List Place) (s t : State) (x y : Store) → Like bounds n ps s t → SameStore n x y → Like bounds n ps (record s { store = x }) (record t { store = y })
+  pub set_like : (n : Names) (ps : List EntryPlace) (s t : State) (x y : Store) → Like bounds n ps s t → SameStore n x y → Like bounds n ps (record s { store = x }) (record t { store = y })
   set_like n ps s t x y l h = record { store = h; functions = l.functions; symbols = l.symbols; bindings = l.bindings; counts = l.counts; outside = l.outside; gensyms = l.gensyms; compilation = l.compilation }
 
-  pub with_object_like : (n : Names) (ps : List Place) (v w : Value) (o p : Object) (s t : State) → Like bounds n ps s t → SameValue n v w → SameObject n o p → Like bounds n ps (with_object v o s) (with_object w p t)
+  pub with_object_like : (n : Names) (ps : List EntryPlace) (v w : Value) (o p : Object) (s t : State) → Like bounds n ps s t → SameValue n v w → SameObject n o p → Like bounds n ps (with_object v o s) (with_object w p t)
   with_object_like n ps v w o p s t l (same_ref r q h) k = set_like n ps s t _ _ l (set_store n s.store t.store r q o p l.store h k)
   with_object_like n ps v w o p s t l (same_int z) k = l
   with_object_like n ps v w o p s t l (same_id i) k = l
@@ -206,26 +206,26 @@ module _ {bounds : Bounds} where
 -- ---- identifiers
 
 pub new_symbol_same : (n : Names) (name : Name) (b : Bool) → SameSymbol n (new_symbol name b) (new_symbol name b)
-new_symbol_same n name b = same_symbol name b _ _ _ _ _ _ _ _ nothing (same_id nil_id) nothing
+new_symbol_same n name b = same_symbol name b _ _ _ _ _ _ _ _ nothing (same_id nil_number) nothing
 
 module _ {bounds : Bounds} where
-  pub symbol_same : (n : Names) (ps : List Place) (s t : State) (i : ℕ) → Like bounds n ps s t → SameSymbol n (symbol_at s i) (symbol_at t i)
+  pub symbol_same : (n : Names) (ps : List EntryPlace) (s t : State) (i : ℕ) → Like bounds n ps s t → SameSymbol n (symbol_at s i) (symbol_at t i)
   symbol_same n ps s t i l = each_at (SameSymbol n) s.symbols t.symbols _ _ i l.symbols (new_symbol_same n [] false)
 
-  pub symbols_like : (n : Names) (ps : List Place) (s t : State) (xs ys : List Symbol) → Like bounds n ps s t → Each (SameSymbol n) xs ys → Like bounds n ps (record s { symbols = xs }) (record t { symbols = ys })
+  pub symbols_like : (n : Names) (ps : List EntryPlace) (s t : State) (xs ys : List Symbol) → Like bounds n ps s t → Each (SameSymbol n) xs ys → Like bounds n ps (record s { symbols = xs }) (record t { symbols = ys })
   symbols_like n ps s t xs ys l h = record { store = l.store; functions = l.functions; symbols = h; bindings = l.bindings; counts = l.counts; outside = l.outside; gensyms = l.gensyms; compilation = l.compilation }
 
-  pub with_symbol_like : (n : Names) (ps : List Place) (i : ℕ) (x y : Symbol) (s t : State) → Like bounds n ps s t → SameSymbol n x y → Like bounds n ps (with_symbol i x s) (with_symbol i y t)
+  pub with_symbol_like : (n : Names) (ps : List EntryPlace) (i : ℕ) (x y : Symbol) (s t : State) → Like bounds n ps s t → SameSymbol n x y → Like bounds n ps (with_symbol i x s) (with_symbol i y t)
   with_symbol_like n ps i x y s t l h = symbols_like n ps s t _ _ l (each_set (SameSymbol n) s.symbols t.symbols i x y l.symbols h)
 
 top_same : (n : Names) (x y : Symbol) (v w : Value) → SameSymbol n x y → SameValue n v w → SameSymbol n (record x { top = Some v }) (record y { top = Some w })
 top_same n x y v w (same_symbol name interned system kind a b p q d e h k l) r = same_symbol name interned system kind _ _ p q d e (just v w r) k l
 
 module _ {bounds : Bounds} where
-  pub with_top_like : (n : Names) (ps : List Place) (i : ℕ) (v w : Value) (s t : State) → Like bounds n ps s t → SameValue n v w → Like bounds n ps (with_top i v s) (with_top i w t)
+  pub with_top_like : (n : Names) (ps : List EntryPlace) (i : ℕ) (v w : Value) (s t : State) → Like bounds n ps s t → SameValue n v w → Like bounds n ps (with_top i v s) (with_top i w t)
   with_top_like n ps i v w s t l h = with_symbol_like n ps i _ _ s t l (top_same n _ _ v w (symbol_same n ps s t i l) h)
 
-  pub made_symbol_related : (n : Names) (ps : List Place) (name : Name) (b : Bool) (s t : State) → Like bounds n ps s t → Beside bounds SameValue n ps (made_symbol (new_symbol name b) s) (made_symbol (new_symbol name b) t)
+  pub made_symbol_related : (n : Names) (ps : List EntryPlace) (name : Name) (b : Bool) (s t : State) → Like bounds n ps s t → Beside bounds SameValue n ps (made_symbol (new_symbol name b) s) (made_symbol (new_symbol name b) t)
   made_symbol_related n ps name b s t l = room_related n ps _ s t _ _ l (λ s t l. made s t l)
     where
       made : (s t : State) → Like bounds n ps s t → Beside bounds SameValue n ps (Done (Id (length s.symbols)) (record s { symbols = s.symbols ++ new_symbol name b ∷ [] })) (Done (Id (length t.symbols)) (record t { symbols = t.symbols ++ new_symbol name b ∷ [] }))
@@ -237,20 +237,20 @@ named_same n i name xs ys end = refl
 named_same n i name xs ys (more _ _ as' bs (same_symbol x interned system kind a b p q d e h k l) r) = ap (λ o. if interned && bytes_eq x name then Some i else o) (named_same n (suc i) name as' bs r)
 
 module _ {bounds : Bounds} where
-  interned_at_related : (n : Names) (ps : List Place) (o : Option ℕ) (name : Name) (s t : State) → Like bounds n ps s t → Beside bounds SameValue n ps (interned_at o name s) (interned_at o name t)
+  interned_at_related : (n : Names) (ps : List EntryPlace) (o : Option ℕ) (name : Name) (s t : State) → Like bounds n ps s t → Beside bounds SameValue n ps (interned_at o name s) (interned_at o name t)
   interned_at_related n ps (Some i) name s t l = done_now n ps _ _ s t (same_id i) l
   interned_at_related n ps None name s t l = made_symbol_related n ps name true s t l
 
-  pub interned_related : (n : Names) (ps : List Place) (name : Name) (s t : State) → Like bounds n ps s t → Beside bounds SameValue n ps (interned name s) (interned name t)
+  pub interned_related : (n : Names) (ps : List EntryPlace) (name : Name) (s t : State) → Like bounds n ps s t → Beside bounds SameValue n ps (interned name s) (interned name t)
   interned_related n ps name s t l = rw (← named_same n 0 name s.symbols t.symbols l.symbols) (interned_at_related n ps _ name s t l)
 
   -- ---- errors
 
-  pub raise_related : {A : Type 0} {R : Names → A → A → Type 0} (n : Names) (ps : List Place) (z : ℤ) (v w : Value) (s t : State) → Like bounds n ps s t → SameValue n v w → Beside bounds {A = A} R n ps (raise z v s) (raise z w t)
+  pub raise_related : {A : Type 0} {R : Names → A → A → Type 0} (n : Names) (ps : List EntryPlace) (z : ℤ) (v w : Value) (s t : State) → Like bounds n ps s t → SameValue n v w → Beside bounds {A = A} R n ps (raise z v s) (raise z w t)
   raise_related n ps z v w s t l h = failed n z v w _ _ (grows_refl n) h (with_top_like n ps message_id v w s t l h)
 
-  pub fail_related : {A : Type 0} {R : Names → A → A → Type 0} (n : Names) (ps : List Place) (i : ℕ) (v w : Value) (s t : State) → Like bounds n ps s t → SameValue n v w → Beside bounds {A = A} R n ps (fail i v s) (fail i w t)
+  pub fail_related : {A : Type 0} {R : Names → A → A → Type 0} (n : Names) (ps : List EntryPlace) (i : ℕ) (v w : Value) (s t : State) → Like bounds n ps s t → SameValue n v w → Beside bounds {A = A} R n ps (fail i v s) (fail i w t)
   fail_related n ps i v w s t l h =
-      then_related n ps _ _ _ _ (made_pair_related n ps _ _ nil nil s t l (same_str _) (same_id nil_id)) (λ m a b s t g r l.
+      then_related n ps _ _ _ _ (made_pair_related n ps _ _ nil_value_of_state nil_value_of_state s t l (same_str _) (same_id nil_number)) (λ m a b s t g r l.
       then_related m ps _ _ _ _ (made_pair_related m ps v w a b s t l (value_grows n m v w h g) r) (λ k a b s t g r l.
       raise_related k ps (pos i) a b s t l r))

@@ -4,15 +4,15 @@ use Rattle.std.specs.Prelude.{codes, nat_lt}
 use Rattle.std.proofs.lemmas.List.{append-nil}
 use Rattle.rl_tree.specs.Value.{Value, Int, Id, Str, Ref, Fun, Object}
 use Rattle.rl_tree.specs.Atoms.{Style, Prin1, Prin2, atom_text}
-use Rattle.rl_tree.specs.Printing.{Page, Setting, Progress, Ending, Whole, NoTurn, TooDeep, with_text, with_atom, marked, with_atom_of, goes_on, and_then, with_turn_of, with_turn, with_level, Job, Element, Listed, Printer, places_printed, vector_printed, object_printed, value_printed, dotted_atom, rest_object, rest_printed, job_printed, printed}
+use Rattle.rl_tree.specs.Printing.{Page, Setting, Progress, Ending, Whole, NoTurn, TooDeep, with_text, with_atom, marked, with_atom_of, goes_on, and_then, with_turn_of, with_turn, with_level, PrintingJob, Element, Listed, Printer, places_printed, vector_printed, object_printed, value_printed, dotted_atom, rest_object, rest_printed, job_printed, printed}
 use Rattle.rl_meaning.specs.State.{State, Expansion}
 use Rattle.rl_meaning.specs.Outcome.{Outcome, Done, Stopped, Depth, then_do, Levels, turns_left}
 use Rattle.rl_meaning.specs.Opening.{state_of}
 use Rattle.rl_meaning.specs.Printing as printing
-use Rattle.rl_meaning.specs.Printing.{Elements, dotted, message_rest, elements_within, message_object, message_printed, print_message, print_mark, print_end_of_line, fresh_line, print_error, print, terpri, with_page, setting_in, page_of, progress_in, levels_in, turns_taken, last_stop, ended_printing, after_printing, print_value}
+use Rattle.rl_meaning.specs.Printing.{Elements, dotted_message, message_rest, elements_within, message_object, message_printed, print_message, print_mark, print_end_of_line, fresh_line, print_error, print, terpri, with_page, setting_in, page_of, progress_in, levels_in, turns_taken, last_stop, ended_printing, after_printing, print_value}
 use Rattle.rl_meaning.specs.TwoRunsValues.{Names, Maybe, nothing, just, Each, end, more, SameValue, same_int, same_id, same_str, same_ref, same_fun, SameObject, same_pair, same_vector}
-use Rattle.rl_meaning.specs.TwoRunsStates.{Bounds, SameStore, SameExpansion, same_none, same_open, Place, Like, Roomier}
-use Rattle.rl_meaning.specs.TwoRunsEnds.{Begins, HasShown, lacks_levels, meets_levels, MayStop, Parted, right_short, left_short, Related, done, stopped, parted}
+use Rattle.rl_meaning.specs.TwoRunsStates.{Bounds, SameStore, SameExpansion, same_none, same_open, EntryPlace, Like, Roomier}
+use Rattle.rl_meaning.specs.TwoRunsEnds.{IsBegunBy, HasShown, lacks_levels, meets_levels, MayStop, Parted, right_short, left_short, Related, done, stopped, parted}
 use Rattle.rl_agrees.proofs.OneRunDepth.{printed_not_deep, message_not_deep}
 use Rattle.rl_agrees.proofs.TwoRunsGrowth.{grows_refl}
 use Rattle.rl_agrees.proofs.TwoRunsWays.{Is, is, with_counts_like, left_same, whole_read_like}
@@ -21,7 +21,7 @@ use Rattle.rl_agrees.proofs.TwoRunsJoined.{begins_refl, begins_trans}
 
 -- ---- fronts
 
-pub begins_more : (xs ys : List ℕ) → Begins xs (xs ++ ys)
+pub begins_more : (xs ys : List ℕ) → IsBegunBy xs (xs ++ ys)
 begins_more xs ys = record { rest = ys; is = refl }
 
 -- ---- how far two printings come
@@ -29,30 +29,30 @@ begins_more xs ys = record { rest = ys; is = refl }
 -- E: what is known where the left printing has fewer levels than the right one
 data SameProgress (E : Type 0) : Progress → Progress → Type 0 where
   same_progress : (p : Progress) → SameProgress E p p
-  right_deep : (p q : Progress) → q.ending ≡ TooDeep → Begins q.page.text p.page.text → SameProgress E p q
-  left_deep : (p q : Progress) → E → p.ending ≡ TooDeep → Begins p.page.text q.page.text → SameProgress E p q
+  right_deep : (p q : Progress) → q.ending ≡ TooDeep → IsBegunBy q.page.text p.page.text → SameProgress E p q
+  left_deep : (p q : Progress) → E → p.ending ≡ TooDeep → IsBegunBy p.page.text q.page.text → SameProgress E p q
 
 -- both go on from this text
 record SameFrom (E : Type 0) (text : List ℕ) (p q : Progress) : Type 0 where
-  pub left : Begins text p.page.text
-  pub right : Begins text q.page.text
+  pub left : IsBegunBy text p.page.text
+  pub right : IsBegunBy text q.page.text
   pub same : SameProgress E p q
 
 abbrev SameSteps : Type 0 → (Progress → Progress) → (Progress → Progress) → Type 0
 SameSteps E f g = (r : Progress) → SameFrom E r.page.text (f r) (g r)
 
-one_from : {E : Type 0} (text : List ℕ) (p q : Progress) → p ≡ q → Begins text p.page.text → SameFrom E text p q
+one_from : {E : Type 0} (text : List ℕ) (p q : Progress) → p ≡ q → IsBegunBy text p.page.text → SameFrom E text p q
 one_from {E = E} text p q e h = subst (λ x. SameFrom E text p x) e (record { left = h; right = h; same = same_progress p })
 
-same_from : {E : Type 0} (text : List ℕ) (p : Progress) → Begins text p.page.text → SameFrom E text p p
+same_from : {E : Type 0} (text : List ℕ) (p : Progress) → IsBegunBy text p.page.text → SameFrom E text p p
 same_from text p h = record { left = h; right = h; same = same_progress p }
 
 -- behind more text
-from_front : {E : Type 0} (xs ys : List ℕ) (p q : Progress) → Begins xs ys → SameFrom E ys p q → SameFrom E xs p q
+from_front : {E : Type 0} (xs ys : List ℕ) (p q : Progress) → IsBegunBy xs ys → SameFrom E ys p q → SameFrom E xs p q
 from_front xs ys p q h k = record { left = begins_trans xs ys p.page.text h k.left; right = begins_trans xs ys q.page.text h k.right; same = k.same }
 
 -- what goes on only adds to the page
-goes_on_begins : (e : Ending) (p : Progress) (f : Progress → Progress) → Begins p.page.text (f p).page.text → Begins p.page.text (goes_on e p f).page.text
+goes_on_begins : (e : Ending) (p : Progress) (f : Progress → Progress) → IsBegunBy p.page.text (f p).page.text → IsBegunBy p.page.text (goes_on e p f).page.text
 goes_on_begins Whole p f h = h
 goes_on_begins NoTurn p f h = begins_refl p.page.text
 goes_on_begins TooDeep p f h = begins_refl p.page.text
@@ -101,15 +101,15 @@ record SameSetting (n : Names) (g h : Setting) : Type 0 where
   pub store : SameStore n g.store h.store
   pub line_length : g.line_length ≡ h.line_length
 
-data SameJob (n : Names) : Job → Job → Type 0 where
+data SameJob (n : Names) : PrintingJob → PrintingJob → Type 0 where
   same_element : (v w : Value) → SameValue n v w → SameJob n (Element v) (Element w)
   same_listed : (a d b e : Value) → SameValue n a b → SameValue n d e → SameJob n (Listed a d) (Listed b e)
 
 -- where the left printing has fewer levels, this is known
 abbrev Prints : Type 0 → Names → Printer → Printer → Type 0
-Prints E n f g = (x y : Job) (i j : ℕ) → (i < j → E) → SameJob n x y → SameSteps E (f x i) (g y j)
+Prints E n f g = (x y : PrintingJob) (i j : ℕ) → (i < j → E) → SameJob n x y → SameSteps E (f x i) (g y j)
 
-separated : (first : Bool) (p : Progress) → Begins p.page.text (if first then p else marked (32 ∷ []) p).page.text
+separated : (first : Bool) (p : Progress) → IsBegunBy p.page.text (if first then p else marked (32 ∷ []) p).page.text
 separated true p = begins_refl p.page.text
 separated false p = begins_more p.page.text (32 ∷ [])
 
@@ -129,10 +129,10 @@ object_same n f g h inner _ _ i j less (just _ _ (same_pair a d b e x y)) p =
     from_front p.page.text _ _ _ (begins_more p.page.text (40 ∷ [])) (h _ _ i j less (same_listed a d b e x y) (marked (40 ∷ []) p))))
 object_same n f g h inner _ _ i j less (just _ _ (same_vector xs ys x)) p = with_level_same inner i j p (λ l p. vector_printed f xs l p) (λ l p. vector_printed g ys l p) less (λ i j less p. vector_same n f g h xs ys i j less x p)
 
-atom_begins : (line_length : ℕ) (page : Page) (bytes : List ℕ) → Begins page.text (with_atom line_length page bytes).text
+atom_begins : (line_length : ℕ) (page : Page) (bytes : List ℕ) → IsBegunBy page.text (with_atom line_length page bytes).text
 atom_begins line_length page bytes = at (nat_lt 0 page.column && nat_lt line_length (page.column + length bytes))
   where
-    at : (b : Bool) → Begins page.text (if b then with_text (with_text page (10 ∷ [])) bytes else with_text page bytes).text
+    at : (b : Bool) → IsBegunBy page.text (if b then with_text (with_text page (10 ∷ [])) bytes else with_text page bytes).text
     at true = begins_trans page.text (page.text ++ 10 ∷ []) _ (begins_more page.text (10 ∷ [])) (begins_more (page.text ++ 10 ∷ []) bytes)
     at false = begins_more page.text bytes
 
@@ -186,10 +186,10 @@ abbrev SameElements : Type 0 → Names → Elements → Elements → Type 0
 SameElements E n f g = (a b d e : Value) (i j : ℕ) → (i < j → E) → SameValue n a b → SameValue n d e → SameSteps E (f a d i) (g b e j)
 
 module _ {E : Type 0} (n : Names) (g h : Setting) (s : SameSetting n g h) where
-  dot_same : (v w : Value) → SameValue n v w → SameSteps E (dotted g v) (dotted h w)
+  dot_same : (v w : Value) → SameValue n v w → SameSteps E (dotted_message g v) (dotted_message h w)
   dot_same v w r p = from_front p.page.text _ _ _ (begins_more p.page.text (32 ∷ 46 ∷ 32 ∷ [])) (atom_same n g h s v w r (marked (32 ∷ 46 ∷ 32 ∷ []) p))
 
-  message_object_rest : (f f' : Elements) → SameElements E n f f' → (o q : Option Object) (i j : ℕ) → (i < j → E) → Maybe (SameObject n) o q → SameSteps E (printing.rest_object g f o i) (printing.rest_object h f' q j)
+  message_object_rest : (f f' : Elements) → SameElements E n f f' → (o q : Option Object) (i j : ℕ) → (i < j → E) → Maybe (SameObject n) o q → SameSteps E (printing.rest_of_object g f o i) (printing.rest_of_object h f' q j)
   message_object_rest f f' k _ _ i j less nothing p = same_from p.page.text p (begins_refl p.page.text)
   message_object_rest f f' k _ _ i j less (just _ _ (same_pair a d b e x y)) p =
       with_turn_same p _ _ (λ p. from_front p.page.text _ _ _ (begins_more p.page.text (32 ∷ [])) (k a b d e i j less x y (marked (32 ∷ []) p)))
@@ -201,9 +201,9 @@ module _ {E : Type 0} (n : Names) (g h : Setting) (s : SameSetting n g h) where
   message_rest_same f f' k _ _ i j less (same_int x) p = dot_same (Int x) (Int x) (same_int x) p
   message_rest_same f f' k _ _ i j less (same_str x) p = dot_same (Str x) (Str x) (same_str x) p
   message_rest_same f f' k _ _ i j less (same_fun r q place x) p = dot_same (Fun r place) (Fun q place) (same_fun r q place x) p
-  message_rest_same f f' k _ _ i j less (same_id x) p = subst (λ y. SameFrom E p.page.text (if x == g.nil then p else dotted g (Id x) p) (if x == y then p else dotted h (Id x) p)) s.nil (at (x == g.nil))
+  message_rest_same f f' k _ _ i j less (same_id x) p = subst (λ y. SameFrom E p.page.text (if x == g.nil then p else dotted_message g (Id x) p) (if x == y then p else dotted_message h (Id x) p)) s.nil (at (x == g.nil))
     where
-      at : (b : Bool) → SameFrom E p.page.text (if b then p else dotted g (Id x) p) (if b then p else dotted h (Id x) p)
+      at : (b : Bool) → SameFrom E p.page.text (if b then p else dotted_message g (Id x) p) (if b then p else dotted_message h (Id x) p)
       at true = same_from p.page.text p (begins_refl p.page.text)
       at false = dot_same (Id x) (Id x) (same_id x) p
 
@@ -228,16 +228,16 @@ module _ {E : Type 0} (n : Names) (g h : Setting) (s : SameSetting n g h) where
 -- ---- in a state
 
 module _ {bounds : Bounds} where
-  setting_same : (style : Style) (n : Names) (ps : List Place) (s t : State) → Like bounds n ps s t → SameSetting n (setting_in style s) (setting_in style t)
+  setting_same : (style : Style) (n : Names) (ps : List EntryPlace) (s t : State) → Like bounds n ps s t → SameSetting n (setting_in style s) (setting_in style t)
   setting_same style n ps s t l = record { style = refl; names = names_same n ps s t l; nil = refl; store = l.store; line_length = λ k. (l.outside k).line_length }
 
-  progress_one : (n : Names) (ps : List Place) (s t : State) → Like bounds n ps s t → progress_in s ≡ progress_in t
+  progress_one : (n : Names) (ps : List EntryPlace) (s t : State) → Like bounds n ps s t → progress_in s ≡ progress_in t
   progress_one n ps s t l = λ k. record { page = record { text = (l.outside k).output; column = (l.outside k).column }; turns = left_same n ps s t l k; ending = Whole }
 
-  page_like : (n : Names) (ps : List Place) (page : Page) (s t : State) → Like bounds n ps s t → Like bounds n ps (with_page page s) (with_page page t)
+  page_like : (n : Names) (ps : List EntryPlace) (page : Page) (s t : State) → Like bounds n ps s t → Like bounds n ps (with_page page s) (with_page page t)
   page_like n ps page s t l = record { store = l.store; functions = l.functions; symbols = l.symbols; bindings = l.bindings; counts = l.counts; outside = λ k. record (l.outside k) { output = page.text; column = page.column }; gensyms = l.gensyms; compilation = l.compilation }
 
-  taken_like : (n : Names) (ps : List Place) (turns : ℕ) (o p : Option Expansion) (s t : State) → SameExpansion o p → s.counts.expansion ≡ o → t.counts.expansion ≡ p → Like bounds n ps s t → Like bounds n ps (turns_taken o turns s) (turns_taken p turns t)
+  taken_like : (n : Names) (ps : List EntryPlace) (turns : ℕ) (o p : Option Expansion) (s t : State) → SameExpansion o p → s.counts.expansion ≡ o → t.counts.expansion ≡ p → Like bounds n ps s t → Like bounds n ps (turns_taken o turns s) (turns_taken p turns t)
   taken_like n ps turns _ _ s t same_none e f l = with_counts_like n ps s t _ _ (record { given = l.counts.given; turns = refl; cells = l.counts.cells; expansion = l.counts.expansion }) l
   taken_like n ps turns _ _ s t (same_open x) e f l = with_counts_like n ps s t _ _ (record { given = l.counts.given; turns = l.counts.turns; cells = l.counts.cells; expansion = same_open _ }) l
 
@@ -256,7 +256,7 @@ Shows s t = HasShown s.outside.output s.outside.notes t.outside
 shows_trans : (s t u : State) → Shows s t → Shows t u → Shows s u
 shows_trans s t u h k = record { output = begins_trans _ _ _ h.output k.output; notes = begins_trans _ _ _ h.notes k.notes }
 
-front_shown : (p q : Progress) (s t : State) → s.outside.notes ≡ t.outside.notes → Begins p.page.text q.page.text → Shows (state_after p s) (state_after q t)
+front_shown : (p q : Progress) (s t : State) → s.outside.notes ≡ t.outside.notes → IsBegunBy p.page.text q.page.text → Shows (state_after p s) (state_after q t)
 front_shown p q s t e b = record {
   output = b;
   notes = record { rest = []; is = notes_kept t.counts.expansion q.turns t ∙ sym e ∙ sym (notes_kept s.counts.expansion p.turns s) ∙ sym (append-nil _) };
@@ -272,7 +272,7 @@ ended_shown act x NoTurn s adds = record { output = begins_refl _; notes = begin
 ended_shown act x TooDeep s adds = record { output = begins_refl _; notes = begins_refl _ }
 
 -- where what is done adds to what is to be seen
-module _ {bounds : Bounds} {A : Type 0} (R : Names → A → A → Type 0) (n : Names) (ps : List Place) (a b : A) (act : State → State) (r : R n a b) (keeps : (s t : State) → Like bounds n ps s t → Like bounds n ps (act s) (act t)) (adds : (s : State) → Shows s (act s)) where
+module _ {bounds : Bounds} {A : Type 0} (R : Names → A → A → Type 0) (n : Names) (ps : List EntryPlace) (a b : A) (act : State → State) (r : R n a b) (keeps : (s t : State) → Like bounds n ps s t → Like bounds n ps (act s) (act t)) (adds : (s : State) → Shows s (act s)) where
   same_ended : (e : Ending) (s t : State) → (e ≡ TooDeep → bounds.levels ≡ true) → Like bounds n ps s t → Related bounds (Parted bounds) R n ps (behind act a (ended_printing e s)) (behind act b (ended_printing e t))
   same_ended Whole s t has l = done n a b (act s) (act t) (grows_refl n) r (keeps s t l)
   same_ended TooDeep s t has l = stopped Depth s t (record { outside = l.outside; turns = l.counts.turns; may = has refl })
@@ -299,7 +299,7 @@ module _ {bounds : Bounds} {A : Type 0} (R : Names → A → A → Type 0) (n : 
   abbrev HasFewer : Levels → Type 0
   HasFewer l = (l ≡ None) ⊎ (bounds.levels ≡ false)
 
-  fewer : (n : Names) (ps : List Place) (l m : Levels) (s t : State) → Roomier bounds l m → Like bounds n ps s t → levels_in l s < levels_in m t → HasFewer l
+  fewer : (n : Names) (ps : List EntryPlace) (l m : Levels) (s t : State) → Roomier bounds l m → Like bounds n ps s t → levels_in l s < levels_in m t → HasFewer l
   fewer n ps None m s t r e le = inl refl
   fewer n ps (Some l) None s t r e le = inr (sym r.bound)
   fewer n ps (Some l) (Some m) s t r e le = let ge : m ≤ l = r.is in absurd (omega (arith, le, ge))
@@ -334,14 +334,14 @@ module _ {bounds : Bounds} {A : Type 0} (R : Names → A → A → Type 0) (n : 
       (message_same n (setting_in Prin2 s) (setting_in Prin2 t) (setting_same Prin2 n ps s t e) v w (levels_in l s) (levels_in m t) (fewer n ps l m s t r e) h (progress_in s)).same) (whole_read_like n ps v w s t e)
 
 module _ {bounds : Bounds} where
-  pub mark_like : (n : Names) (ps : List Place) (bytes : List ℕ) (s t : State) → Like bounds n ps s t → Like bounds n ps (print_mark bytes s) (print_mark bytes t)
+  pub mark_like : (n : Names) (ps : List EntryPlace) (bytes : List ℕ) (s t : State) → Like bounds n ps s t → Like bounds n ps (print_mark bytes s) (print_mark bytes t)
   mark_like n ps bytes s t l = record { store = l.store; functions = l.functions; symbols = l.symbols; bindings = l.bindings; counts = l.counts; outside = λ k. let page : Page = with_text (record { text = (l.outside k).output; column = (l.outside k).column }) bytes in record (l.outside k) { output = page.text; column = page.column }; gensyms = l.gensyms; compilation = l.compilation }
 
 line_shown : (s : State) → Shows s (print_end_of_line s)
 line_shown s = record { output = begins_more s.outside.output (10 ∷ []); notes = begins_refl s.outside.notes }
 
 module _ {bounds : Bounds} where
-  pub fresh_like : (n : Names) (ps : List Place) (s t : State) → Like bounds n ps s t → Like bounds n ps (fresh_line s) (fresh_line t)
+  pub fresh_like : (n : Names) (ps : List EntryPlace) (s t : State) → Like bounds n ps s t → Like bounds n ps (fresh_line s) (fresh_line t)
   fresh_like n ps s t l = at (s.outside.column == 0) (t.outside.column == 0) (λ k. (l.outside k).column == 0)
     where
       at : (b c : Bool) → b ≡ c → Like bounds n ps (if b then s else print_end_of_line s) (if c then t else print_end_of_line t)
@@ -352,18 +352,18 @@ module _ {bounds : Bounds} where
 
   -- ---- natives, and the text of an error
 
-  pub printing_related : (style : Style) (n : Names) (ps : List Place) (l m : Levels) (v w : Value) (s t : State) → Roomier bounds l m → SameValue n v w → Like bounds n ps s t → Related bounds (Parted bounds) SameValue n ps (printing.printing style l v s) (printing.printing style m w t)
+  pub printing_related : (style : Style) (n : Names) (ps : List EntryPlace) (l m : Levels) (v w : Value) (s t : State) → Roomier bounds l m → SameValue n v w → Like bounds n ps s t → Related bounds (Parted bounds) SameValue n ps (printing.printing style l v s) (printing.printing style m w t)
   printing_related style n ps l m v w s t r h e =
       value_behind SameValue n ps v w (λ s. s) h (λ s t l. l) (λ s. record { output = begins_refl s.outside.output; notes = begins_refl s.outside.notes }) style l m v w s t r h e
 
-  pub print_related : (n : Names) (ps : List Place) (l m : Levels) (v w : Value) (s t : State) → Roomier bounds l m → SameValue n v w → Like bounds n ps s t → Related bounds (Parted bounds) SameValue n ps (print l v s) (print m w t)
+  pub print_related : (n : Names) (ps : List EntryPlace) (l m : Levels) (v w : Value) (s t : State) → Roomier bounds l m → SameValue n v w → Like bounds n ps s t → Related bounds (Parted bounds) SameValue n ps (print l v s) (print m w t)
   print_related n ps l m v w s t r h e = value_behind SameValue n ps v w (λ s. print_end_of_line s) h (λ s t l. mark_like n ps (10 ∷ []) s t l) line_shown Prin1 l m v w s t r h e
 
-  pub print_error_related : (n : Names) (ps : List Place) (l m : Levels) (v w : Value) (s t : State) → Roomier bounds l m → SameValue n v w → Like bounds n ps s t → Related bounds {A = Unit {0}} (Parted bounds) Is n ps (print_error l v s) (print_error m w t)
+  pub print_error_related : (n : Names) (ps : List EntryPlace) (l m : Levels) (v w : Value) (s t : State) → Roomier bounds l m → SameValue n v w → Like bounds n ps s t → Related bounds {A = Unit {0}} (Parted bounds) Is n ps (print_error l v s) (print_error m w t)
   print_error_related n ps l m v w s t r h e =
       message_behind {A = Unit {0}} Is n ps tt tt (λ s. print_end_of_line s) (is tt) (λ s t l. mark_like n ps (10 ∷ []) s t l) line_shown l m v w _ _ r h (mark_like n ps (codes "***** ") _ _ (fresh_like n ps s t e))
 
   -- ---- notes
 
-  pub note_like : (n : Names) (ps : List Place) (line : List ℕ) (s t : State) → Like bounds n ps s t → Like bounds n ps (printing.note line s) (printing.note line t)
+  pub note_like : (n : Names) (ps : List EntryPlace) (line : List ℕ) (s t : State) → Like bounds n ps s t → Like bounds n ps (printing.note line s) (printing.note line t)
   note_like n ps line s t l = record { store = l.store; functions = l.functions; symbols = l.symbols; bindings = l.bindings; counts = l.counts; outside = λ k. record (l.outside k) { notes = (l.outside k).notes ++ (line ++ 10 ∷ []) }; gensyms = l.gensyms; compilation = l.compilation }

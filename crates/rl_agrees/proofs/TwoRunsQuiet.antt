@@ -1,16 +1,16 @@
 -- Where neither of two runs side by side prints, they end alike or with what a stop asks for: so an error does.
 use Rattle.std.proofs.Common.{◌≡◌, ◌≤◌, ◌-◌, ◌∙◌, nat_le, ℕ, Bool, true, false, List, [], drop, take, Option, Some, None, refl, sym, subst, arith}
 use Rattle.std.proofs.lemmas.Bool.Decides.{nat_tests}
-use Rattle.std.proofs.lemmas.List.{append-nil, take-append-drop}
+use Rattle.std.proofs.lemmas.List.{append-nil_value_of_state, take-append-drop}
 use Rattle.rl_tree.specs.Value.{Value}
 use Rattle.rl_meaning.specs.State.{State, Outside, Expansion}
-use Rattle.rl_meaning.specs.Outcome.{Outcome, Done, Failed, Went, Returned, Stopped, Depth, then_do, Levels, entered, deeper, run_room, expansion_room, cells_within, expansion_within, room, made_pair}
-use Rattle.rl_meaning.specs.Symbols.{nil}
+use Rattle.rl_meaning.specs.Outcome.{Outcome, Done, Failed, Went, Returned, Stopped, Depth, then_do, Levels, in_levels, deeper, run_room, expansion_room, cells_within, expansion_within, room, made_pair}
+use Rattle.rl_meaning.specs.Symbols.{nil_value_of_state}
 use Rattle.rl_meaning.specs.Errors.{fail}
 use Rattle.rl_meaning.specs.Opening.{state_of}
 use Rattle.rl_meaning.specs.TwoRunsValues.{Names, SameValue}
-use Rattle.rl_meaning.specs.TwoRunsStates.{Bounds, Place, Like, Roomier}
-use Rattle.rl_meaning.specs.TwoRunsEnds.{Begins, HasShown, short_of_levels, Parted, Related, done, failed, went, returned, stopped, parted}
+use Rattle.rl_meaning.specs.TwoRunsStates.{Bounds, EntryPlace, Like, Roomier}
+use Rattle.rl_meaning.specs.TwoRunsEnds.{IsBegunBy, HasShown, short_of_levels, Parted, Related, done, failed, went, returned, stopped, parted}
 use Rattle.rl_meaning.specs.TwoRunsEnds as ends
 use Rattle.rl_agrees.specs.Later.{Later}
 use Rattle.rl_agrees.proofs.TwoRunsWays.{Beside, Short, right_short, left_short}
@@ -26,10 +26,10 @@ HasOutside x o = (state_of o).outside ≡ x
 abbrev pub Shows : {A : Type 0} → Outside → Outcome A → Type 0
 Shows x o = HasShown x.output x.notes (state_of o).outside
 
-begins_same : (xs : List ℕ) → Begins xs xs
-begins_same xs = record { rest = []; is = sym (append-nil xs) }
+begins_same : (xs : List ℕ) → IsBegunBy xs xs
+begins_same xs = record { rest = []; is = sym (append-nil_value_of_state xs) }
 
-pub begins_taken : (i : ℕ) (xs : List ℕ) → Begins (take i xs) xs
+pub begins_taken : (i : ℕ) (xs : List ℕ) → IsBegunBy (take i xs) xs
 begins_taken i xs = record { rest = drop i xs; is = sym (take-append-drop i xs) }
 
 pub shows_same : {A : Type 0} (x : Outside) (o : Outcome A) → HasOutside x o → Shows x o
@@ -37,7 +37,7 @@ shows_same x o e = subst (λ y. HasShown x.output x.notes y) (sym e) (record { o
 
 module _ {bounds : Bounds} where
   -- outcomes that are alike, or of which one stops short, where neither prints
-  pub quiet_ends : {A : Type 0} {R : Names → A → A → Type 0} (n : Names) (ps : List Place) (x : Outside) (o p : Outcome A) → HasOutside x o → HasOutside x p → Beside bounds R n ps o p → Related bounds (Parted bounds) R n ps o p
+  pub quiet_ends : {A : Type 0} {R : Names → A → A → Type 0} (n : Names) (ps : List EntryPlace) (x : Outside) (o p : Outcome A) → HasOutside x o → HasOutside x p → Beside bounds R n ps o p → Related bounds (Parted bounds) R n ps o p
   quiet_ends n ps x o p e f (done m a b s t g r l) = done m a b s t g r l
   quiet_ends n ps x o p e f (failed m z v w s t g r l) = failed m z v w s t g r l
   quiet_ends n ps x o p e f (went m i s t g l) = went m i s t g l
@@ -117,14 +117,14 @@ pair_leaves x a d s e = room_leaves x (λ s. s.outside ≡ x) _ (λ s e. e) 1 s 
 
 pub fail_quits : (A : Type 0) (i : ℕ) (v : Value) (x : Outside) (s : State) → s.outside ≡ x → Quits {A = A} x (fail i v s)
 fail_quits A i v x s e =
-    then_leaves x (λ t. t.outside ≡ x) (λ t. ⊥) _ _ (pair_leaves x _ nil s e) (λ rest t e.
+    then_leaves x (λ t. t.outside ≡ x) (λ t. ⊥) _ _ (pair_leaves x _ nil_value_of_state s e) (λ rest t e.
     then_leaves x (λ t. t.outside ≡ x) (λ t. ⊥) _ _ (pair_leaves x v rest t e) (λ message t e. e))
 
 pub fail_outside : (A : Type 0) (i : ℕ) (v : Value) (s : State) → HasOutside {A = A} s.outside (fail i v s)
 fail_outside A i v s = quits_outside s.outside _ (fail_quits A i v s.outside s refl)
 
 module _ {bounds : Bounds} where
-  pub fail_ends : {A : Type 0} {R : Names → A → A → Type 0} (n : Names) (ps : List Place) (i : ℕ) (v w : Value) (s t : State) → SameValue n v w → Like bounds n ps s t → Related bounds {A = A} (Parted bounds) R n ps (fail i v s) (fail i w t)
+  pub fail_ends : {A : Type 0} {R : Names → A → A → Type 0} (n : Names) (ps : List EntryPlace) (i : ℕ) (v w : Value) (s t : State) → SameValue n v w → Like bounds n ps s t → Related bounds {A = A} (Parted bounds) R n ps (fail i v s) (fail i w t)
   fail_ends {A = A} n ps i v w s t r l = quiet_ends n ps s.outside _ _ (fail_outside A i v s) (fail_outside A i w t ∙ sym l.outside) (fail_related n ps i v w s t l r)
 
 -- ---- levels
@@ -140,27 +140,27 @@ later_shows s o l = record { output = record { rest = l.output.rest; is = l.outp
 wider : (i l m : ℕ) → m ≤ l → nat_le i m ≡ true → nat_le i l ≡ true
 wider i l m le e = grind (arith, nat_tests)
 
-entered_shows : {A : Type 0} (s : State) (f : Levels → Outcome A) → ((l : Levels) → Shows s.outside (f l)) → (b : Bool) (l : ℕ) → Shows s.outside (entered b l s f)
+entered_shows : {A : Type 0} (s : State) (f : Levels → Outcome A) → ((l : Levels) → Shows s.outside (f l)) → (b : Bool) (l : ℕ) → Shows s.outside (in_levels b l s f)
 entered_shows s f left true l = left (Some l)
 entered_shows {A = A} s f left false l = shows_same {A = A} s.outside (Stopped Depth s) refl
 
-module _ {bounds : Bounds} {A : Type 0} {R : Names → A → A → Type 0} (n : Names) (ps : List Place) (s t : State) (f g : Levels → Outcome A) (same : s.outside ≡ t.outside) (left : (l : Levels) → Shows s.outside (f l)) (right : (m : Levels) → Shows t.outside (g m)) where
+module _ {bounds : Bounds} {A : Type 0} {R : Names → A → A → Type 0} (n : Names) (ps : List EntryPlace) (s t : State) (f g : Levels → Outcome A) (same : s.outside ≡ t.outside) (left : (l : Levels) → Shows s.outside (f l)) (right : (m : Levels) → Shows t.outside (g m)) where
   right_depth : (o : Outcome A) → true ≡ bounds.levels → Shows s.outside o → Related bounds (Parted bounds) R n ps o (Stopped Depth t)
   right_depth o x h = parted o (Stopped Depth t) (ends.right_short o Depth t (ends.meets_levels (sym x)) (subst (λ y. Shows y o) same h))
 
   left_depth : (p : Outcome A) → bounds.levels ≡ false → Shows t.outside p → Related bounds (Parted bounds) R n ps (Stopped Depth s) p
   left_depth p x h = parted (Stopped Depth s) p (ends.left_short Depth s p (ends.lacks_levels x) (subst (λ y. Shows y p) (sym same) h))
 
-  entered_ends : (b c : Bool) (l m : ℕ) → (c ≡ true → b ≡ true) → true ≡ bounds.levels → Related bounds (Parted bounds) R n ps (f (Some l)) (g (Some m)) → Related bounds (Parted bounds) R n ps (entered b l s f) (entered c m t g)
+  entered_ends : (b c : Bool) (l m : ℕ) → (c ≡ true → b ≡ true) → true ≡ bounds.levels → Related bounds (Parted bounds) R n ps (f (Some l)) (g (Some m)) → Related bounds (Parted bounds) R n ps (in_levels b l s f) (in_levels c m t g)
   entered_ends true true l m e w h = h
   entered_ends false true l m e w h = absurd (let x : false ≡ true = e refl in cc)
-  entered_ends b false l m e w h = right_depth (entered b l s f) w (entered_shows s f left b l)
+  entered_ends b false l m e w h = right_depth (in_levels b l s f) w (entered_shows s f left b l)
 
-  left_entered : (b : Bool) (l : ℕ) → bounds.levels ≡ false → Related bounds (Parted bounds) R n ps (f (Some l)) (g None) → Related bounds (Parted bounds) R n ps (entered b l s f) (g None)
+  left_entered : (b : Bool) (l : ℕ) → bounds.levels ≡ false → Related bounds (Parted bounds) R n ps (f (Some l)) (g None) → Related bounds (Parted bounds) R n ps (in_levels b l s f) (g None)
   left_entered true l x h = h
   left_entered false l x h = left_depth (g None) x (right None)
 
-  right_entered : (c : Bool) (m : ℕ) → true ≡ bounds.levels → Related bounds (Parted bounds) R n ps (f None) (g (Some m)) → Related bounds (Parted bounds) R n ps (f None) (entered c m t g)
+  right_entered : (c : Bool) (m : ℕ) → true ≡ bounds.levels → Related bounds (Parted bounds) R n ps (f None) (g (Some m)) → Related bounds (Parted bounds) R n ps (f None) (in_levels c m t g)
   right_entered true m w h = h
   right_entered false m w h = right_depth (f None) w (left None)
 

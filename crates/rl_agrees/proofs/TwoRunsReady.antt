@@ -4,12 +4,12 @@ use Rattle.std.proofs.Common.{length-append}
 use Rattle.std.proofs.lemmas.Bool.Decides.{nat_tests}
 use Rattle.rl_tree.specs.Value.{Object, Store}
 use Rattle.rl_meaning.specs.State.{State, Coded, Held, Pointer, Function, HeldFunction}
-use Rattle.rl_meaning.specs.Constants.{changed_at}
+use Rattle.rl_meaning.specs.Constants.{last_change_of}
 use Rattle.rl_meaning.specs.Holding.{no_function, function_in, function_at}
 use Rattle.rl_meaning.specs.Standing.{all_stand}
 use Rattle.rl_meaning.specs.Compiling.{Compiler}
 use Rattle.rl_meaning.specs.Right.{Stood, is_later, AsItStood, AllAsTheyStood}
-use Rattle.rl_agrees.specs.Later.{IsMore, IsNoted, StaysOrNoted, NotedBefore, IsIn, first, further, Later}
+use Rattle.rl_agrees.specs.Later.{IsMore, IsNoted, StaysOrNoted, NotedBefore, IsMemberOf, first, further, Later}
 use Rattle.rl_agrees.specs.TwoRunsJobs.{ReadyCode, Ready}
 use Rattle.rl_agrees.proofs.TwoRunsKept.{Goes}
 
@@ -42,7 +42,7 @@ got_within [] i o e = absurd (cc)
 got_within (x ∷ xs) zero o e = omega arith
 got_within (x ∷ xs) (suc i) o e = omega (arith, got_within xs i o e)
 
-noted_later : (t : State) (r f n : ℕ) → f < n → IsNoted t r n → is_later f (changed_at r t.watched.changes) ≡ true
+noted_later : (t : State) (r f n : ℕ) → f < n → IsNoted t r n → is_later f (last_change_of r t.watched.changes) ≡ true
 noted_later t r f n lt noted = subst (λ o. is_later f o ≡ true) (sym noted.last) (let le : n ≤ noted.functions = noted.late in grind (arith, nat_tests, lt, le))
 
 stood_stays : (s t : State) (c : Stood) → Later s t → c.holder < length s.functions → AsItStood s c → AsItStood t c
@@ -57,7 +57,7 @@ stood_stays s t c later lt (inr e) = at (later.noted c.object)
     at (inl same) = inr (subst (λ o. is_later c.holder o ≡ true) (sym same) e)
     at (inr noted) = inr (noted_later t c.object c.holder (length s.functions) lt noted)
 
-all_stay : (s t : State) (cs : List Stood) → Later s t → ((x : Stood) → IsIn x cs → x.holder < length s.functions) → AllAsTheyStood s cs → AllAsTheyStood t cs
+all_stay : (s t : State) (cs : List Stood) → Later s t → ((x : Stood) → IsMemberOf x cs → x.holder < length s.functions) → AllAsTheyStood s cs → AllAsTheyStood t cs
 all_stay s t [] later older h = tt
 all_stay s t (c ∷ cs) later older h = (stood_stays s t c later (older c (first cs)) h.0, all_stay s t cs later (λ x i. older x (further c cs i)) h.1)
 

@@ -6,15 +6,15 @@ use Rattle.std.proofs.lemmas.Map.Steps.{length-le_from_distinct_below}
 use Rattle.std.proofs.lemmas.Bool.Decides.{nat_tests}
 use Rattle.rl_tree.specs.Value.{Value, Int, Id, Str, Ref, Fun, Object}
 use Rattle.rl_meaning.specs.State.{State}
-use Rattle.rl_meaning.specs.Symbols.{is_nil, parts_of, pair_at, with_first, list_within, list_elements}
+use Rattle.rl_meaning.specs.Symbols.{is_nil, parts_of, pair_at, list_with_first, list_below, list_elements}
 use Rattle.rl_meaning.specs.Holding.{is_improper_within, is_improper}
 use Rattle.rl_meaning.specs.TwoRunsValues.{Names, Maybe, nothing, just, Each, end, more, SameValue, SameParts, same_parts}
-use Rattle.rl_meaning.specs.TwoRunsStates.{Bounds, Place, Like}
+use Rattle.rl_meaning.specs.TwoRunsStates.{Bounds, EntryPlace, Like}
 use Rattle.rl_agrees.proofs.TwoRunsObjects.{pair_same, nil_same}
 
 module _ {bounds : Bounds} where
   -- the same fuel gives the same answer on both sides
-  improper_same : (i : ℕ) (n : Names) (ps : List Place) (s t : State) (v w : Value) → Like bounds n ps s t → SameValue n v w → is_improper_within i s v ≡ is_improper_within i t w
+  improper_same : (i : ℕ) (n : Names) (ps : List EntryPlace) (s t : State) (v w : Value) → Like bounds n ps s t → SameValue n v w → is_improper_within i s v ≡ is_improper_within i t w
   improper_same zero n ps s t v w l h = refl
   improper_same (suc i) n ps s t v w l h = at _ _ (pair_same n ps s t v w l h) (λ a b k. improper_same i n ps s t a b l k)
     where
@@ -130,57 +130,57 @@ module _ (s : State) where
       at (inr f) (inr g) = f ∙ sym g
 
 module _ {bounds : Bounds} where
-  pub is_improper_same : (n : Names) (ps : List Place) (s t : State) (v w : Value) → Like bounds n ps s t → SameValue n v w → is_improper s v ≡ is_improper t w
+  pub is_improper_same : (n : Names) (ps : List EntryPlace) (s t : State) (v w : Value) → Like bounds n ps s t → SameValue n v w → is_improper s v ≡ is_improper t w
   is_improper_same n ps s t v w l h =
       let i : ℕ = suc (length s.store + length t.store) in
       steady s v (suc (length s.store)) i (omega arith) (omega arith) ∙ improper_same i n ps s t v w l h ∙ steady t w i (suc (length t.store)) (omega arith) (omega arith)
 
 -- ---- the elements of a list
 
-first_same : (n : Names) (v w : Value) (o p : Option (List Value)) → SameValue n v w → Maybe (Each (SameValue n)) o p → Maybe (Each (SameValue n)) (with_first v o) (with_first w p)
+first_same : (n : Names) (v w : Value) (o p : Option (List Value)) → SameValue n v w → Maybe (Each (SameValue n)) o p → Maybe (Each (SameValue n)) (list_with_first v o) (list_with_first w p)
 first_same n v w _ _ h nothing = nothing
 first_same n v w _ _ h (just xs ys k) = just _ _ (more v w xs ys h k)
 
 module _ {bounds : Bounds} where
-  within_same : (i : ℕ) (n : Names) (ps : List Place) (s t : State) (v w : Value) → Like bounds n ps s t → SameValue n v w → Maybe (Each (SameValue n)) (list_within i s v) (list_within i t w)
+  within_same : (i : ℕ) (n : Names) (ps : List EntryPlace) (s t : State) (v w : Value) → Like bounds n ps s t → SameValue n v w → Maybe (Each (SameValue n)) (list_below i s v) (list_below i t w)
   within_same zero n ps s t v w l h = nothing
   within_same (suc i) n ps s t v w l h = at _ _ (pair_same n ps s t v w l h) (λ a b k. within_same i n ps s t a b l k)
     where
-      at : (o p : Option (Value × Value)) → Maybe (SameParts n) o p → ((a b : Value) → SameValue n a b → Maybe (Each (SameValue n)) (list_within i s a) (list_within i t b))
-          → Maybe (Each (SameValue n)) (elim o as (λ (o : Option (Value × Value)). Option (List Value)) [ None ↦ Some [] | Some parts ↦ with_first parts.0 (list_within i s parts.1) ]) (elim p as (λ (o : Option (Value × Value)). Option (List Value)) [ None ↦ Some [] | Some parts ↦ with_first parts.0 (list_within i t parts.1) ])
+      at : (o p : Option (Value × Value)) → Maybe (SameParts n) o p → ((a b : Value) → SameValue n a b → Maybe (Each (SameValue n)) (list_below i s a) (list_below i t b))
+          → Maybe (Each (SameValue n)) (elim o as (λ (o : Option (Value × Value)). Option (List Value)) [ None ↦ Some [] | Some parts ↦ list_with_first parts.0 (list_below i s parts.1) ]) (elim p as (λ (o : Option (Value × Value)). Option (List Value)) [ None ↦ Some [] | Some parts ↦ list_with_first parts.0 (list_below i t parts.1) ])
       at _ _ nothing k = just _ _ end
       at _ _ (just _ _ (same_parts a d b e x y)) k = first_same n a b _ _ x (k d e y)
 
 module _ (s : State) where
-  list_enough : (n : ℕ) (v : Value) → Ends s n v → (i j : ℕ) → n < i → n < j → list_within i s v ≡ list_within j s v
-  list_enough _ v (at_end _ e) (suc i) (suc j) l k = rw (e, list_within) refl
-  list_enough _ v (behind n _ parts e h) (suc i) (suc j) l k = rw (e, list_within) (ap (λ o. with_first parts.0 o) (list_enough n parts.1 h i j (omega (arith, l)) (omega (arith, k))))
+  list_enough : (n : ℕ) (v : Value) → Ends s n v → (i j : ℕ) → n < i → n < j → list_below i s v ≡ list_below j s v
+  list_enough _ v (at_end _ e) (suc i) (suc j) l k = rw (e, list_below) refl
+  list_enough _ v (behind n _ parts e h) (suc i) (suc j) l k = rw (e, list_below) (ap (λ o. list_with_first parts.0 o) (list_enough n parts.1 h i j (omega (arith, l)) (omega (arith, k))))
   list_enough _ v h zero j l k = absurd (omega (arith, l))
   list_enough _ v h (suc i) zero l k = absurd (omega (arith, k))
 
-  list_met : (i : ℕ) (v : Value) → Found s i v ⊎ (list_within i s v ≡ None)
+  list_met : (i : ℕ) (v : Value) → Found s i v ⊎ (list_below i s v ≡ None)
   list_met zero v = inr refl
   list_met (suc i) v = at (pair_at s v) refl (λ w. list_met i w)
     where
-      at : (o : Option (Value × Value)) → pair_at s v ≡ o → ((w : Value) → Found s i w ⊎ (list_within i s w ≡ None)) → Found s (suc i) v ⊎ (elim o as (λ (o : Option (Value × Value)). Option (List Value)) [ None ↦ Some [] | Some parts ↦ with_first parts.0 (list_within i s parts.1) ] ≡ None)
+      at : (o : Option (Value × Value)) → pair_at s v ≡ o → ((w : Value) → Found s i w ⊎ (list_below i s w ≡ None)) → Found s (suc i) v ⊎ (elim o as (λ (o : Option (Value × Value)). Option (List Value)) [ None ↦ Some [] | Some parts ↦ list_with_first parts.0 (list_below i s parts.1) ] ≡ None)
       at None e k = inl (record { count = 0; less = omega arith; ends = at_end v e })
       at (Some parts) e k = behind_it (k parts.1)
         where
-          behind_it : Found s i parts.1 ⊎ (list_within i s parts.1 ≡ None) → Found s (suc i) v ⊎ (with_first parts.0 (list_within i s parts.1) ≡ None)
+          behind_it : Found s i parts.1 ⊎ (list_below i s parts.1 ≡ None) → Found s (suc i) v ⊎ (list_with_first parts.0 (list_below i s parts.1) ≡ None)
           behind_it (inl f) = inl (record { count = suc f.count; less = omega (arith, f.less); ends = behind f.count v parts e f.ends })
-          behind_it (inr f) = inr (ap (λ o. with_first parts.0 o) f)
+          behind_it (inr f) = inr (ap (λ o. list_with_first parts.0 o) f)
 
-  list_steady : (v : Value) (i j : ℕ) → length s.store < i → length s.store < j → list_within i s v ≡ list_within j s v
+  list_steady : (v : Value) (i j : ℕ) → length s.store < i → length s.store < j → list_below i s v ≡ list_below j s v
   list_steady v i j l k = at (list_met i v) (list_met j v)
     where
-      at : Found s i v ⊎ (list_within i s v ≡ None) → Found s j v ⊎ (list_within j s v ≡ None) → list_within i s v ≡ list_within j s v
+      at : Found s i v ⊎ (list_below i s v ≡ None) → Found s j v ⊎ (list_below j s v ≡ None) → list_below i s v ≡ list_below j s v
       at (inl f) g = list_enough f.count v f.ends i j f.less (omega (arith, no_longer s f.count v f.ends, k))
       at (inr f) (inl g) = list_enough g.count v g.ends i j (omega (arith, no_longer s g.count v g.ends, l)) g.less
       at (inr f) (inr g) = f ∙ sym g
 
 module _ {bounds : Bounds} where
-  pub list_elements_same : (n : Names) (ps : List Place) (s t : State) (v w : Value) → Like bounds n ps s t → SameValue n v w → Maybe (Each (SameValue n)) (list_elements s v) (list_elements t w)
+  pub list_elements_same : (n : Names) (ps : List EntryPlace) (s t : State) (v w : Value) → Like bounds n ps s t → SameValue n v w → Maybe (Each (SameValue n)) (list_elements s v) (list_elements t w)
   list_elements_same n ps s t v w l h =
       let i : ℕ = suc (length s.store + length t.store) in
-      subst (λ o. Maybe (Each (SameValue n)) o (list_within (suc (length t.store)) t w)) (sym (list_steady s v (suc (length s.store)) i (omega arith) (omega arith)))
-      (subst (λ o. Maybe (Each (SameValue n)) (list_within i s v) o) (list_steady t w i (suc (length t.store)) (omega arith) (omega arith)) (within_same i n ps s t v w l h))
+      subst (λ o. Maybe (Each (SameValue n)) o (list_below (suc (length t.store)) t w)) (sym (list_steady s v (suc (length s.store)) i (omega arith) (omega arith)))
+      (subst (λ o. Maybe (Each (SameValue n)) (list_below i s v) o) (list_steady t w i (suc (length t.store)) (omega arith) (omega arith)) (within_same i n ps s t v w l h))

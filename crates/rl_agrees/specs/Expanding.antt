@@ -6,7 +6,7 @@ use Rattle.rl_meaning.specs.Evaluation.{Here, expansion_of}
 use Rattle.rl_meaning.specs.Jobs.{jobs, the_compiler}
 use Rattle.rl_meaning.specs.Plain.{IsPlain}
 use Rattle.rl_meaning.specs.TwoRunsValues.{Names}
-use Rattle.rl_meaning.specs.TwoRunsStates.{Bounds, Place, Like}
+use Rattle.rl_meaning.specs.TwoRunsStates.{Bounds, EntryPlace, Like}
 
 pub record IsLonger {A : Type 0} (old new : List A) : Type 0 where
   pub more : List A
@@ -34,5 +34,5 @@ pub record OnlyMakes (s t : State) : Type 0 where
 
 -- where two runs stand side by side, the right one may expand a plain macro, and they stand so still
 pub record PlainExpandsAlone : Type 0 where
-  pub expands : (bounds : Bounds) (n : Names) (ps : List Place) (s t u : State) (i f : ℕ) (here : Here) (form : Tree) → Like bounds n ps s t → t.counts.expansion ≡ None → IsPlain t i
+  pub expands : (bounds : Bounds) (n : Names) (ps : List EntryPlace) (s t u : State) (i f : ℕ) (here : Here) (form : Tree) → Like bounds n ps s t → t.counts.expansion ≡ None → IsPlain t i
       → expansion_of (jobs the_compiler) i here form t ≡ Done f u → OnlyMakes t u × Like bounds n ps s u

@@ -4,12 +4,12 @@ use Rattle.rl_meaning.specs.Outcome.{Outcome, Done, Failed, Went, Returned, Stop
 use Rattle.rl_meaning.specs.Evaluation.{Job, Statement, In}
 
 -- a value, an error or a stop
-abbrev pub IsPlain : {A : Type 0} → Outcome A → Type 0
-IsPlain (Done a s) = Unit {0}
-IsPlain (Failed n m s) = Unit {0}
-IsPlain (Went l s) = ⊥
-IsPlain (Returned v s) = ⊥
-IsPlain (Stopped why s) = Unit {0}
+abbrev pub IsNoTransfer : {A : Type 0} → Outcome A → Type 0
+IsNoTransfer (Done a s) = Unit {0}
+IsNoTransfer (Failed n m s) = Unit {0}
+IsNoTransfer (Went l s) = ⊥
+IsNoTransfer (Returned v s) = ⊥
+IsNoTransfer (Stopped why s) = Unit {0}
 
 -- a statement of a PROG
 abbrev pub is_statement : Job → Bool

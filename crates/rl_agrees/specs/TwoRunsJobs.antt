@@ -9,9 +9,9 @@ use Rattle.rl_meaning.specs.Evaluation.{Position, Here, Bound, Machine, Frame, J
 use Rattle.rl_meaning.specs.Compiling.{Compiler}
 use Rattle.rl_meaning.specs.TwoRunsLinks.{Linked}
 use Rattle.rl_meaning.specs.TwoRunsValues.{Names, Maybe, Each, SameValue, SameTree, SameHeld, SamePointer, SameCode}
-use Rattle.rl_meaning.specs.TwoRunsStates.{Bounds, Place, Shown, Roomier}
+use Rattle.rl_meaning.specs.TwoRunsStates.{Bounds, EntryPlace, Shown, Roomier}
 use Rattle.rl_meaning.specs.Right.{Stood, AllAsTheyStood, Right}
-use Rattle.rl_agrees.specs.Later.{IsIn}
+use Rattle.rl_agrees.specs.Later.{IsMemberOf}
 
 -- ---- on one run
 
@@ -56,16 +56,16 @@ pub record ReadyCode (compiler : Compiler) (t : State) (c : Coded) : Type 0 wher
   pub is : function_at t c.function ≡ HeldFunction held
   pub stands : all_stand t c.dependencies ≡ true
   pub constants : AllAsTheyStood t stood
-  pub older : (x : Stood) → IsIn x stood → x.holder < length t.functions
+  pub older : (x : Stood) → IsMemberOf x stood → x.holder < length t.functions
 
 pub record Ready (compiler : Compiler) (t : State) : Type 0 where
-  pub codes : (c : Coded) → IsIn c t.compilation.coded → ReadyCode compiler t c
+  pub codes : (c : Coded) → IsMemberOf c t.compilation.coded → ReadyCode compiler t c
   pub event : EventWithin t
 
 -- ---- two jobs side by side
 
 -- what two walks ask of the places: where a function begins, nothing, as it pushes a mark over them; where a form is walked, that no binding is lacking above the newest mark. No code goes on
-abbrev pub MayLack : Job → List Place → Type 0
+abbrev pub MayLack : Job → List EntryPlace → Type 0
 MayLack (Run name l holder f held vs) ps = Unit {0}
 MayLack (Onward f m code) ps = ⊥
 MayLack (Call_ name l f vs) ps = Unit {0}

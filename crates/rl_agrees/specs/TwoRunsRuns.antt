@@ -2,14 +2,14 @@
 use Rattle.std.specs.Prelude.{◌≡◌, ℕ, zero, suc, true, false, List, length, take, Option, Some, None}
 use Rattle.rl_meaning.specs.State.{State, Recorded}
 use Rattle.rl_meaning.specs.Outcome.{Stop}
-use Rattle.rl_meaning.specs.Run.{Ran, Ending, Finished, Stops}
+use Rattle.rl_meaning.specs.Run.{Ran, RunEnding, Finished, Stops}
 use Rattle.rl_meaning.specs.TwoRunsLinks.{Links, unlinked, link}
 use Rattle.rl_meaning.specs.TwoRunsValues.{Names, Each, SameObject, SameFunction, SameSymbol, SameCoded}
 use Rattle.rl_meaning.specs.TwoRunsStates.{Bounds, Aligned, all_both}
-use Rattle.rl_meaning.specs.TwoRunsEnds.{HasShown, IsShort, IsLacking, IsMeeting, MayStop, OneBegins}
+use Rattle.rl_meaning.specs.TwoRunsEnds.{HasShown, IsShort, IsLackingBound, IsMeeting, MayStop, OneBegins}
 
 -- an end of both runs: for cells or levels they stop only where the right one has such a bound
-abbrev pub MayEnd : Bounds → Ending → Type 0
+abbrev pub MayEnd : Bounds → RunEnding → Type 0
 MayEnd bounds Finished = Unit {0}
 MayEnd bounds (Stops why) = MayStop bounds why
 
@@ -20,12 +20,12 @@ pub data RunsAgree (bounds : Bounds) : Ran → Ran → Type 0 where
   until_event : (o p : Ran) (r : Recorded) → p.state.watched.event ≡ Some r → HasShown (take r.printed p.state.outside.output) (take r.noted p.state.outside.notes) o.state.outside → RunsAgree bounds o p
   -- one of the two stopped for cells or levels, and the other printed and noted all that it did: the right one only where it has such a bound, the left one only where the right one has none
   until_right_stop : (o p : Ran) (why : Stop) → p.ending ≡ Stops why → IsMeeting bounds why → HasShown p.state.outside.output p.state.outside.notes o.state.outside → RunsAgree bounds o p
-  until_left_stop : (o p : Ran) (why : Stop) → o.ending ≡ Stops why → IsLacking bounds why → HasShown o.state.outside.output o.state.outside.notes p.state.outside → RunsAgree bounds o p
+  until_left_stop : (o p : Ran) (why : Stop) → o.ending ≡ Stops why → IsLackingBound bounds why → HasShown o.state.outside.output o.state.outside.notes p.state.outside → RunsAgree bounds o p
   -- the left run stopped so, and the right one has an event: of what each had shown then, one begins with the other
-  until_either : (o p : Ran) (why : Stop) (r : Recorded) → o.ending ≡ Stops why → IsLacking bounds why → p.state.watched.event ≡ Some r
+  until_either : (o p : Ran) (why : Stop) (r : Recorded) → o.ending ≡ Stops why → IsLackingBound bounds why → p.state.watched.event ≡ Some r
       → OneBegins (take r.printed p.state.outside.output) o.state.outside.output → OneBegins (take r.noted p.state.outside.notes) o.state.outside.notes → RunsAgree bounds o p
   -- both stopped for cells or levels, the left one so, and the right one for a bound that it has: of what each had shown, one begins with the other
-  until_both_stop : (o p : Ran) (why other : Stop) → o.ending ≡ Stops why → p.ending ≡ Stops other → IsLacking bounds why → IsMeeting bounds other
+  until_both_stop : (o p : Ran) (why other : Stop) → o.ending ≡ Stops why → p.ending ≡ Stops other → IsLackingBound bounds why → IsMeeting bounds other
       → OneBegins p.state.outside.output o.state.outside.output → OneBegins p.state.outside.notes o.state.outside.notes → RunsAgree bounds o p
 
 -- ---- what is to be seen of a run
@@ -40,7 +40,7 @@ pub record StopsShort (o : Ran) : Type 0 where
 pub record StopsLacking (bounds : Bounds) (o : Ran) : Type 0 where
   pub why : Stop
   pub is : o.ending ≡ Stops why
-  pub lacks : IsLacking bounds why
+  pub lacks : IsLackingBound bounds why
 
 -- it stopped for one of these bounds, which are its own
 pub record StopsMeeting (bounds : Bounds) (p : Ran) : Type 0 where
@@ -61,9 +61,9 @@ pub record SameRun (o p : Ran) : Type 0 where
   pub turns : o.state.counts.turns ≡ p.state.counts.turns
 
 -- of this output, or of these notes, what was there at an event; or all, where there was none
-abbrev pub printed_by : Option Recorded → List ℕ → List ℕ
-printed_by None output = output
-printed_by (Some r) output = take r.printed output
+abbrev pub printed_at_event : Option Recorded → List ℕ → List ℕ
+printed_at_event None output = output
+printed_at_event (Some r) output = take r.printed output
 
 abbrev pub noted_by : Option Recorded → List ℕ → List ℕ
 noted_by None notes = notes
@@ -71,7 +71,7 @@ noted_by (Some r) notes = take r.noted notes
 
 -- what a run printed and noted until its first event
 abbrev pub printed_first : Ran → List ℕ
-printed_first o = printed_by o.state.watched.event o.state.outside.output
+printed_first o = printed_at_event o.state.watched.event o.state.outside.output
 
 abbrev pub noted_first : Ran → List ℕ
 noted_first o = noted_by o.state.watched.event o.state.outside.notes
@@ -88,7 +88,7 @@ abbrev pub names_of : State → Names
 names_of s = record { objects = each_itself (length s.store); functions = each_itself (length s.functions) }
 
 -- all that a state names is of the state: no object, function, identifier, binding or code has a number that stands for nothing
-pub record IsSound (s : State) : Type 0 where
+pub record IsSoundState (s : State) : Type 0 where
   pub objects : Each (SameObject (names_of s)) s.store s.store
   pub functions : Each (SameFunction (names_of s)) s.functions s.functions
   pub symbols : Each (SameSymbol (names_of s)) s.symbols s.symbols
@@ -96,8 +96,8 @@ pub record IsSound (s : State) : Type 0 where
   pub codes : Each (SameCoded (names_of s)) s.compilation.coded s.compilation.coded
 
 -- code runs
-abbrev pub running : State → State
-running s = record s { compilation = record s.compilation { runs_code = true } }
+abbrev pub with_running_code : State → State
+with_running_code s = record s { compilation = record s.compilation { runs_code = true } }
 
 -- all functions are walked, with so many cells
 abbrev pub walking : Option ℕ → State → State

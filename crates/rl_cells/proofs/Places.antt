@@ -7,7 +7,7 @@ use Rattle.std.specs.List.{list_all}
 use Rattle.std.specs.Int.{to_le_bytes}
 use Rattle.std.specs.Prelude.{slice_get}
 use Rattle.rl_tags.specs.Tagged.{Tagged, Number, IdAt, StrAt, PairAt, VectorAt, BigAt, FunAt, IsWordOf, index_of}
-use Rattle.rl_cells.specs.Cell.{Cell, Store, PairCell, StrCell, VectorCell, BigCell, BlockCell, More, cost_of, cell_at, placed, is_live, is_vector, is_vector_cell, is_closed_cell, IsClosed, vector_in, vector_of, room_in, has_room, more_counted, is_id_cell, is_fun_cell, words_in, words_of, is_block, block_with, is_live_word, is_wide, is_str, is_str_cell, bytes_in, bytes_of}
+use Rattle.rl_cells.specs.Cell.{Cell, CellStore, PairCell, StrCell, VectorCell, BigCell, BlockCell, More, cost_of, cell_at, placed, is_live, is_vector, is_vector_cell, is_closed_cell, IsClosed, vector_in, vector_of, room_in, has_room, more_counted, is_id_cell, is_fun_cell, words_in, words_of, is_block, block_with, is_live_word, is_wide, is_str, is_str_cell, bytes_in, bytes_of}
 use Rattle.rl_tags.specs.declared.Tag.{Tag}
 use Rattle.rl_tags.specs.declared.Tag.TheVariants.{Int, Id, Str, Pair, Vector, Big, Fun}
 use Rattle.rl_cells.specs.Laws.{SameKind}
@@ -16,15 +16,15 @@ use Rattle.rl_cells.proofs.Cut.{IsCut-append, IsCut-set}
 use Rattle.rl_cells.proofs.Kept.{IsStored-append, IsStored-set, IsClosed-append, IsClosed-set, length-placed}
 use Rattle.rl_cells.proofs.Sound.{within_room, capacity}
 
-abbrev Viewed : List Cell → ℕ → Option ℕ → Option ℕ → Store → Type 0
+abbrev Viewed : List Cell → ℕ → Option ℕ → Option ℕ → CellStore → Type 0
 Viewed cells bound op mk s = record { cells = cells; bound = bound; count = op; mark = mk } ≡ s
 
 -- the store with a new object
-pub IsSound-new : (ws vs : List ℕ) (cells : List Cell) (n bound : ℕ) (op mk : Option ℕ) (s : Store) (c : Cell)
+pub IsSound-new : (ws vs : List ℕ) (cells : List Cell) (n bound : ℕ) (op mk : Option ℕ) (s : CellStore) (c : Cell)
     → IsSound ws cells n bound op mk → Viewed cells bound op mk s → has_room s (cost_of c) ≡ true → 0 < cost_of c → is_closed_cell cells c ≡ true
     → length vs ≡ length ws → ((i : ℕ) → i < 2 * n → get_or vs i 0 ≡ get_or ws i 0) → IsLaid vs n c → IsSound vs (cells ++ placed c) (n + cost_of c) bound (more_counted op mk (cost_of c)) mk
 IsSound-new ws vs cells n bound op mk s c h view room cost closed len below laid =
-    let room' : room_in op mk (length cells) bound (cost_of c) ≡ true = ap (λ (t : Store). has_room t (cost_of c)) view ∙ room in
+    let room' : room_in op mk (length cells) bound (cost_of c) ≡ true = ap (λ (t : CellStore). has_room t (cost_of c)) view ∙ room in
     record {
       long = len ∙ h.long;
       count = omega (arith, h.count, length-placed cells c cost);
@@ -36,10 +36,10 @@ IsSound-new ws vs cells n bound op mk s c h view room cost closed len below laid
     }
 
 -- how far the words reach where there is room
-pub reach : (ws : List ℕ) (cells : List Cell) (n bound : ℕ) (op mk : Option ℕ) (s : Store) (cost : ℕ)
+pub reach : (ws : List ℕ) (cells : List Cell) (n bound : ℕ) (op mk : Option ℕ) (s : CellStore) (cost : ℕ)
     → IsSound ws cells n bound op mk → Viewed cells bound op mk s → has_room s cost ≡ true → 2 * (n + cost) ≤ length ws
 reach ws cells n bound op mk s cost h view room =
-    let room' : room_in op mk (length cells) bound cost ≡ true = ap (λ (t : Store). has_room t cost) view ∙ room in
+    let room' : room_in op mk (length cells) bound cost ≡ true = ap (λ (t : CellStore). has_room t cost) view ∙ room in
     let cap = capacity (more_counted op mk cost) mk bound (n + cost) (within_room op mk bound n cost h.room (rw h.count room')) in
     omega (arith, h.long)
 
@@ -59,17 +59,17 @@ below_two ws n a b i l =
 length-two : (ws : List ℕ) (n a b : ℕ) → length (set (set ws (2 * n) a) (2 * n + 1) b) ≡ length ws
 length-two ws n a b = length-set (set ws (2 * n) a) (2 * n + 1) b ∙ length-set ws (2 * n) a
 
-pub IsSound-new_pair : (ws : List ℕ) (cells : List Cell) (n bound : ℕ) (op mk : Option ℕ) (s : Store) (a d : Tagged) (w x : ℕ)
+pub IsSound-new_pair : (ws : List ℕ) (cells : List Cell) (n bound : ℕ) (op mk : Option ℕ) (s : CellStore) (a d : Tagged) (w x : ℕ)
     → IsSound ws cells n bound op mk → Viewed cells bound op mk s → has_room s 1 ≡ true → is_live s.cells a ≡ true → is_live s.cells d ≡ true → IsWordOf w a → IsWordOf x d
     → IsSound (set (set ws (2 * n) w) (2 * n + 1) x) (cells ++ placed (PairCell a d)) (n + 1) bound (more_counted op mk 1) mk
 IsSound-new_pair ws cells n bound op mk s a d w x h view room live_a live_d is_w is_x =
-    let cells_is : s.cells ≡ cells = ap (λ (t : Store). t.cells) (sym view) in
+    let cells_is : s.cells ≡ cells = ap (λ (t : CellStore). t.cells) (sym view) in
     let far = reach ws cells n bound op mk s 1 h view room in
     let at = two_written ws n w x (omega arith) in
     IsSound-new ws (set (set ws (2 * n) w) (2 * n + 1) x) cells n bound op mk s (PairCell a d) h view room (omega arith)
     (rw ((rw cells_is at live_a), (rw cells_is at live_d)) refl) (length-two ws n w x) (below_two ws n w x) (rw at.0 is_w, rw at.1 is_x)
 
-pub IsSound-new_big : (ws : List ℕ) (cells : List Cell) (n bound : ℕ) (op mk : Option ℕ) (s : Store) (z : ℤ) (low high : ℕ)
+pub IsSound-new_big : (ws : List ℕ) (cells : List Cell) (n bound : ℕ) (op mk : Option ℕ) (s : CellStore) (z : ℤ) (low high : ℕ)
     → IsSound ws cells n bound op mk → Viewed cells bound op mk s → has_room s 1 ≡ true → is_wide z ≡ true → signed128 (low + 2 ^ 64 * high) ≡ z
     → IsSound (set (set ws (2 * n) low) (2 * n + 1) high) (cells ++ placed (BigCell z)) (n + 1) bound (more_counted op mk 1) mk
 IsSound-new_big ws cells n bound op mk s z low high h view room wide is =
@@ -78,7 +78,7 @@ IsSound-new_big ws cells n bound op mk s z low high h view room wide is =
     IsSound-new ws (set (set ws (2 * n) low) (2 * n + 1) high) cells n bound op mk s (BigCell z) h view room (omega arith)
     wide (length-two ws n low high) (below_two ws n low high) (rw (at.0, at.1) is)
 
-pub IsSound-new_str : (ws vs : List ℕ) (cells : List Cell) (n bound : ℕ) (op mk : Option ℕ) (s : Store) (bytes : List ℕ)
+pub IsSound-new_str : (ws vs : List ℕ) (cells : List Cell) (n bound : ℕ) (op mk : Option ℕ) (s : CellStore) (bytes : List ℕ)
     → IsSound ws cells n bound op mk → Viewed cells bound op mk s → has_room s (cost_of (StrCell bytes)) ≡ true
     → length vs ≡ length (set ws (2 * n) (length bytes))
     → ((k : ℕ) → k < length bytes → get_or bytes k 0 ≡ byte_in vs (2 * n + 2) k)
@@ -99,11 +99,11 @@ laid_str ws k (BlockCell t words) h l = cc
 laid_str ws k More h l = cc
 
 -- a byte read from a string
-pub byte_at : (ws : List ℕ) (cells : List Cell) (n bound : ℕ) (op mk : Option ℕ) (s : Store) (v : Tagged) (k i w : ℕ)
+pub byte_at : (ws : List ℕ) (cells : List Cell) (n bound : ℕ) (op mk : Option ℕ) (s : CellStore) (v : Tagged) (k i w : ℕ)
     → IsSound ws cells n bound op mk → Viewed cells bound op mk s → is_str s.cells v ≡ true → k ≡ index_of v → i < length (bytes_of s.cells v) → slice_get ws (2 * k + 2 + i / 8) ≡ Some w
     → get_or (to_le_bytes w64 w) (i % 8) 0 ≡ get_or (bytes_of s.cells v) i 0
 byte_at ws cells n bound op mk s (StrAt j) k i w h view test k_is l got =
-    let cells_is : s.cells ≡ cells = ap (λ (t : Store). t.cells) (sym view) in
+    let cells_is : s.cells ≡ cells = ap (λ (t : CellStore). t.cells) (sym view) in
     let test' : is_str_cell (cell_at cells j) ≡ true = rw cells_is at test in
     let l' : i < length (bytes_in (cell_at cells j)) = rw cells_is at l in
     let got' : slice_get ws (2 * j + 2 + i / 8) ≡ Some w = rw k_is at got in
@@ -120,7 +120,7 @@ list_all-replicate : (p : Tagged → Bool) (n : ℕ) (x : Tagged) → p x ≡ tr
 list_all-replicate p zero x h = refl
 list_all-replicate p (suc n) x h = rw h (list_all-replicate p n x h)
 
-pub IsSound-new_vector : (ws vs : List ℕ) (cells : List Cell) (n bound : ℕ) (op mk : Option ℕ) (s : Store) (places : ℕ) (x : Tagged) (w : ℕ)
+pub IsSound-new_vector : (ws vs : List ℕ) (cells : List Cell) (n bound : ℕ) (op mk : Option ℕ) (s : CellStore) (places : ℕ) (x : Tagged) (w : ℕ)
     → IsSound ws cells n bound op mk → Viewed cells bound op mk s → has_room s (1 + (places + 1) / 2) ≡ true
     → is_live s.cells x ≡ true → IsWordOf w x
     → length vs ≡ length (set ws (2 * n) places)
@@ -129,7 +129,7 @@ pub IsSound-new_vector : (ws vs : List ℕ) (cells : List Cell) (n bound : ℕ) 
     → IsSound vs (cells ++ placed (VectorCell (replicate places x))) (n + (1 + (places + 1) / 2)) bound (more_counted op mk (1 + (places + 1) / 2)) mk
 IsSound-new_vector ws vs cells n bound op mk s places x w h view fits live is_w len written rest =
     let c = VectorCell (replicate places x) in
-    let cells_is : s.cells ≡ cells = ap (λ (t : Store). t.cells) (sym view) in
+    let cells_is : s.cells ≡ cells = ap (λ (t : CellStore). t.cells) (sym view) in
     let count : length (replicate places x) ≡ places = length-replicate places x in
     let room : has_room s (cost_of c) ≡ true = ap (λ m. has_room s (1 + (m + 1) / 2)) count ∙ fits in
     let far = reach ws cells n bound op mk s (cost_of c) h view room in
@@ -172,15 +172,15 @@ list_all-get_or p (y ∷ ys) zero d h l = (and_parts (p y) (list_all p ys) h).0
 list_all-get_or p (y ∷ ys) (suc i) d h l = list_all-get_or p ys i d (and_parts (p y) (list_all p ys) h).1 (omega arith)
 
 -- a vector's place, its cell and its list
-pub record AtVector (cells : List Cell) (s : Store) (v : Tagged) (k : ℕ) : Type 0 where
+pub record AtVector (cells : List Cell) (s : CellStore) (v : Tagged) (k : ℕ) : Type 0 where
   pub at : v ≡ VectorAt k
   pub cell : cell_at cells k ≡ VectorCell (vector_in (cell_at cells k))
   pub list : vector_of s.cells v ≡ vector_in (cell_at cells k)
   pub inside : k < length cells
 
-pub at_vector : (cells : List Cell) (bound : ℕ) (op mk : Option ℕ) (s : Store) (v : Tagged) (k : ℕ) → Viewed cells bound op mk s → is_vector s.cells v ≡ true → k ≡ index_of v → AtVector cells s v k
+pub at_vector : (cells : List Cell) (bound : ℕ) (op mk : Option ℕ) (s : CellStore) (v : Tagged) (k : ℕ) → Viewed cells bound op mk s → is_vector s.cells v ≡ true → k ≡ index_of v → AtVector cells s v k
 at_vector cells bound op mk s v k view h k_is =
-    let cells_is : s.cells ≡ cells = ap (λ (t : Store). t.cells) (sym view) in
+    let cells_is : s.cells ≡ cells = ap (λ (t : CellStore). t.cells) (sym view) in
     let at : v ≡ VectorAt k = is_vector_index s.cells v h ∙ ap VectorAt (sym k_is) in
     let test : is_vector_cell (cell_at cells k) ≡ true = ap (is_vector cells) (sym at) ∙ ap (λ t. is_vector t v) (sym cells_is) ∙ h in
     record {
@@ -199,11 +199,11 @@ laid_at ws k c xs e h = rw e at h
 closed_at : (cells : List Cell) (c : Cell) (xs : List Tagged) → c ≡ VectorCell xs → is_closed_cell cells c ≡ true → list_all (is_live cells) xs ≡ true
 closed_at cells c xs e h = rw e at h
 
-pub IsSound-put : (ws : List ℕ) (cells : List Cell) (n bound : ℕ) (op mk : Option ℕ) (s : Store) (v x : Tagged) (k i w : ℕ)
+pub IsSound-put : (ws : List ℕ) (cells : List Cell) (n bound : ℕ) (op mk : Option ℕ) (s : CellStore) (v x : Tagged) (k i w : ℕ)
     → IsSound ws cells n bound op mk → Viewed cells bound op mk s → is_vector s.cells v ≡ true → k ≡ index_of v → i < length (vector_of s.cells v) → is_live s.cells x ≡ true → IsWordOf w x
     → IsSound (set ws (2 * k + 2 + i) w) (set cells k (VectorCell (set (vector_in (cell_at cells k)) i x))) n bound op mk
 IsSound-put ws cells n bound op mk s v x k i w h view test k_is l live is_w =
-    let cells_is : s.cells ≡ cells = ap (λ (t : Store). t.cells) (sym view) in
+    let cells_is : s.cells ≡ cells = ap (λ (t : CellStore). t.cells) (sym view) in
     let a = at_vector cells bound op mk s v k view test k_is in
     let xs = vector_in (cell_at cells k) in
     let ys = set xs i x in
@@ -234,14 +234,14 @@ IsSound-put ws cells n bound op mk s v x k i w h view test k_is l live is_w =
     }
 
 -- what a place of a vector holds: its word stands for it, and it is live
-pub record Held (s : Store) (v : Tagged) (i w : ℕ) : Type 0 where
+pub record Held (s : CellStore) (v : Tagged) (i w : ℕ) : Type 0 where
   pub word : IsWordOf w (get_or (vector_of s.cells v) i (Number (pos 0)))
   pub live : is_live s.cells (get_or (vector_of s.cells v) i (Number (pos 0))) ≡ true
 
-pub held_at : (ws : List ℕ) (cells : List Cell) (n bound : ℕ) (op mk : Option ℕ) (s : Store) (v : Tagged) (k i w : ℕ)
+pub held_at : (ws : List ℕ) (cells : List Cell) (n bound : ℕ) (op mk : Option ℕ) (s : CellStore) (v : Tagged) (k i w : ℕ)
     → IsSound ws cells n bound op mk → Viewed cells bound op mk s → is_vector s.cells v ≡ true → k ≡ index_of v → i < length (vector_of s.cells v) → slice_get ws (2 * k + 2 + i) ≡ Some w → Held s v i w
 held_at ws cells n bound op mk s v k i w h view test k_is l got =
-    let cells_is : s.cells ≡ cells = ap (λ (t : Store). t.cells) (sym view) in
+    let cells_is : s.cells ≡ cells = ap (λ (t : CellStore). t.cells) (sym view) in
     let a = at_vector cells bound op mk s v k view test k_is in
     let xs = vector_in (cell_at cells k) in
     let l' : i < length xs = rw (ap length a.list) at l in
@@ -267,7 +267,7 @@ word_at p (y ∷ ys) (suc i) h l = word_at p ys i (and_parts (p y) (list_all p y
 closed_block : (cells : List Cell) (c : Cell) (t : Tag) (xs : List ℕ) → c ≡ BlockCell t xs → is_closed_cell cells c ≡ true → list_all (is_live_word cells) xs ≡ true
 closed_block cells c t xs e h = rw e at h
 
-pub IsSound-new_block : (ws vs : List ℕ) (cells : List Cell) (n bound : ℕ) (op mk : Option ℕ) (s : Store) (t : Tag) (count : ℕ)
+pub IsSound-new_block : (ws vs : List ℕ) (cells : List Cell) (n bound : ℕ) (op mk : Option ℕ) (s : CellStore) (t : Tag) (count : ℕ)
     → IsSound ws cells n bound op mk → Viewed cells bound op mk s → has_room s ((count + 1) / 2) ≡ true → 0 < count
     → length vs ≡ length ws
     → ((k : ℕ) → k < count → get_or vs (2 * n + k) 0 ≡ 0)
@@ -301,13 +301,13 @@ id_like Big xs ys e = record { cost = ap (λ n. (n + 1) / 2) e; pair = refl; str
 id_like Fun xs ys e = record { cost = ap (λ n. (n + 1) / 2) e; pair = refl; str = refl; vector = refl; big = refl; id = refl; «fun» = refl }
 
 -- what a block names: its cell and its words
-pub record AtBlock (cells : List Cell) (s : Store) (v : Tagged) (k : ℕ) : Type 0 where
+pub record AtBlock (cells : List Cell) (s : CellStore) (v : Tagged) (k : ℕ) : Type 0 where
   pub tag : Tag
   pub cell : cell_at cells k ≡ BlockCell tag (words_in (cell_at cells k))
   pub list : words_of s.cells v ≡ words_in (cell_at cells k)
   pub inside : k < length cells
 
-pub at_block : (cells : List Cell) (s : Store) (v : Tagged) (k : ℕ) → s.cells ≡ cells → is_block s.cells v ≡ true → k ≡ index_of v → AtBlock cells s v k
+pub at_block : (cells : List Cell) (s : CellStore) (v : Tagged) (k : ℕ) → s.cells ≡ cells → is_block s.cells v ≡ true → k ≡ index_of v → AtBlock cells s v k
 at_block cells s (IdAt j) k same h e =
     let test : is_id_cell (cell_at cells k) ≡ true = rw (e, ← same) h in let b = block_is (cell_at cells k) (inl test) in
     record { tag = b.0; cell = b.1; list = rw (same, e) refl; inside = elim (cases_lt k (length cells)) [ inl l ↦ l | inr l ↦ let z : false ≡ true = ap is_id_cell (sym (get_or_past cells k More l)) ∙ test in cc ] }
@@ -323,11 +323,11 @@ at_block cells s (BigAt j) k same h e = cc
 laid_block : (ws : List ℕ) (k : ℕ) (c : Cell) (t : Tag) (xs : List ℕ) → c ≡ BlockCell t xs → IsLaid ws k c → IsLaid ws k (BlockCell t xs)
 laid_block ws k c t xs e h = rw e at h
 
-pub IsSound-set_word : (ws : List ℕ) (cells : List Cell) (n bound : ℕ) (op mk : Option ℕ) (s : Store) (v : Tagged) (k i w : ℕ)
+pub IsSound-set_word : (ws : List ℕ) (cells : List Cell) (n bound : ℕ) (op mk : Option ℕ) (s : CellStore) (v : Tagged) (k i w : ℕ)
     → IsSound ws cells n bound op mk → Viewed cells bound op mk s → is_block s.cells v ≡ true → k ≡ index_of v → i < length (words_of s.cells v) → is_live_word s.cells w ≡ true
     → IsSound (set ws (2 * k + i) w) (set cells k (block_with (cell_at cells k) i w)) n bound op mk
 IsSound-set_word ws cells n bound op mk s v k i w h view test k_is l live =
-    let cells_is : s.cells ≡ cells = ap (λ (t : Store). t.cells) (sym view) in
+    let cells_is : s.cells ≡ cells = ap (λ (t : CellStore). t.cells) (sym view) in
     let a = at_block cells s v k cells_is test k_is in
     let xs = words_in (cell_at cells k) in
     let ys = set xs i w in
@@ -356,7 +356,7 @@ IsSound-set_word ws cells n bound op mk s v k i w h view test k_is l live =
     }
 
 -- the words of a block are live
-pub live_word_at : (cells : List Cell) (s : Store) (v : Tagged) (i : ℕ) → s.cells ≡ cells → IsClosed cells → is_block s.cells v ≡ true → i < length (words_of s.cells v) → is_live_word s.cells (get_or (words_of s.cells v) i 0) ≡ true
+pub live_word_at : (cells : List Cell) (s : CellStore) (v : Tagged) (i : ℕ) → s.cells ≡ cells → IsClosed cells → is_block s.cells v ≡ true → i < length (words_of s.cells v) → is_live_word s.cells (get_or (words_of s.cells v) i 0) ≡ true
 live_word_at cells s v i same h test l =
     let a = at_block cells s v (index_of v) same test refl in
     let xs = words_in (cell_at cells (index_of v)) in
@@ -364,11 +364,11 @@ live_word_at cells s v i same h test l =
     rw (a.list, same) (word_at (is_live_word cells) xs i (closed_block cells (cell_at cells (index_of v)) a.tag xs a.cell (h.at (index_of v))) l')
 
 -- the word read from a block
-pub block_word : (ws : List ℕ) (cells : List Cell) (n bound : ℕ) (op mk : Option ℕ) (s : Store) (v : Tagged) (k i w : ℕ)
+pub block_word : (ws : List ℕ) (cells : List Cell) (n bound : ℕ) (op mk : Option ℕ) (s : CellStore) (v : Tagged) (k i w : ℕ)
     → IsSound ws cells n bound op mk → Viewed cells bound op mk s → is_block s.cells v ≡ true → k ≡ index_of v → i < length (words_of s.cells v) → slice_get ws (2 * k + i) ≡ Some w
     → is_live_word s.cells w ≡ true
 block_word ws cells n bound op mk s v k i w h view test k_is l got =
-    let same : s.cells ≡ cells = ap (λ (t : Store). t.cells) (sym view) in
+    let same : s.cells ≡ cells = ap (λ (t : CellStore). t.cells) (sym view) in
     let a = at_block cells s v k same test k_is in
     let xs = words_in (cell_at cells k) in
     let l' : i < length xs = rw (ap length a.list) at l in

@@ -3,7 +3,7 @@ use Rattle.std.proofs.Common.{◌≡◌, ◌≢◌, ℕ, ◌+◌, ◌*◌, ◌%�
 use Rattle.std.proofs.lemmas.List.{get_or-set_same, get_or-set_other, length-set}
 use Rattle.std.proofs.lemmas.Bool.Decides.{nat_tests}
 use Rattle.rl_tags.specs.Tagged.{Tagged, Number, IdAt, StrAt, PairAt, VectorAt, BigAt, FunAt, IsWordOf, index_of}
-use Rattle.rl_cells.specs.Cell.{Cell, Store, PairCell, StrCell, VectorCell, BigCell, BlockCell, More, cell_at, is_live, is_pair, is_pair_cell, is_closed_cell, IsClosed, car_in, cdr_in, car_of, cdr_of, room_in, more_counted}
+use Rattle.rl_cells.specs.Cell.{Cell, CellStore, PairCell, StrCell, VectorCell, BigCell, BlockCell, More, cell_at, is_live, is_pair, is_pair_cell, is_closed_cell, IsClosed, car_in, cdr_in, car_of, cdr_of, room_in, more_counted}
 use Rattle.rl_cells.specs.Stored.{IsLaid, IsSound, IsWithin}
 use Rattle.rl_cells.proofs.Cut.{IsCut-set}
 use Rattle.rl_cells.proofs.Kept.{IsStored-set, IsClosed-set, pair_like}
@@ -73,12 +73,12 @@ IsSound-set_pair ws vs cells n bound op mk k a d h pair live_a live_d len same l
       cut = IsCut-set mk cells k (PairCell a d) l (pair_like (cell_at cells k) a d pair).cost h.cut;
     }
 
-pub IsSound-set_car : (ws : List ℕ) (cells : List Cell) (n bound : ℕ) (op mk : Option ℕ) (s : Store) (p v : Tagged) (k w : ℕ)
+pub IsSound-set_car : (ws : List ℕ) (cells : List Cell) (n bound : ℕ) (op mk : Option ℕ) (s : CellStore) (p v : Tagged) (k w : ℕ)
     → IsSound ws cells n bound op mk → record { cells = cells; bound = bound; count = op; mark = mk } ≡ s
     → is_pair s.cells p ≡ true → k ≡ index_of p → is_live s.cells v ≡ true → IsWordOf w v
     → IsSound (set ws (2 * k) w) (set cells k (PairCell v (cdr_in (cell_at cells k)))) n bound op mk
 IsSound-set_car ws cells n bound op mk s p v k w h view pair k_is live is_w =
-    let cells_is : s.cells ≡ cells = ap (λ (t : Store). t.cells) (sym view) in
+    let cells_is : s.cells ≡ cells = ap (λ (t : CellStore). t.cells) (sym view) in
     let pair' : is_pair_cell (cell_at cells k) ≡ true = rw k_is (ap (is_pair cells) (sym (is_pair_index s.cells p pair)) ∙ ap (λ t. is_pair t p) (sym cells_is) ∙ pair) in
     let l : k < length cells = is_pair_within cells k pair' in
     let cap : n ≤ 1065536 + bound = capacity op mk bound n h.room in
@@ -90,12 +90,12 @@ IsSound-set_car ws cells n bound op mk s p v k w h view pair k_is live is_w =
     (λ i o. let m : i ≢ 2 * k = elim o [ inl a ↦ omega arith | inr a ↦ omega arith ] in get_or-set_other ws (2 * k) i w 0 m)
     (rw (get_or-set_same ws (2 * k) w 0 (omega (arith, h.long, h.count))) is_w, rw (get_or-set_other ws (2 * k) (2 * k + 1) w 0 other) was.1)
 
-pub IsSound-set_cdr : (ws : List ℕ) (cells : List Cell) (n bound : ℕ) (op mk : Option ℕ) (s : Store) (p v : Tagged) (k w : ℕ)
+pub IsSound-set_cdr : (ws : List ℕ) (cells : List Cell) (n bound : ℕ) (op mk : Option ℕ) (s : CellStore) (p v : Tagged) (k w : ℕ)
     → IsSound ws cells n bound op mk → record { cells = cells; bound = bound; count = op; mark = mk } ≡ s
     → is_pair s.cells p ≡ true → k ≡ index_of p → is_live s.cells v ≡ true → IsWordOf w v
     → IsSound (set ws (2 * k + 1) w) (set cells k (PairCell (car_in (cell_at cells k)) v)) n bound op mk
 IsSound-set_cdr ws cells n bound op mk s p v k w h view pair k_is live is_w =
-    let cells_is : s.cells ≡ cells = ap (λ (t : Store). t.cells) (sym view) in
+    let cells_is : s.cells ≡ cells = ap (λ (t : CellStore). t.cells) (sym view) in
     let pair' : is_pair_cell (cell_at cells k) ≡ true = rw k_is (ap (is_pair cells) (sym (is_pair_index s.cells p pair)) ∙ ap (λ t. is_pair t p) (sym cells_is) ∙ pair) in
     let l : k < length cells = is_pair_within cells k pair' in
     let cap : n ≤ 1065536 + bound = capacity op mk bound n h.room in
@@ -108,10 +108,10 @@ IsSound-set_cdr ws cells n bound op mk s p v k w h view pair k_is live is_w =
     (rw (get_or-set_other ws (2 * k + 1) (2 * k) w 0 other) was.0, rw (get_or-set_same ws (2 * k + 1) w 0 (omega (arith, h.long, h.count))) is_w)
 
 -- what a pair holds is live
-pub live_in_pair : (ws : List ℕ) (cells : List Cell) (n bound : ℕ) (op mk : Option ℕ) (s : Store) (p : Tagged) → IsSound ws cells n bound op mk → record { cells = cells; bound = bound; count = op; mark = mk } ≡ s
+pub live_in_pair : (ws : List ℕ) (cells : List Cell) (n bound : ℕ) (op mk : Option ℕ) (s : CellStore) (p : Tagged) → IsSound ws cells n bound op mk → record { cells = cells; bound = bound; count = op; mark = mk } ≡ s
     → is_pair s.cells p ≡ true → (is_live s.cells (car_of s.cells p) ≡ true) × (is_live s.cells (cdr_of s.cells p) ≡ true)
 live_in_pair ws cells n bound op mk s (PairAt k) h view pair =
-    let cells_is : cells ≡ s.cells = ap (λ (t : Store). t.cells) view in
+    let cells_is : cells ≡ s.cells = ap (λ (t : CellStore). t.cells) view in
     let closed : IsClosed s.cells = rw (← cells_is) h.closed in
     closed_pair s.cells (cell_at s.cells k) pair (closed.at k)
 live_in_pair ws cells n bound op mk s (Number k) h view pair = cc
@@ -127,10 +127,10 @@ read_is None w v u h e is = cc
 read_is (Some x) w v u h e is = let y : x ≡ v = cc in sym y ∙ sym h.is ∙ is.is
 
 -- the second word of a pair stands for its CDR
-pub cdr_word : (ws : List ℕ) (cells : List Cell) (n bound : ℕ) (op mk : Option ℕ) (s : Store) (p : Tagged) (k w : ℕ) → IsSound ws cells n bound op mk → record { cells = cells; bound = bound; count = op; mark = mk } ≡ s
+pub cdr_word : (ws : List ℕ) (cells : List Cell) (n bound : ℕ) (op mk : Option ℕ) (s : CellStore) (p : Tagged) (k w : ℕ) → IsSound ws cells n bound op mk → record { cells = cells; bound = bound; count = op; mark = mk } ≡ s
     → is_pair s.cells p ≡ true → k ≡ index_of p → slice_get ws (2 * k + 1) ≡ Some w → IsWordOf w (cdr_of s.cells p)
 cdr_word ws cells n bound op mk s p k w h view pair k_is got =
-    let cells_is : s.cells ≡ cells = ap (λ (t : Store). t.cells) (sym view) in
+    let cells_is : s.cells ≡ cells = ap (λ (t : CellStore). t.cells) (sym view) in
     let at : p ≡ PairAt k = is_pair_index s.cells p pair ∙ ap PairAt (sym k_is) in
     let pair' : is_pair_cell (cell_at cells k) ≡ true = ap (is_pair cells) (sym at) ∙ ap (λ t. is_pair t p) (sym cells_is) ∙ pair in
     let was = laid_pair ws k (cell_at cells k) pair' (h.stored.laid k) in

@@ -187,7 +187,7 @@ pub record IsClosed (cells : List Cell) : Type 0 where
   pub at : (k : ℕ) → IsTrue (is_closed_cell cells (cell_at cells k))
 
 -- what is seen of the store: its cells, its bound, how many cells were taken since opening ended, or None before, and the place where the spare cells begin, or None where none are in use
-pub record Store : Type 0 where
+pub record CellStore : Type 0 where
   pub cells : List Cell
   pub bound : ℕ
   pub count : Option ℕ
@@ -198,7 +198,7 @@ counted None = 0
 counted (Some n) = n
 
 -- the cells that are counted
-abbrev pub used_of : Store → ℕ
+abbrev pub used_of : CellStore → ℕ
 used_of s = counted s.count
 
 -- n cells are taken in all; opening has 65536 cells of its own, the run has as many as its bound says, and past a mark there are 1000000 spare ones
@@ -208,7 +208,7 @@ room_in (Some used) None n bound cost = nat_le (used + cost) bound
 room_in _ (Some mark) n bound cost = nat_le (n + cost) (mark + 1000000)
 
 -- whether an object of this cost fits
-abbrev pub has_room : Store → ℕ → Bool
+abbrev pub has_room : CellStore → ℕ → Bool
 has_room s cost = room_in s.count s.mark (length s.cells) s.bound cost
 
 -- spare cells do not count, nor do those of opening
@@ -218,5 +218,5 @@ more_counted (Some used) None cost = Some (used + cost)
 more_counted count (Some mark) cost = count
 
 -- the store with one more object
-abbrev pub grown : Store → Cell → Store
+abbrev pub grown : CellStore → Cell → CellStore
 grown s c = record { cells = s.cells ++ placed c; bound = s.bound; count = more_counted s.count s.mark (cost_of c); mark = s.mark }

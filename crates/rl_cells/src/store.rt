@@ -1,7 +1,7 @@
 ghost use Rattle.std.specs.Prelude.{◌≡◌, ◌⊎◌, ℕ, ◌+◌, ◌*◌, ◌/◌, ◌^◌, ◌<◌, ◌≤◌, List, [], ◌∷◌, ◌++◌, length, replicate, slice_index, slice_get, slice_set, IsTrue, IfOk, OnErr, is_ok};
 ghost use Rattle.rl_tags.specs.Tagged.{PairAt, StrAt, VectorAt, BigAt, at_tag, index_of};
 ghost use Rattle.rl_tags.specs.Ids.{nil_id};
-ghost use Rattle.rl_cells.specs.Cell.{Store, Cell, PairCell, StrCell, VectorCell, BigCell, BlockCell, block_with, is_block, is_block_tag, words_of, cost_of, cell_at, placed, changed_at, is_live, is_live_word, is_pair, is_str, is_vector, is_big, is_wide, big_of, take_cells, bytes_of, vector_of, car_of, cdr_of, used_of, has_room, grown, more_counted, IsClosed};
+ghost use Rattle.rl_cells.specs.Cell.{CellStore, Cell, PairCell, StrCell, VectorCell, BigCell, BlockCell, block_with, is_block, is_block_tag, words_of, cost_of, cell_at, placed, changed_at, is_live, is_live_word, is_pair, is_str, is_vector, is_big, is_wide, big_of, take_cells, bytes_of, vector_of, car_of, cdr_of, used_of, has_room, grown, more_counted, IsClosed};
 ghost use Rattle.rl_cells.specs.Stored.{byte_in, signed128};
 ghost use Rattle.std.specs.Option.{ForSome};
 
@@ -44,10 +44,10 @@ pub struct Cells {
 }
 
 impl Model for Cells {
-    ghost use Rattle.rl_cells.specs.Cell.{Store};
+    ghost use Rattle.rl_cells.specs.Cell.{CellStore};
     ghost use Rattle.rl_cells.specs.Stored.{IsSound};
 
-    ghost Value = { Store };
+    ghost Value = { CellStore };
 
     ghost view = { λ a. record { cells = a.objects.cells; bound = a.most; count = a.counted; mark = a.mark } };
 

@@ -9,11 +9,11 @@ use Rattle.rl_meaning.specs.State.{State}
 use Rattle.rl_meaning.specs.CMacros.{Constant, Variable, Entry, Load, Move, Copy, Link, LinkE, CallNative, Exit}
 use Rattle.rl_meaning.specs.Errors.{error_texts}
 use Rattle.rl_meaning.specs.Outcome.{Turns}
-use Rattle.rl_meaning.specs.Symbols.{nil}
+use Rattle.rl_meaning.specs.Symbols.{nil_value_of_state}
 use Rattle.rl_meaning.specs.Jobs.{job}
 use Rattle.rl_meaning.specs.Opening.{bare_state}
 use Rattle.rl_meaning.specs.Run.{Stops}
-use Rattle.rl_meaning.specs.Seen.{Seen, run_from, lines, of_name, part_of, Written, after, after_with_code, seen_from, printed_from, both_ways, twice, finished}
+use Rattle.rl_meaning.specs.Seen.{Seen, run_from, lines, of_name, part_of_object, WrittenCode, state_after, after_with_code, seen_from, printed_from, both_ways, twice, finished}
 
 -- ---- copies
 
@@ -21,8 +21,8 @@ use Rattle.rl_meaning.specs.Seen.{Seen, run_from, lines, of_name, part_of, Writt
 abbrev fexpr_call : List ℕ
 fexpr_call = codes "(DF Q (U) U) (DE F NIL (Q A '(B) (C D)))"
 
-abbrev copy_code : List ℕ → ℕ → Written
-copy_code name node s i = Entry i 0 ∷ Copy 1 (part_of s i node) ∷ LinkE (of_name s name) 1 0 ∷ []
+abbrev copy_code : List ℕ → ℕ → WrittenCode
+copy_code name node s i = Entry i 0 ∷ Copy 1 (part_of_object s i node) ∷ LinkE (of_name s name) 1 0 ∷ []
 
 -- its pairs are new each time, and the quoted part is shared; the copy takes 7 turns
 a_copy : both_ways fexpr_call (codes "F") (copy_code (codes "Q") 2) (codes "(PRINT (F)) (PRINT (LIST (EQ (F) (F)) (EQ (CDR (CADR (F))) (CDR (CADR (F)))) (EQ (CADADR (F)) (CADADR (F))))) (F)") ≡ twice (finished (codes "(A (QUOTE (B)) (C D))" ∷ codes "(NIL NIL T)" ∷ []) 880)
@@ -62,11 +62,11 @@ copies_of_values = refl
 -- ---- links to DE, DF and DM
 
 -- their arguments stand at node 2 of the body
-abbrev definition_code : List ℕ → Written
-definition_code form s i = Entry i 0 ∷ Load 1 (Constant (part_of s i 2)) ∷ Link (of_name s form) 1 ∷ Exit ∷ []
+abbrev definition_code : List ℕ → WrittenCode
+definition_code form s i = Entry i 0 ∷ Load 1 (Constant (part_of_object s i 2)) ∷ Link (of_name s form) 1 ∷ Exit ∷ []
 
-abbrev in_last_place_code : List ℕ → Written
-in_last_place_code form s i = Entry i 0 ∷ Load 1 (Constant (part_of s i 2)) ∷ LinkE (of_name s form) 1 0 ∷ []
+abbrev in_last_place_code : List ℕ → WrittenCode
+in_last_place_code form s i = Entry i 0 ∷ Load 1 (Constant (part_of_object s i 2)) ∷ LinkE (of_name s form) 1 0 ∷ []
 
 abbrev defines : List ℕ
 defines = codes "(DE F NIL (DE G (X) (CONS X 'A) (LIST X (FUNCTION (LAMBDA NIL X)))))"
@@ -110,9 +110,9 @@ a_dotted_definition = refl
 abbrev made_definition : List ℕ
 made_definition = codes "(DE F NIL (DE G (X) X))"
 
-abbrev made_code : Written
+abbrev made_code : WrittenCode
 made_code s i = let cons = of_name s (codes "CONS") in
-    Entry i 0 ∷ Load 1 (Constant (Id (of_name s (codes "X")))) ∷ Load 2 (Constant nil) ∷ CallNative cons 2 ∷ Move 2 1 ∷ CallNative cons 2 ∷ Move 2 1 ∷
+    Entry i 0 ∷ Load 1 (Constant (Id (of_name s (codes "X")))) ∷ Load 2 (Constant nil_value_of_state) ∷ CallNative cons 2 ∷ Move 2 1 ∷ CallNative cons 2 ∷ Move 2 1 ∷
     Load 1 (Constant (Id (of_name s (codes "G")))) ∷ CallNative cons 2 ∷ Link (of_name s (codes "DE")) 1 ∷ Exit ∷ []
 
 a_definition_by_a_made_list : both_ways made_definition (codes "F") made_code (codes "(PRINT (F)) (PRINT (G 5))") ≡ twice (finished (codes "G" ∷ codes "5" ∷ []) 990)
@@ -159,7 +159,7 @@ no_name_in_a_list = refl
 
 -- ---- links that are errors
 
-abbrev linked_code : List ℕ → ℕ → Written
+abbrev linked_code : List ℕ → ℕ → WrittenCode
 linked_code form n s i = Entry i 0 ∷ Link (of_name s form) n ∷ Exit ∷ []
 
 two_arguments_of_a_definition : printed_from (after_with_code defines (codes "F") (linked_code (codes "DE") 2)) (codes "(F)") ++ printed_from (after_with_code defines (codes "F") (linked_code (codes "DM") 0)) (codes "(F)") ≡ lines (codes "***** DE has a wrong number of arguments" ∷ codes "***** DM has a wrong number of arguments" ∷ [])
@@ -176,8 +176,8 @@ other_special_forms = refl
 abbrev cells_left : State → Option ℕ
 cells_left s = (run_from s 1000 1000 1000 [] (codes "(F)")).state.counts.cells
 
-abbrev cells_both_ways : List ℕ → Written → Option ℕ × Option ℕ
-cells_both_ways definition code = (cells_left (after_with_code definition (codes "F") code), cells_left (after definition))
+abbrev cells_both_ways : List ℕ → WrittenCode → Option ℕ × Option ℕ
+cells_both_ways definition code = (cells_left (after_with_code definition (codes "F") code), cells_left (state_after definition))
 
 -- 11 for the statement, 7 for the copy
 cells_of_a_copy : cells_both_ways fexpr_call (copy_code (codes "Q") 2) ≡ (Some 982, Some 982)

@@ -11,10 +11,10 @@ use Rattle.rl_text.specs.Reading.{Reading, Found, NoText, Unreadable, reading}
 use Rattle.rl_text.specs.Refusal.{BeginsSpelling}
 use Rattle.rl_text.specs.Refusal as text_refusal
 use Rattle.rl_text.specs.Spelling.{IsSpelled}
-use Rattle.rl_text.specs.Word.{Plain, Escaped, Unsigned, Number, Named, Text, IsNamed, IsNumber, atom_of, datum_of_atom}
+use Rattle.rl_text.specs.Word.{Plain, Escaped, Unsigned, Number, Named, Text, AreNameCharacters, AreIntegerDigits, atom_of, datum_of_atom}
 use Rattle.rl_grammar.specs.Token.{Token, Semicolon, Separating}
 use Rattle.rl_grammar.specs.Written.{short_mark, long_mark, Short}
-use Rattle.rl_grammar.specs.Lexer.{behind_gap, Lexed, Lexes, Bad, begins_spelling, before_rest, token_read, lexed_or_bad, lexed_spelling, lexed_short, lexed_long, lexed_mark, lexed, Front, Begins, NoneLeft, Stops, first_of, first_behind, first_token}
+use Rattle.rl_grammar.specs.Lexer.{behind_gap, Lexed, Lexes, Bad, begins_spelling, before_rest, token_read, lexed_or_bad, lexed_spelling, lexed_short, lexed_long, lexed_mark, lexed, Front, Begins, NoneLeft, Stops, first_token_of, first_behind, first_token}
 use Rattle.rl_grammar.specs.Refusal.{BeginsToken, IsBadAt}
 use Rattle.rl_grammar.proofs.Gaps.{IsSolid, found_solid, solid_is_some}
 use Rattle.rl_grammar.proofs.Spelled.{spelling_solid, spelled_here, word_spelled, quote_spelled}
@@ -36,7 +36,7 @@ take_past gap at j below =
 abbrev letter : List ℕ
 letter = 65 ∷ []
 
-letter_is : (b : ℕ) → is_letter b ≡ true → IsNamed (Plain b ∷ [])
+letter_is : (b : ℕ) → is_letter b ≡ true → AreNameCharacters (Plain b ∷ [])
 letter_is b e = record { name = and_from _ _ e refl; short = omega arith }
 
 by_letter : (b : ℕ) → is_letter b ≡ true → BeginsSpelling (b ∷ [])
@@ -45,7 +45,7 @@ by_letter b e = record { more = []; datum = datum_of_atom (atom_of (Named (Plain
 digit_small : (b : ℕ) → is_digit b ≡ true → b - 48 < 2 ^ 59
 digit_small b e = let parts = and_parts (nat_le 48 b) (nat_le b 57) e in let most = leb-true b 57 parts.1 in omega arith
 
-digit_is : (b : ℕ) → is_digit b ≡ true → IsNumber Unsigned (b ∷ [])
+digit_is : (b : ℕ) → is_digit b ≡ true → AreIntegerDigits Unsigned (b ∷ [])
 digit_is b e = record { some = omega arith; are_digits = and_from _ _ e refl; in_range = let small = digit_small b e in omega arith }
 
 by_digit : (b : ℕ) → is_digit b ≡ true → BeginsSpelling (b ∷ [])
@@ -95,11 +95,11 @@ record IsLocal (b : ℕ) (bs : List ℕ) (j : ℕ) : Type 0 where
   stops : j < length (b ∷ bs) → (more : List ℕ) (token : Token) → lexed b (take j bs ++ more) ≡ Lexes token [] → ⊥
 
 -- what is found there is the first token
-first_lexed : (at : List ℕ) (l : Lexed) (token : Token) (here rest : List ℕ) → first_of at l ≡ Begins token here rest → l ≡ Lexes token rest
+first_lexed : (at : List ℕ) (l : Lexed) (token : Token) (here rest : List ℕ) → first_token_of at l ≡ Begins token here rest → l ≡ Lexes token rest
 first_lexed at (Lexes other after) token here rest e = let token_same : other ≡ token = cc in let rest_same : after ≡ rest = cc in rw (token_same, rest_same) refl
 first_lexed at (Bad from) token here rest e = absurd cc
 
-first_no_none : (at : List ℕ) (l : Lexed) → first_of at l ≡ NoneLeft → ⊥
+first_no_none : (at : List ℕ) (l : Lexed) → first_token_of at l ≡ NoneLeft → ⊥
 first_no_none at (Lexes token rest) e = absurd cc
 first_no_none at (Bad from) e = absurd cc
 
@@ -231,7 +231,7 @@ lexed_bad finds blank refuses b bs from bad = elim (cases_Bool (begins_spelling 
   | inr other ↦ mark_bad b bs from other (rw other at bad)
 ]
 
-bad_of : (at from : List ℕ) (l : Lexed) → first_of at l ≡ Stops from → l ≡ Bad from
+bad_of : (at from : List ℕ) (l : Lexed) → first_token_of at l ≡ Stops from → l ≡ Bad from
 bad_of at from (Lexes token rest) e = absurd cc
 bad_of at from (Bad other) e = let same : other ≡ from = cc in ap Bad same
 

@@ -1,9 +1,9 @@
 -- What is of the grammar is parsed.
 use Rattle.std.proofs.Common.{◌≡◌, ℕ, suc, ◌≤◌, Bool, true, false, not, nat_le, if◌then◌else◌, List, [], ◌∷◌, refl, ap, ◌∙◌, arith}
 use Rattle.rl_grammar.specs.Token.{Plus, Minus, Separator, Semicolon, Do, Token, Identifier, Integer, String, Quoted, Infix, Word, Power, Dot, Not, Assign, Open, Close, Comma, Colon, If, Then, Else, While, Repeat, Until, For, Each, Foreach, In, Does, OpenBlock, CloseBlock, Separating, Begin, End, Scalar, Return, Go, To, Goto, Lambda}
-use Rattle.rl_grammar.specs.Tree.{Head, Plain, Reserved, head_token, Operation, By, ByWord, operation_token, Positive, Negative, Names, Just, Also, names_spelled, Parameters, NoParameters, OneParameter, NoneListed, Listed, parameters_spelled, Labels, Unlabelled, Label, labels_spelled, Declarations, NoDeclarations, Declared, declarations_spelled, Group, Block, Prog, Two, Single, GoBare, GoTo, Gotos, Tree, Variable, Whole, Text, Quote, Bare, Call, Apply, Enclosed, Set, Binary, Raise, Pair, Negate, Signed, IfThen, IfElse, WhileDo, RepeatUntil, ForTo, EachIn, LambdaOf, Grouped, ReturnNone, ReturnOf, GoingTo, Callee, EnclosedLambda, Items, One, More, Pieces, First, Next, Piece, Nothing, Something, spelled, callee_spelled, items_spelled, pieces_spelled, piece_spelled}
-use Rattle.rl_grammar.specs.Grammar.{head_level, level, goes, is_else, begins_phrase, begins, ends, is_lambda, LabelsFit, Fits, CalleeFits, ItemsFit, PiecesFit, PieceFits, IsExpr}
-use Rattle.rl_grammar.specs.Parser.{Before, None, After, with_last, Behind, NoPiece, Pieced, with_piece, Frame, InBinary, InPower, InPair, InNot, InSign, InApply, InSet, InEnclosed, InCond, InThen, InElse, InWhile, InDo, InRepeat, InUntil, InFrom, InTo, InFor, InOf, InEach, InLambda, InArgs, InPiece, InReturn, wanted, lowest, Begun, Opening, Naming, State, Want, Named, Has, Opened, Shut, Returned, AtPiece, AtName, AtDeclarations, AtScalar, AtNames, AtParameters, Step, Goes, Refuses, opened, begin, pushed, pieced, ended, after, name_alone, call_empty, at_piece, is_colon, at_declarations, step, Read, after_step, run, parse}
+use Rattle.rl_grammar.specs.Tree.{NameUse, Plain, Reserved, head_token, LeftOperator, By, ByWord, operation_token, Positive, Negative, NameList, Just, Also, names_spelled, Parameters, NoParameters, OneParameter, NoneListed, Listed, parameters_spelled, Labels, Unlabelled, Label, labels_spelled, Declarations, NoDeclarations, Declared, declarations_spelled, Group, Block, Prog, Two, Single, GoBare, GoTo, Gotos, Tree, Variable, Whole, Text, Quote, Bare, Call, Apply, Enclosed, Set, Binary, Raise, Pair, Negate, Signed, IfThen, IfElse, WhileDo, RepeatUntil, ForTo, EachIn, LambdaOf, Grouped, ReturnNone, ReturnOf, GoingTo, Callee, EnclosedLambda, Items, One, More, Pieces, First, Next, Piece, Nothing, Something, spelled, callee_spelled, items_spelled, pieces_spelled, piece_spelled}
+use Rattle.rl_grammar.specs.Grammar.{head_level, level, goes, is_else, begins_phrase, begins, ends, is_parenthesized_lambda, LabelsFit, Fits, CalleeFits, ItemsFit, PiecesFit, PieceFits, IsExpr}
+use Rattle.rl_grammar.specs.Parser.{Before, None, After, with_last, Behind, NoPiece, Pieced, pieces_with, ParserFrame, InBinary, InPower, InPair, InNot, InSign, InApply, InSet, InEnclosed, InCond, InThen, InElse, InWhile, InDo, InRepeat, InUntil, InFrom, InTo, InFor, InOf, InEach, InLambda, InArgs, InPiece, InReturn, operand_level, lowest, Begun, Opening, Naming, ParserState, Want, Named, Has, Opened, Shut, Returned, AtPiece, AtName, AtDeclarations, AtScalar, AtNames, AtParameters, ParserStep, Goes, Refuses, frame_opened, begin, pushed, pieced, operand_ended, after, name_alone, call_empty, at_piece, is_colon, at_declarations, parser_step, Read, after_parser_step, parser_run, parse}
 use Rattle.rl_grammar.specs.Tree as tree
 use Rattle.rl_tree.specs.Name.{Name}
 use Rattle.std.proofs.lemmas.Bool.{cond_both, cond-true, cond-false, le-leb, and_parts, and_from, not-true, not_from_false}
@@ -96,21 +96,21 @@ closes_ends a t e = refl
 
 -- ---- steps
 
-pub by_step : (s : State) (t : Token) (ts : List Token) (st : Step) → step s t ≡ st → run s (t ∷ ts) ≡ after_step ts t st (λ s. run s ts)
-by_step s t ts st e = ap (λ (st : Step). after_step ts t st (λ s. run s ts)) e
+pub by_step : (s : ParserState) (t : Token) (ts : List Token) (st : ParserStep) → parser_step s t ≡ st → parser_run s (t ∷ ts) ≡ after_parser_step ts t st (λ s. parser_run s ts)
+by_step s t ts st e = ap (λ (st : ParserStep). after_parser_step ts t st (λ s. parser_run s ts)) e
 
-allowed : (n : ℕ) (fs : List Frame) (st : Step) → lowest fs ≤ n → (if nat_le (lowest fs) n then st else Refuses) ≡ st
+allowed : (n : ℕ) (fs : List ParserFrame) (st : ParserStep) → lowest fs ≤ n → (if nat_le (lowest fs) n then st else Refuses) ≡ st
 allowed n fs st low = cond-true (nat_le (lowest fs) n) _ _ (le-leb _ _ low)
 
-after_goes : (fs : List Frame) (a : Tree) (t : Token) → goes (lowest fs) t ≡ true → after fs a t ≡ pushed fs a t
+after_goes : (fs : List ParserFrame) (a : Tree) (t : Token) → goes (lowest fs) t ≡ true → after fs a t ≡ pushed fs a t
 after_goes [] a t g = cond-true (goes 0 t) _ _ g
-after_goes (f ∷ fs) a t g = cond-true (goes (wanted f) t) _ _ g
+after_goes (f ∷ fs) a t g = cond-true (goes (operand_level f) t) _ _ g
 
-pub reduced : (f : Frame) (fs : List Frame) (a b : Tree) (t : Token) (rest : List Token) → not (goes (wanted f) t) ≡ true → ended f fs a t (λ b. after fs b t) ≡ after fs b t → run (Has (f ∷ fs) a) (t ∷ rest) ≡ run (Has fs b) (t ∷ rest)
-reduced f fs a b t rest g e = by_step (Has (f ∷ fs) a) t rest (after fs b t) (cond-false (goes (wanted f) t) _ _ (not-true _ g) ∙ e)
+pub reduced : (f : ParserFrame) (fs : List ParserFrame) (a b : Tree) (t : Token) (rest : List Token) → not (goes (operand_level f) t) ≡ true → operand_ended f fs a t (λ b. after fs b t) ≡ after fs b t → parser_run (Has (f ∷ fs) a) (t ∷ rest) ≡ parser_run (Has fs b) (t ∷ rest)
+reduced f fs a b t rest g e = by_step (Has (f ∷ fs) a) t rest (after fs b t) (cond-false (goes (operand_level f) t) _ _ (not-true _ g) ∙ e)
 
 -- a name that is whole
-pub name_read : (fs : List Frame) (h : Head) (t : Token) (rest : List Token) → follows t ≡ true → run (Named fs h) (t ∷ rest) ≡ run (Has fs (Variable h)) (t ∷ rest)
+pub name_read : (fs : List ParserFrame) (h : NameUse) (t : Token) (rest : List Token) → follows t ≡ true → parser_run (Named fs h) (t ∷ rest) ≡ parser_run (Has fs (Variable h)) (t ∷ rest)
 name_read fs (Plain x) (Infix o) rest e = refl
 name_read fs (Plain x) (Word w) rest e = refl
 name_read fs (Plain x) Power rest e = refl
@@ -141,7 +141,7 @@ name_read fs (Reserved v) (Separating s) rest e = refl
 name_read fs (Reserved v) End rest e = refl
 name_read fs h t rest e = absurd cc
 
-pub shut_read : (fs : List Frame) (a : Tree) (t : Token) (rest : List Token) → follows t ≡ true → run (Shut fs a) (t ∷ rest) ≡ run (Has fs (Enclosed a)) (t ∷ rest)
+pub shut_read : (fs : List ParserFrame) (a : Tree) (t : Token) (rest : List Token) → follows t ≡ true → parser_run (Shut fs a) (t ∷ rest) ≡ parser_run (Has fs (Enclosed a)) (t ∷ rest)
 shut_read fs a Open rest e = absurd cc
 shut_read fs a t rest e = refl
 
@@ -153,7 +153,7 @@ pub record FirstOf (a : Tree) (test : Token → Bool) : Type 0 where
   pub is : (ts : List Token) → spelled a ts ≡ token ∷ rest ts
   pub tests : test token ≡ true
 
-first_named : (a : Tree) (h : Head) (rest : List Token → List Token) → ((ts : List Token) → spelled a ts ≡ head_token h ∷ rest ts) → FirstOf a begins
+first_named : (a : Tree) (h : NameUse) (rest : List Token → List Token) → ((ts : List Token) → spelled a ts ≡ head_token h ∷ rest ts) → FirstOf a begins
 first_named a (Plain x) rest is = record { token = Identifier x; rest = rest; is = is; tests = refl }
 first_named a (Reserved w) rest is = record { token = Word w; rest = rest; is = is; tests = refl }
 
@@ -191,7 +191,7 @@ first (GoingTo GoBare x) = record { token = Go; rest = λ ts. Identifier x ∷ t
 first (GoingTo GoTo x) = record { token = Go; rest = λ ts. To ∷ Identifier x ∷ ts; is = λ ts. refl; tests = refl }
 first (GoingTo Gotos x) = record { token = Goto; rest = λ ts. Identifier x ∷ ts; is = λ ts. refl; tests = refl }
 
-phrase_named : (a : Tree) (h : Head) (rest : List Token → List Token) → 10 ≤ head_level h → ((ts : List Token) → spelled a ts ≡ head_token h ∷ rest ts) → FirstOf a begins_phrase
+phrase_named : (a : Tree) (h : NameUse) (rest : List Token → List Token) → 10 ≤ head_level h → ((ts : List Token) → spelled a ts ≡ head_token h ∷ rest ts) → FirstOf a begins_phrase
 phrase_named a (Plain x) rest low is = record { token = Identifier x; rest = rest; is = is; tests = refl }
 phrase_named a (Reserved w) rest low is = absurd (omega arith)
 
@@ -230,18 +230,18 @@ phrase_first (GoingTo Gotos x) fit = record { token = Goto; rest = λ ts. Identi
 
 -- ---- an operand begins where it need not
 
-enters : (a : Tree) (test : Token → Bool) (one : FirstOf a test) (s : State) (f : Frame) (fs : List Frame) (other : Token → Step) → ((t : Token) → step s t ≡ (if test t then begin (f ∷ fs) t else other t)) → (ts : List Token) → run s (spelled a ts) ≡ run (Want (f ∷ fs)) (spelled a ts)
+enters : (a : Tree) (test : Token → Bool) (one : FirstOf a test) (s : ParserState) (f : ParserFrame) (fs : List ParserFrame) (other : Token → ParserStep) → ((t : Token) → parser_step s t ≡ (if test t then begin (f ∷ fs) t else other t)) → (ts : List Token) → parser_run s (spelled a ts) ≡ parser_run (Want (f ∷ fs)) (spelled a ts)
 enters a test one s f fs other is ts =
     rw (one.is ts) (by_step s one.token (one.rest ts) (begin (f ∷ fs) one.token) (is one.token ∙ cond-true (test one.token) _ _ one.tests))
 
-applies : (a : Tree) (h : Head) (fs : List Frame) (ts : List Token) → Fits 10 a → run (Named fs h) (spelled a ts) ≡ run (Want (InApply h ∷ fs)) (spelled a ts)
+applies : (a : Tree) (h : NameUse) (fs : List ParserFrame) (ts : List Token) → Fits 10 a → parser_run (Named fs h) (spelled a ts) ≡ parser_run (Want (InApply h ∷ fs)) (spelled a ts)
 applies a h fs ts fit = enters a begins_phrase (phrase_first a fit) (Named fs h) (InApply h) fs (λ t. name_alone fs h t) (λ t. refl) ts
 
-items_call : (es : Items) (c : Callee) (fs : List Frame) (ts : List Token) → run (Opened fs c) (items_spelled es ts) ≡ run (Want (InArgs c None ∷ fs)) (items_spelled es ts)
+items_call : (es : Items) (c : Callee) (fs : List ParserFrame) (ts : List Token) → parser_run (Opened fs c) (items_spelled es ts) ≡ parser_run (Want (InArgs c None ∷ fs)) (items_spelled es ts)
 items_call (One a) c fs ts = enters a begins (first a) (Opened fs c) (InArgs c None) fs (λ t. call_empty fs c t) (λ t. refl) ts
 items_call (More es a) c fs ts = items_call es c fs (Comma ∷ spelled a ts)
 
-returns : (a : Tree) (fs : List Frame) (ts : List Token) → run (Returned fs) (spelled a ts) ≡ run (Want (InReturn ∷ fs)) (spelled a ts)
+returns : (a : Tree) (fs : List ParserFrame) (ts : List Token) → parser_run (Returned fs) (spelled a ts) ≡ parser_run (Want (InReturn ∷ fs)) (spelled a ts)
 returns a fs ts = enters a begins (first a) (Returned fs) InReturn fs (λ t. after fs ReturnNone t) (λ t. refl) ts
 
 -- ---- pieces
@@ -250,18 +250,18 @@ phrase_no_colon : (t : Token) → begins_phrase t ≡ true → is_colon t ≡ fa
 phrase_no_colon Colon e = absurd cc
 phrase_no_colon t e = refl
 
-operation_no_colon : (o : Operation) → is_colon (operation_token o) ≡ false
+operation_no_colon : (o : LeftOperator) → is_colon (operation_token o) ≡ false
 operation_no_colon (By o) = refl
 operation_no_colon (ByWord w) = refl
 
 -- a name that is no label
-unlabels : (fs : List Frame) (ds : Declarations) (ps : Behind) (ls : Labels) (x : Name) (t : Token) (ts : List Token) → is_colon t ≡ false → run (AtName fs (Prog ds) ps ls x) (t ∷ ts) ≡ run (Named (InPiece (Prog ds) ps ls ∷ fs) (Plain x)) (t ∷ ts)
+unlabels : (fs : List ParserFrame) (ds : Declarations) (ps : Behind) (ls : Labels) (x : Name) (t : Token) (ts : List Token) → is_colon t ≡ false → parser_run (AtName fs (Prog ds) ps ls x) (t ∷ ts) ≡ parser_run (Named (InPiece (Prog ds) ps ls ∷ fs) (Plain x)) (t ∷ ts)
 unlabels fs ds ps ls x t ts other = by_step (AtName fs (Prog ds) ps ls x) t ts _ (cond-false (is_colon t) _ _ other)
 
-abbrev Pieces_on : List Frame → Group → Behind → Labels → List Token → Type 0
-Pieces_on fs g ps ls ts = run (AtPiece fs g ps ls) ts ≡ run (Want (InPiece g ps ls ∷ fs)) ts
+abbrev Pieces_on : List ParserFrame → Group → Behind → Labels → List Token → Type 0
+Pieces_on fs g ps ls ts = parser_run (AtPiece fs g ps ls) ts ≡ parser_run (Want (InPiece g ps ls ∷ fs)) ts
 
-prog_piece : (a : Tree) (fs : List Frame) (ds : Declarations) (ps : Behind) (ls : Labels) (n : ℕ) (t : Token) (ts : List Token) → Fits n a → is_colon t ≡ false → Pieces_on fs (Prog ds) ps ls (spelled a (t ∷ ts))
+prog_piece : (a : Tree) (fs : List ParserFrame) (ds : Declarations) (ps : Behind) (ls : Labels) (n : ℕ) (t : Token) (ts : List Token) → Fits n a → is_colon t ≡ false → Pieces_on fs (Prog ds) ps ls (spelled a (t ∷ ts))
 prog_piece (Variable (Plain x)) fs ds ps ls n t ts fit other = unlabels fs ds ps ls x t ts other
 prog_piece (Variable (Reserved w)) fs ds ps ls n t ts fit other = refl
 prog_piece (Whole k) fs ds ps ls n t ts fit other = refl
@@ -302,11 +302,11 @@ prog_piece (GoingTo GoBare x) fs ds ps ls n t ts fit other = refl
 prog_piece (GoingTo GoTo x) fs ds ps ls n t ts fit other = refl
 prog_piece (GoingTo Gotos x) fs ds ps ls n t ts fit other = refl
 
-piece_on : (g : Group) (a : Tree) (fs : List Frame) (ps : Behind) (ls : Labels) (n : ℕ) (t : Token) (ts : List Token) → Fits n a → is_colon t ≡ false → Pieces_on fs g ps ls (spelled a (t ∷ ts))
+piece_on : (g : Group) (a : Tree) (fs : List ParserFrame) (ps : Behind) (ls : Labels) (n : ℕ) (t : Token) (ts : List Token) → Fits n a → is_colon t ≡ false → Pieces_on fs g ps ls (spelled a (t ∷ ts))
 piece_on (Prog ds) a fs ps ls n t ts fit other = prog_piece a fs ds ps ls n t ts fit other
-piece_on Block a fs ps ls n t ts fit other = enters a begins (first a) (AtPiece fs Block ps ls) (InPiece Block ps ls) fs (λ t. pieced fs Block (with_piece ps (Nothing ls)) t) (λ t. refl) (t ∷ ts)
+piece_on Block a fs ps ls n t ts fit other = enters a begins (first a) (AtPiece fs Block ps ls) (InPiece Block ps ls) fs (λ t. pieced fs Block (pieces_with ps (Nothing ls)) t) (λ t. refl) (t ∷ ts)
 
-labels_read : (ls : Labels) (fs : List Frame) (g : Group) (ps : Behind) (ts : List Token) → LabelsFit g ls → run (AtPiece fs g ps Unlabelled) (labels_spelled ls ts) ≡ run (AtPiece fs g ps ls) ts
+labels_read : (ls : Labels) (fs : List ParserFrame) (g : Group) (ps : Behind) (ts : List Token) → LabelsFit g ls → parser_run (AtPiece fs g ps Unlabelled) (labels_spelled ls ts) ≡ parser_run (AtPiece fs g ps ls) ts
 labels_read Unlabelled fs g ps ts fit = refl
 labels_read (Label ls x) fs (Prog ds) ps ts fit = labels_read ls fs (Prog ds) ps (Identifier x ∷ Colon ∷ ts) (labels_fit ls)
   where
@@ -317,19 +317,19 @@ labels_read (Label ls x) fs Block ps ts fit = absurd fit
 
 -- ---- declarations and parameters
 
-names_read : (xs : Names) (fs : List Frame) (ds : Declarations) (ts : List Token) → run (AtScalar fs ds) (names_spelled xs ts) ≡ run (AtNames fs ds xs) ts
+names_read : (xs : NameList) (fs : List ParserFrame) (ds : Declarations) (ts : List Token) → parser_run (AtScalar fs ds) (names_spelled xs ts) ≡ parser_run (AtNames fs ds xs) ts
 names_read (Just x) fs ds ts = refl
 names_read (Also xs x) fs ds ts = names_read xs fs ds (Comma ∷ Identifier x ∷ ts)
 
-declarations_read : (ds : Declarations) (fs : List Frame) (ts : List Token) → run (AtDeclarations fs NoDeclarations) (declarations_spelled ds ts) ≡ run (AtDeclarations fs ds) ts
+declarations_read : (ds : Declarations) (fs : List ParserFrame) (ts : List Token) → parser_run (AtDeclarations fs NoDeclarations) (declarations_spelled ds ts) ≡ parser_run (AtDeclarations fs ds) ts
 declarations_read NoDeclarations fs ts = refl
 declarations_read (Declared ds xs) fs ts = declarations_read ds fs (Scalar ∷ names_spelled xs (Separating Semicolon ∷ ts)) ∙ names_read xs fs ds (Separating Semicolon ∷ ts)
 
-listed_read : (xs : Names) (fs : List Frame) (ts : List Token) → run (AtParameters fs Opening) (names_spelled xs ts) ≡ run (AtParameters fs (Naming xs)) ts
+listed_read : (xs : NameList) (fs : List ParserFrame) (ts : List Token) → parser_run (AtParameters fs Opening) (names_spelled xs ts) ≡ parser_run (AtParameters fs (Naming xs)) ts
 listed_read (Just x) fs ts = refl
 listed_read (Also xs x) fs ts = listed_read xs fs (Comma ∷ Identifier x ∷ ts)
 
-parameters_read : (p : Parameters) (fs : List Frame) (ts : List Token) → run (AtParameters fs Begun) (parameters_spelled p (Separating Semicolon ∷ ts)) ≡ run (Want (InLambda p ∷ fs)) ts
+parameters_read : (p : Parameters) (fs : List ParserFrame) (ts : List Token) → parser_run (AtParameters fs Begun) (parameters_spelled p (Separating Semicolon ∷ ts)) ≡ parser_run (Want (InLambda p ∷ fs)) ts
 parameters_read NoParameters fs ts = refl
 parameters_read (OneParameter x) fs ts = refl
 parameters_read NoneListed fs ts = refl
@@ -361,11 +361,11 @@ pieces_start : (ps : Pieces) (ts : List Token) → Undeclared ts → Undeclared 
 pieces_start (First p) ts start = piece_start p ts start
 pieces_start (Next ps s p) ts start = pieces_start ps (Separating s ∷ piece_spelled p ts) (record { token = Separating s; rest = piece_spelled p ts; is = refl; tests = refl })
 
-no_scalar : (t : Token) (fs : List Frame) (ds : Declarations) → is_scalar t ≡ false → at_declarations fs ds t ≡ at_piece fs (Prog ds) NoPiece Unlabelled t
+no_scalar : (t : Token) (fs : List ParserFrame) (ds : Declarations) → is_scalar t ≡ false → at_declarations fs ds t ≡ at_piece fs (Prog ds) NoPiece Unlabelled t
 no_scalar Scalar fs ds e = absurd cc
 no_scalar t fs ds e = refl
 
-undeclared : (fs : List Frame) (ds : Declarations) (ts : List Token) → Undeclared ts → run (AtDeclarations fs ds) ts ≡ run (AtPiece fs (Prog ds) NoPiece Unlabelled) ts
+undeclared : (fs : List ParserFrame) (ds : Declarations) (ts : List Token) → Undeclared ts → parser_run (AtDeclarations fs ds) ts ≡ parser_run (AtPiece fs (Prog ds) NoPiece Unlabelled) ts
 undeclared fs ds ts start = rw start.is (by_step (AtDeclarations fs ds) start.token start.rest _ (no_scalar start.token fs ds start.tests))
 
 -- ---- items
@@ -382,35 +382,35 @@ last_is : (es : Items) → with_last (before es) (last es) ≡ es
 last_is (One a) = refl
 last_is (More es a) = refl
 
-head_read : (h : Head) (fs : List Frame) (n : ℕ) (ts : List Token) → lowest fs ≤ n → n ≤ head_level h → run (Want fs) (head_token h ∷ ts) ≡ run (Named fs h) ts
+head_read : (h : NameUse) (fs : List ParserFrame) (n : ℕ) (ts : List Token) → lowest fs ≤ n → n ≤ head_level h → parser_run (Want fs) (head_token h ∷ ts) ≡ parser_run (Named fs h) ts
 head_read (Plain x) fs n ts low high = refl
 head_read (Reserved w) fs n ts low high = by_step (Want fs) (Word w) ts _ (allowed 9 fs _ (omega arith))
 
-operation_goes : (o : Operation) (fs : List Frame) → lowest fs ≤ level o → goes (lowest fs) (operation_token o) ≡ true
+operation_goes : (o : LeftOperator) (fs : List ParserFrame) → lowest fs ≤ level o → goes (lowest fs) (operation_token o) ≡ true
 operation_goes (By o) fs low = le-leb _ _ low
 operation_goes (ByWord w) fs low = le-leb _ _ low
 
-operation_follows : (o : Operation) → follows (operation_token o) ≡ true
+operation_follows : (o : LeftOperator) → follows (operation_token o) ≡ true
 operation_follows (By o) = refl
 operation_follows (ByWord w) = refl
 
-operation_pushed : (o : Operation) (fs : List Frame) (a : Tree) → pushed fs a (operation_token o) ≡ Goes (Want (InBinary o a ∷ fs))
+operation_pushed : (o : LeftOperator) (fs : List ParserFrame) (a : Tree) → pushed fs a (operation_token o) ≡ Goes (Want (InBinary o a ∷ fs))
 operation_pushed (By o) fs a = refl
 operation_pushed (ByWord w) fs a = refl
 
-separated : (fs : List Frame) (g : Group) (qs : Pieces) (s : Separator) (ts : List Token) → after_step ts (Separating s) (pieced fs g qs (Separating s)) (λ s. run s ts) ≡ run (AtPiece fs g (Pieced qs s) Unlabelled) ts
+separated : (fs : List ParserFrame) (g : Group) (qs : Pieces) (s : Separator) (ts : List Token) → after_parser_step ts (Separating s) (pieced fs g qs (Separating s)) (λ s. parser_run s ts) ≡ parser_run (AtPiece fs g (Pieced qs s) Unlabelled) ts
 separated fs Block qs s ts = refl
 separated fs (Prog ds) qs s ts = refl
 
 -- a name before `:=`
-assigned : (h : Head) (fs : List Frame) (ts : List Token) → (if nat_le (lowest fs) 0 then opened (InSet h) fs else Refuses) ≡ opened (InSet h) fs → run (Named fs h) (Assign ∷ ts) ≡ run (Want (InSet h ∷ fs)) ts
+assigned : (h : NameUse) (fs : List ParserFrame) (ts : List Token) → (if nat_le (lowest fs) 0 then frame_opened (InSet h) fs else Refuses) ≡ frame_opened (InSet h) fs → parser_run (Named fs h) (Assign ∷ ts) ≡ parser_run (Want (InSet h ∷ fs)) ts
 assigned (Plain x) fs ts e = by_step (Named fs (Plain x)) Assign ts _ e
 assigned (Reserved w) fs ts e = by_step (Named fs (Reserved w)) Assign ts _ e
 
 -- ---- trees
 
 mutual
-  tree_read : (a : Tree) (fs : List Frame) (n : ℕ) (t : Token) (rest : List Token) → Fits n a → lowest fs ≤ n → ends a t ≡ true → follows t ≡ true → run (Want fs) (spelled a (t ∷ rest)) ≡ run (Has fs a) (t ∷ rest)
+  tree_read : (a : Tree) (fs : List ParserFrame) (n : ℕ) (t : Token) (rest : List Token) → Fits n a → lowest fs ≤ n → ends a t ≡ true → follows t ≡ true → parser_run (Want fs) (spelled a (t ∷ rest)) ≡ parser_run (Has fs a) (t ∷ rest)
   tree_read (Variable h) fs n t rest is low e next = head_read h fs n (t ∷ rest) low is ∙ name_read fs h t rest next
   tree_read (Whole k) fs n t rest is low e next = refl
   tree_read (Text k) fs n t rest is low e next = refl
@@ -420,7 +420,7 @@ mutual
       callee_read c fs n (items_spelled es (Close ∷ t ∷ rest)) is.0 low
       ∙ items_call es c fs (Close ∷ t ∷ rest)
       ∙ args_read es c fs Close (t ∷ rest) is.1 refl
-      ∙ ap (λ es. run (Has fs (Call c es)) (t ∷ rest)) (last_is es)
+      ∙ ap (λ es. parser_run (Has fs (Call c es)) (t ∷ rest)) (last_is es)
   tree_read (Apply h a) fs n t rest is low e next =
       let parts = and_parts _ _ e in
       head_read h fs n (spelled a (t ∷ rest)) low is.0
@@ -430,7 +430,7 @@ mutual
   tree_read (Enclosed a) fs n t rest is low e next =
       by_step (Want fs) Open (spelled a (Close ∷ t ∷ rest)) _ (allowed 9 fs _ (let most = is.0 in omega arith))
       ∙ tree_read a (InEnclosed ∷ fs) 0 Close (t ∷ rest) is.1 (omega arith) (closes_ends a Close refl) refl
-      ∙ cond_both (is_lambda a) (Goes (Shut fs a)) (Goes (Has fs (Enclosed a))) (λ (st : Step). after_step (t ∷ rest) Close st (λ s. run s (t ∷ rest)) ≡ run (Has fs (Enclosed a)) (t ∷ rest)) (λ lambda. shut_read fs a t rest next) (λ other. refl)
+      ∙ cond_both (is_parenthesized_lambda a) (Goes (Shut fs a)) (Goes (Has fs (Enclosed a))) (λ (st : ParserStep). after_parser_step (t ∷ rest) Close st (λ s. parser_run s (t ∷ rest)) ≡ parser_run (Has fs (Enclosed a)) (t ∷ rest)) (λ lambda. shut_read fs a t rest next) (λ other. refl)
   tree_read (Set h a) fs n t rest is low e next =
       let parts = and_parts _ _ e in
       head_read h fs n (Assign ∷ spelled a (t ∷ rest)) low (let most = is.0 in omega arith)
@@ -531,29 +531,29 @@ mutual
   tree_read (GoingTo GoTo x) fs n t rest is low e next = refl
   tree_read (GoingTo Gotos x) fs n t rest is low e next = refl
 
-  callee_read : (c : Callee) (fs : List Frame) (n : ℕ) (ts : List Token) → CalleeFits n c → lowest fs ≤ n → run (Want fs) (callee_spelled c (Open ∷ ts)) ≡ run (Opened fs c) ts
+  callee_read : (c : Callee) (fs : List ParserFrame) (n : ℕ) (ts : List Token) → CalleeFits n c → lowest fs ≤ n → parser_run (Want fs) (callee_spelled c (Open ∷ ts)) ≡ parser_run (Opened fs c) ts
   callee_read (tree.Named (Plain x)) fs n ts is low = refl
   callee_read (tree.Named (Reserved w)) fs n ts is low = head_read (Reserved w) fs n (Open ∷ ts) low is
   callee_read (EnclosedLambda a) fs n ts is low =
       by_step (Want fs) Open (spelled a (Close ∷ Open ∷ ts)) _ (allowed 9 fs _ (let most = is.0 in omega arith))
       ∙ tree_read a (InEnclosed ∷ fs) 0 Close (Open ∷ ts) is.2 (omega arith) (closes_ends a Close refl) refl
-      ∙ by_step (Has (InEnclosed ∷ fs) a) Close (Open ∷ ts) _ (cond-true (is_lambda a) _ _ is.1)
+      ∙ by_step (Has (InEnclosed ∷ fs) a) Close (Open ∷ ts) _ (cond-true (is_parenthesized_lambda a) _ _ is.1)
 
-  args_read : (es : Items) (c : Callee) (fs : List Frame) (t : Token) (rest : List Token) → ItemsFit es → closes t ≡ true → run (Want (InArgs c None ∷ fs)) (items_spelled es (t ∷ rest)) ≡ run (Has (InArgs c (before es) ∷ fs) (last es)) (t ∷ rest)
+  args_read : (es : Items) (c : Callee) (fs : List ParserFrame) (t : Token) (rest : List Token) → ItemsFit es → closes t ≡ true → parser_run (Want (InArgs c None ∷ fs)) (items_spelled es (t ∷ rest)) ≡ parser_run (Has (InArgs c (before es) ∷ fs) (last es)) (t ∷ rest)
   args_read (One a) c fs t rest is e = tree_read a (InArgs c None ∷ fs) 0 t rest is (omega arith) (closes_ends a t e) (closes_follows t e)
   args_read (More es a) c fs t rest is e =
       args_read es c fs Comma (spelled a (t ∷ rest)) is.0 refl
-      ∙ ap (λ es. run (Want (InArgs c (After es) ∷ fs)) (spelled a (t ∷ rest))) (last_is es)
+      ∙ ap (λ es. parser_run (Want (InArgs c (After es) ∷ fs)) (spelled a (t ∷ rest))) (last_is es)
       ∙ tree_read a (InArgs c (After es) ∷ fs) 0 t rest is.1 (omega arith) (closes_ends a t e) (closes_follows t e)
 
-  pieces_read : (qs : Pieces) (fs : List Frame) (g : Group) (t : Token) (rest : List Token) → PiecesFit g qs → closes t ≡ true → is_colon t ≡ false → run (AtPiece fs g NoPiece Unlabelled) (pieces_spelled qs (t ∷ rest)) ≡ after_step rest t (pieced fs g qs t) (λ s. run s rest)
+  pieces_read : (qs : Pieces) (fs : List ParserFrame) (g : Group) (t : Token) (rest : List Token) → PiecesFit g qs → closes t ≡ true → is_colon t ≡ false → parser_run (AtPiece fs g NoPiece Unlabelled) (pieces_spelled qs (t ∷ rest)) ≡ after_parser_step rest t (pieced fs g qs t) (λ s. parser_run s rest)
   pieces_read (First p) fs g t rest is e other = piece_read p fs g NoPiece t rest is e other
   pieces_read (Next qs s p) fs g t rest is e other =
       pieces_read qs fs g (Separating s) (piece_spelled p (t ∷ rest)) is.0 refl refl
       ∙ separated fs g qs s (piece_spelled p (t ∷ rest))
       ∙ piece_read p fs g (Pieced qs s) t rest is.1 e other
 
-  piece_read : (p : Piece) (fs : List Frame) (g : Group) (ps : Behind) (t : Token) (rest : List Token) → PieceFits g p → closes t ≡ true → is_colon t ≡ false → run (AtPiece fs g ps Unlabelled) (piece_spelled p (t ∷ rest)) ≡ after_step rest t (pieced fs g (with_piece ps p) t) (λ s. run s rest)
+  piece_read : (p : Piece) (fs : List ParserFrame) (g : Group) (ps : Behind) (t : Token) (rest : List Token) → PieceFits g p → closes t ≡ true → is_colon t ≡ false → parser_run (AtPiece fs g ps Unlabelled) (piece_spelled p (t ∷ rest)) ≡ after_parser_step rest t (pieced fs g (pieces_with ps p) t) (λ s. parser_run s rest)
   piece_read (Nothing ls) fs g ps t rest is e other =
       labels_read ls fs g ps (t ∷ rest) is
       ∙ by_step (AtPiece fs g ps ls) t rest _ (cond-false (begins t) _ _ (closes_begins t e))

@@ -5,16 +5,16 @@ use Rattle.std.proofs.lemmas.List.{length-append, length-drop, drop_at, drop-app
 use Rattle.rl_tree.specs.Bytes.{is_blank}
 use Rattle.rl_text.specs.Datum.{Datum}
 use Rattle.rl_text.specs.Laws.{FindsSpelled}
-use Rattle.rl_text.specs.Reader.{Frame, Mode, Gap, Comment, InName, InEscape, AfterSign, InNumber, InText, AfterQuote, Ended, Whole, Inside, Lacks, Step, Goes, Done, Refuses, Halts, step, Outcome, Read, Refused, Stopped, ends_after, at_end_between, at_end, after_step, read_from}
+use Rattle.rl_text.specs.Reader.{ReaderFrame, Mode, Gap, Comment, InName, InEscape, AfterSign, InNumber, InText, AfterQuote, Ended, Whole, Inside, Lacks, ReaderStep, Goes, Done, Refuses, Halts, reader_step, ReaderOutcome, Read, Refused, Stopped, ends_after, at_end_between, at_end, after_step, read_from}
 use Rattle.rl_text.specs.Reader as reader
 use Rattle.rl_text.specs.Reading.{Items, Found, plain, reading_of, reading}
 use Rattle.rl_grammar.specs.Token.{Token}
 use Rattle.rl_grammar.specs.Written.{short_mark, long_mark}
-use Rattle.rl_grammar.specs.Lexer.{behind_gap, Lexed, Lexes, Bad, begins_spelling, before_rest, token_read, lexed_or_bad, lexed_spelling, lexed_long, lexed_mark, lexed, Front, Begins, NoneLeft, Stops, first_of, first_behind, first_token}
-use Rattle.rl_grammar.specs.Statement.{Place, Start, PlaceStep, GoesTo, Ends, Fails}
+use Rattle.rl_grammar.specs.Lexer.{behind_gap, Lexed, Lexes, Bad, begins_spelling, before_rest, token_read, lexed_or_bad, lexed_spelling, lexed_long, lexed_mark, lexed, Front, Begins, NoneLeft, Stops, first_token_of, first_behind, first_token}
+use Rattle.rl_grammar.specs.Statement.{StatementPlace, Start, PlaceStep, GoesTo, Ends, Fails}
 use Rattle.rl_grammar.specs.Within.{place_within}
 use Rattle.rl_grammar.specs.Source.{longest, past_longest}
-use Rattle.rl_grammar.specs.SourceReader.{Unreadable, fits, read_source, source_behind, source_statement, extended}
+use Rattle.rl_grammar.specs.SourceReader.{Unreadable, fits_source, read_source, source_behind, source_statement, extended_source}
 use Rattle.rl_grammar.proofs.Spelled.{spelled_here}
 use Rattle.rl_grammar.proofs.Lexed.{long_has_short, found_is_first}
 use Rattle.rl_grammar.proofs.Sources.{first_shorter, by_first, by_token, by_long, fits_from, fits_not}
@@ -23,7 +23,7 @@ use Rattle.rl_grammar.proofs.Unreadable.{not_past_before, not_past_behind}
 -- ---- reading
 
 abbrev Outcomes : Type 0
-Outcomes = Outcome (Unit {0}) Datum ⊥
+Outcomes = ReaderOutcome (Unit {0}) Datum ⊥
 
 -- at most so many bytes are left
 abbrev Leaves : Outcomes → ℕ → Type 0
@@ -43,11 +43,11 @@ ends_leave (Whole v s) = omega arith
 ends_leave (Inside fs s) = omega arith
 ends_leave (Lacks w s) = absurd w
 
-between_leaves : (fs : List (Frame Items)) (s : Unit {0}) → Leaves (at_end_between fs s) 0
+between_leaves : (fs : List (ReaderFrame Items)) (s : Unit {0}) → Leaves (at_end_between fs s) 0
 between_leaves [] s = tt
 between_leaves (f ∷ fs) s = omega arith
 
-end_leaves : (mode : Mode) (fs : List (Frame Items)) (s : Unit {0}) → Leaves (at_end plain mode fs s) 0
+end_leaves : (mode : Mode) (fs : List (ReaderFrame Items)) (s : Unit {0}) → Leaves (at_end plain mode fs s) 0
 end_leaves Gap fs s = between_leaves fs s
 end_leaves Comment fs s = between_leaves fs s
 end_leaves (InName cs) fs s = ends_leave _
@@ -63,16 +63,16 @@ more_leaves (reader.NoneLeft s) m n below leaves = tt
 more_leaves (Refused s from) m n below leaves = omega arith
 more_leaves (Stopped w s rest) m n below leaves = leaves
 
-step_leaves : (b : ℕ) (bs : List ℕ) (st : Step (Unit {0}) Datum Items ⊥) → ((mode : Mode) (fs : List (Frame Items)) (s : Unit {0}) → Leaves (read_from plain mode fs s bs) (length bs)) → Leaves (after_step b bs st (λ mode fs s. read_from plain mode fs s bs)) (length (b ∷ bs))
+step_leaves : (b : ℕ) (bs : List ℕ) (st : ReaderStep (Unit {0}) Datum Items ⊥) → ((mode : Mode) (fs : List (ReaderFrame Items)) (s : Unit {0}) → Leaves (read_from plain mode fs s bs) (length bs)) → Leaves (after_step b bs st (λ mode fs s. read_from plain mode fs s bs)) (length (b ∷ bs))
 step_leaves b bs (Goes mode fs s) each = more_leaves (read_from plain mode fs s bs) (length bs) (length (b ∷ bs)) (omega arith) (each mode fs s)
 step_leaves b bs (Done v true s) each = omega arith
 step_leaves b bs (Done v false s) each = omega arith
 step_leaves b bs (Refuses s) each = omega arith
 step_leaves b bs (Halts w s) each = absurd w
 
-read_leaves : (bytes : List ℕ) (mode : Mode) (fs : List (Frame Items)) (s : Unit {0}) → Leaves (read_from plain mode fs s bytes) (length bytes)
+read_leaves : (bytes : List ℕ) (mode : Mode) (fs : List (ReaderFrame Items)) (s : Unit {0}) → Leaves (read_from plain mode fs s bytes) (length bytes)
 read_leaves [] mode fs s = end_leaves mode fs s
-read_leaves (b ∷ bs) mode fs s = step_leaves b bs (step plain mode b fs s) (λ mode fs s. read_leaves bs mode fs s)
+read_leaves (b ∷ bs) mode fs s = step_leaves b bs (reader_step plain mode b fs s) (λ mode fs s. read_leaves bs mode fs s)
 
 -- a byte before the others
 after_byte : (b : ℕ) (bytes more : List ℕ) (one other : Outcomes) → ReadOn bytes more one other → ReadOn (b ∷ bytes) more one other
@@ -84,16 +84,16 @@ done_on : (b : ℕ) (bs more : List ℕ) (v : Datum) (s : Unit {0}) → ReadOn (
 done_on b [] more v s = ReadBeyond (omega arith) (omega arith)
 done_on b (c ∷ cs) more v s = SameRead v s c cs refl refl
 
-step_on : (b : ℕ) (bs more : List ℕ) (st : Step (Unit {0}) Datum Items ⊥) → ((mode : Mode) (fs : List (Frame Items)) (s : Unit {0}) → ReadOn bs more (read_from plain mode fs s bs) (read_from plain mode fs s (bs ++ more))) → ReadOn (b ∷ bs) more (after_step b bs st (λ mode fs s. read_from plain mode fs s bs)) (after_step b (bs ++ more) st (λ mode fs s. read_from plain mode fs s (bs ++ more)))
+step_on : (b : ℕ) (bs more : List ℕ) (st : ReaderStep (Unit {0}) Datum Items ⊥) → ((mode : Mode) (fs : List (ReaderFrame Items)) (s : Unit {0}) → ReadOn bs more (read_from plain mode fs s bs) (read_from plain mode fs s (bs ++ more))) → ReadOn (b ∷ bs) more (after_step b bs st (λ mode fs s. read_from plain mode fs s bs)) (after_step b (bs ++ more) st (λ mode fs s. read_from plain mode fs s (bs ++ more)))
 step_on b bs more (Goes mode fs s) each = after_byte b bs more _ _ (each mode fs s)
 step_on b bs more (Done v true s) each = done_on b bs more v s
 step_on b bs more (Done v false s) each = SameRead v s b bs refl refl
 step_on b bs more (Refuses s) each = SameRefused [] s b bs refl refl refl
 step_on b bs more (Halts w s) each = absurd w
 
-read_on : (bytes more : List ℕ) (mode : Mode) (fs : List (Frame Items)) (s : Unit {0}) → ReadOn bytes more (read_from plain mode fs s bytes) (read_from plain mode fs s (bytes ++ more))
+read_on : (bytes more : List ℕ) (mode : Mode) (fs : List (ReaderFrame Items)) (s : Unit {0}) → ReadOn bytes more (read_from plain mode fs s bytes) (read_from plain mode fs s (bytes ++ more))
 read_on [] more mode fs s = ReadBeyond (end_leaves mode fs s) (read_leaves more mode fs s)
-read_on (b ∷ bs) more mode fs s = step_on b bs more (step plain mode b fs s) (λ mode fs s. read_on bs more mode fs s)
+read_on (b ∷ bs) more mode fs s = step_on b bs more (reader_step plain mode b fs s) (λ mode fs s. read_on bs more mode fs s)
 
 -- ---- a token
 
@@ -264,13 +264,13 @@ data FrontOn (more : List ℕ) (one other : Front) : Type 0 where
   SameStops : (b : ℕ) (bs : List ℕ) → one ≡ Stops (b ∷ bs) → other ≡ Stops (b ∷ (bs ++ more)) → FrontOn more one other
   FrontBeyond : FrontLeaves one 0 → FrontLeaves other (length more) → FrontOn more one other
 
-lex_front : (at : List ℕ) (l : Lexed) (n : ℕ) → LexLeaves l n → FrontLeaves (first_of at l) n
+lex_front : (at : List ℕ) (l : Lexed) (n : ℕ) → LexLeaves l n → FrontLeaves (first_token_of at l) n
 lex_front at (Lexes token rest) n leaves = leaves
 lex_front at (Bad from) n leaves = leaves
 
-front_of : (at more : List ℕ) (one other : Lexed) → LexOn more one other → FrontOn more (first_of at one) (first_of (at ++ more) other)
-front_of at more one other (SameLexes token b bs e f) = SameBegins token at b bs (ap (first_of at) e) (ap (first_of (at ++ more)) f)
-front_of at more one other (SameBad b bs e f) = SameStops b bs (ap (first_of at) e) (ap (first_of (at ++ more)) f)
+front_of : (at more : List ℕ) (one other : Lexed) → LexOn more one other → FrontOn more (first_token_of at one) (first_token_of (at ++ more) other)
+front_of at more one other (SameLexes token b bs e f) = SameBegins token at b bs (ap (first_token_of at) e) (ap (first_token_of (at ++ more)) f)
+front_of at more one other (SameBad b bs e f) = SameStops b bs (ap (first_token_of at) e) (ap (first_token_of (at ++ more)) f)
 front_of at more one other (LexBeyond leaves others) = FrontBeyond (lex_front at one 0 leaves) (lex_front (at ++ more) other (length more) others)
 
 behind_leaves : FindsSpelled → (here : List ℕ) (n : ℕ) → length here ≤ n → FrontLeaves (first_behind here) n
@@ -291,54 +291,54 @@ first_on finds bytes more (GapBeyond e f) =
 -- ---- a statement
 
 -- nothing of it is left before the end of the longest statement
-beyond_refused : (n : ℕ) (end : List ℕ) (s : Place) (bytes : List ℕ) (k : ℕ) (f : Front) → first_token bytes ≡ f → FrontLeaves f k → k < length end → read_source (suc n) end s bytes ≡ Unreadable end
+beyond_refused : (n : ℕ) (end : List ℕ) (s : StatementPlace) (bytes : List ℕ) (k : ℕ) (f : Front) → first_token bytes ≡ f → FrontLeaves f k → k < length end → read_source (suc n) end s bytes ≡ Unreadable end
 beyond_refused n end s bytes k (Begins token at rest) e leaves long = by_long n end s bytes token at rest e (fits_not end rest (omega arith))
 beyond_refused n end s bytes k NoneLeft e leaves long = by_first n end s bytes NoneLeft e ∙ ap Unreadable (not_past_behind end [] (omega arith))
 beyond_refused n end s bytes k (Stops from) e leaves long = by_first n end s bytes (Stops from) e ∙ ap Unreadable (not_past_behind end from (omega arith))
 
 abbrev EachOn : ℕ → ℕ → List ℕ → List ℕ → List ℕ → Type 0
-EachOn n m end more rest = (s : Place) → read_source m (end ++ more) s (rest ++ more) ≡ extended more (read_source n end s rest)
+EachOn n m end more rest = (s : StatementPlace) → read_source m (end ++ more) s (rest ++ more) ≡ extended_source more (read_source n end s rest)
 
-token_on : (st : PlaceStep) (n m : ℕ) (end more : List ℕ) (s : Place) (bytes : List ℕ) (t : Token) (at rest : List ℕ) → place_within s t ≡ st → first_token bytes ≡ Begins t at rest → first_token (bytes ++ more) ≡ Begins t (at ++ more) (rest ++ more) → fits end rest ≡ true → fits (end ++ more) (rest ++ more) ≡ true → EachOn n m end more rest → read_source (suc m) (end ++ more) s (bytes ++ more) ≡ extended more (read_source (suc n) end s bytes)
-token_on (GoesTo next) n m end more s bytes t at rest step e f fit fit_more each =
-    by_token m (end ++ more) s (bytes ++ more) t (at ++ more) (rest ++ more) (GoesTo next) f fit_more step ∙ each next ∙ ap (extended more) (sym (by_token n end s bytes t at rest (GoesTo next) e fit step))
-token_on (Ends c q) n m end more s bytes t at rest step e f fit fit_more each =
-    by_token m (end ++ more) s (bytes ++ more) t (at ++ more) (rest ++ more) (Ends c q) f fit_more step ∙ ap (extended more) (sym (by_token n end s bytes t at rest (Ends c q) e fit step))
-token_on Fails n m end more s bytes t at rest step e f fit fit_more each =
-    by_token m (end ++ more) s (bytes ++ more) t (at ++ more) (rest ++ more) Fails f fit_more step ∙ ap (extended more) (sym (by_token n end s bytes t at rest Fails e fit step))
+token_on : (st : PlaceStep) (n m : ℕ) (end more : List ℕ) (s : StatementPlace) (bytes : List ℕ) (t : Token) (at rest : List ℕ) → place_within s t ≡ st → first_token bytes ≡ Begins t at rest → first_token (bytes ++ more) ≡ Begins t (at ++ more) (rest ++ more) → fits_source end rest ≡ true → fits_source (end ++ more) (rest ++ more) ≡ true → EachOn n m end more rest → read_source (suc m) (end ++ more) s (bytes ++ more) ≡ extended_source more (read_source (suc n) end s bytes)
+token_on (GoesTo next) n m end more s bytes t at rest reader_step e f fit fit_more each =
+    by_token m (end ++ more) s (bytes ++ more) t (at ++ more) (rest ++ more) (GoesTo next) f fit_more reader_step ∙ each next ∙ ap (extended_source more) (sym (by_token n end s bytes t at rest (GoesTo next) e fit reader_step))
+token_on (Ends c q) n m end more s bytes t at rest reader_step e f fit fit_more each =
+    by_token m (end ++ more) s (bytes ++ more) t (at ++ more) (rest ++ more) (Ends c q) f fit_more reader_step ∙ ap (extended_source more) (sym (by_token n end s bytes t at rest (Ends c q) e fit reader_step))
+token_on Fails n m end more s bytes t at rest reader_step e f fit fit_more each =
+    by_token m (end ++ more) s (bytes ++ more) t (at ++ more) (rest ++ more) Fails f fit_more reader_step ∙ ap (extended_source more) (sym (by_token n end s bytes t at rest Fails e fit reader_step))
 
-begins_on : (n m : ℕ) (end more : List ℕ) (s : Place) (bytes : List ℕ) (t : Token) (at rest : List ℕ) → first_token bytes ≡ Begins t at rest → first_token (bytes ++ more) ≡ Begins t (at ++ more) (rest ++ more) → (length end ≤ length rest → EachOn n m end more rest) → read_source (suc m) (end ++ more) s (bytes ++ more) ≡ extended more (read_source (suc n) end s bytes)
+begins_on : (n m : ℕ) (end more : List ℕ) (s : StatementPlace) (bytes : List ℕ) (t : Token) (at rest : List ℕ) → first_token bytes ≡ Begins t at rest → first_token (bytes ++ more) ≡ Begins t (at ++ more) (rest ++ more) → (length end ≤ length rest → EachOn n m end more rest) → read_source (suc m) (end ++ more) s (bytes ++ more) ≡ extended_source more (read_source (suc n) end s bytes)
 begins_on n m end more s bytes t at rest e f each =
     let ends = length-append end more in
     let rests = length-append rest more in
-    elim (cases_Bool (fits end rest)) [
+    elim (cases_Bool (fits_source end rest)) [
       | inl fit ↦
           let short = leb-true (length end) (length rest) fit in
           token_on (place_within s t) n m end more s bytes t at rest refl e f fit (fits_from (end ++ more) (rest ++ more) (omega arith)) (each short)
       | inr long ↦
           let past = leb-false (length end) (length rest) long in
           by_long m (end ++ more) s (bytes ++ more) t (at ++ more) (rest ++ more) f (fits_not (end ++ more) (rest ++ more) (omega arith))
-          ∙ ap (extended more) (sym (by_long n end s bytes t at rest e long))
+          ∙ ap (extended_source more) (sym (by_long n end s bytes t at rest e long))
     ]
 
-stops_on : (n m : ℕ) (end more : List ℕ) (s : Place) (bytes from : List ℕ) → first_token bytes ≡ Stops from → first_token (bytes ++ more) ≡ Stops (from ++ more) → read_source (suc m) (end ++ more) s (bytes ++ more) ≡ extended more (read_source (suc n) end s bytes)
+stops_on : (n m : ℕ) (end more : List ℕ) (s : StatementPlace) (bytes from : List ℕ) → first_token bytes ≡ Stops from → first_token (bytes ++ more) ≡ Stops (from ++ more) → read_source (suc m) (end ++ more) s (bytes ++ more) ≡ extended_source more (read_source (suc n) end s bytes)
 stops_on n m end more s bytes from e f =
     let ends = length-append end more in
     let froms = length-append from more in
     by_first m (end ++ more) s (bytes ++ more) (Stops (from ++ more)) f
-    ∙ elim (cases_Bool (fits end from)) [
+    ∙ elim (cases_Bool (fits_source end from)) [
       | inl fit ↦
           let short = leb-true (length end) (length from) fit in
           ap Unreadable (not_past_before (end ++ more) (from ++ more) (omega arith))
-          ∙ ap (extended more) (ap Unreadable (sym (not_past_before end from short)))
+          ∙ ap (extended_source more) (ap Unreadable (sym (not_past_before end from short)))
       | inr long ↦
           let past = leb-false (length end) (length from) long in
           ap Unreadable (not_past_behind (end ++ more) (from ++ more) (omega arith))
-          ∙ ap (extended more) (ap Unreadable (sym (not_past_behind end from past)))
+          ∙ ap (extended_source more) (ap Unreadable (sym (not_past_behind end from past)))
     ]
-    ∙ ap (extended more) (sym (by_first n end s bytes (Stops from) e))
+    ∙ ap (extended_source more) (sym (by_first n end s bytes (Stops from) e))
 
-front_on : FindsSpelled → (n m : ℕ) (end more : List ℕ) (s : Place) (bytes : List ℕ) → 0 < length end → length bytes < suc n → length (bytes ++ more) < suc m → FrontOn more (first_token bytes) (first_token (bytes ++ more)) → ((rest : List ℕ) → length end ≤ length rest → length rest < n → length (rest ++ more) < m → EachOn n m end more rest) → read_source (suc m) (end ++ more) s (bytes ++ more) ≡ extended more (read_source (suc n) end s bytes)
+front_on : FindsSpelled → (n m : ℕ) (end more : List ℕ) (s : StatementPlace) (bytes : List ℕ) → 0 < length end → length bytes < suc n → length (bytes ++ more) < suc m → FrontOn more (first_token bytes) (first_token (bytes ++ more)) → ((rest : List ℕ) → length end ≤ length rest → length rest < n → length (rest ++ more) < m → EachOn n m end more rest) → read_source (suc m) (end ++ more) s (bytes ++ more) ≡ extended_source more (read_source (suc n) end s bytes)
 front_on finds n m end more s bytes some enough enough_more (SameBegins t at b bs e f) each =
     let first = found_is_first finds bytes at (b ∷ bs) t e in
     let less = first_shorter t bytes at (b ∷ bs) first in
@@ -351,9 +351,9 @@ front_on finds n m end more s bytes some enough enough_more (SameStops b bs e f)
 front_on finds n m end more s bytes some enough enough_more (FrontBeyond leaves others) each =
     let ends = length-append end more in
     beyond_refused m (end ++ more) s (bytes ++ more) (length more) (first_token (bytes ++ more)) refl others (omega arith)
-    ∙ ap (extended more) (sym (beyond_refused n end s bytes 0 (first_token bytes) refl leaves some))
+    ∙ ap (extended_source more) (sym (beyond_refused n end s bytes 0 (first_token bytes) refl leaves some))
 
-source_on : FindsSpelled → (n m : ℕ) (end more : List ℕ) (s : Place) (bytes : List ℕ) → 0 < length end → length bytes < n → length (bytes ++ more) < m → read_source m (end ++ more) s (bytes ++ more) ≡ extended more (read_source n end s bytes)
+source_on : FindsSpelled → (n m : ℕ) (end more : List ℕ) (s : StatementPlace) (bytes : List ℕ) → 0 < length end → length bytes < n → length (bytes ++ more) < m → read_source m (end ++ more) s (bytes ++ more) ≡ extended_source more (read_source n end s bytes)
 source_on finds zero m end more s bytes some enough enough_more = absurd (omega arith)
 source_on finds (suc n) zero end more s bytes some enough enough_more = absurd (omega arith)
 source_on finds (suc n) (suc m) end more s bytes some enough enough_more =
@@ -371,13 +371,13 @@ past_on bytes more some (SameGap b bs e f) =
     ap (drop longest) f ∙ drop-append-le longest (b ∷ bs) more (omega arith) ∙ ap (λ (xs : List ℕ). drop longest xs ++ more) (sym e)
 past_on bytes more some (GapBeyond e f) = absurd (let none : length (past_longest bytes) ≡ 0 = ap (λ (xs : List ℕ). length (drop longest xs)) e ∙ nothing_past in omega arith)
 
-behind_on : FindsSpelled → (bytes more : List ℕ) → 0 < length (past_longest bytes) → GapOn false bytes more → source_statement (bytes ++ more) ≡ extended more (source_statement bytes)
+behind_on : FindsSpelled → (bytes more : List ℕ) → 0 < length (past_longest bytes) → GapOn false bytes more → source_statement (bytes ++ more) ≡ extended_source more (source_statement bytes)
 behind_on finds bytes more some (SameGap b bs e f) =
     ap (λ (here : List ℕ). source_behind here (bytes ++ more)) f
     ∙ ap (λ (end : List ℕ). read_source (suc (length (bytes ++ more))) end Start (bytes ++ more)) (past_on bytes more some (SameGap b bs e f))
     ∙ source_on finds (suc (length bytes)) (suc (length (bytes ++ more))) (past_longest bytes) more Start bytes some (omega arith) (omega arith)
-    ∙ ap (λ (here : List ℕ). extended more (source_behind here bytes)) (sym e)
+    ∙ ap (λ (here : List ℕ). extended_source more (source_behind here bytes)) (sym e)
 behind_on finds bytes more some (GapBeyond e f) = absurd (let none : length (past_longest bytes) ≡ 0 = ap (λ (xs : List ℕ). length (drop longest xs)) e ∙ nothing_past in omega arith)
 
-pub looks_no_further : FindsSpelled → (bytes more : List ℕ) → 0 < length (past_longest bytes) → source_statement (bytes ++ more) ≡ extended more (source_statement bytes)
+pub looks_no_further : FindsSpelled → (bytes more : List ℕ) → 0 < length (past_longest bytes) → source_statement (bytes ++ more) ≡ extended_source more (source_statement bytes)
 looks_no_further finds bytes more some = behind_on finds bytes more some (gap_on bytes more false)

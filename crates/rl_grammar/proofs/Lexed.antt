@@ -10,8 +10,8 @@ use Rattle.rl_text.specs.Laws.{FindsSpelled}
 use Rattle.rl_text.specs.Reading.{Reading, Found, NoText, Unreadable, reading}
 use Rattle.rl_text.specs.Word.{atom_of, datum_of_atom}
 use Rattle.rl_grammar.specs.Token.{Token}
-use Rattle.rl_grammar.specs.Written.{short_marks, long_marks, at_byte, second_of, short_mark, long_mark, Written, Spelled, Quoting, Short, Long, token_of, IsAlone, Stands, IsTokenAt, IsFirst}
-use Rattle.rl_grammar.specs.Lexer.{behind_gap, Lexed, Lexes, Bad, begins_spelling, before_rest, token_read, lexed_or_bad, lexed_spelling, lexed_long, lexed_mark, lexed, Begins, NoneLeft, first_of, first_behind, first_token}
+use Rattle.rl_grammar.specs.Written.{short_marks, long_marks, at_byte, second_of, short_mark, long_mark, Written, Spelled, Quoting, Short, Long, token_of, IsAlone, StandsWritten, IsTokenAt, IsFirst}
+use Rattle.rl_grammar.specs.Lexer.{behind_gap, Lexed, Lexes, Bad, begins_spelling, before_rest, token_read, lexed_or_bad, lexed_spelling, lexed_long, lexed_mark, lexed, Begins, NoneLeft, first_token_of, first_behind, first_token}
 use Rattle.rl_grammar.proofs.Gaps.{IsSolid, found_solid, gap_passed, none_is_blank, blank_is_none}
 use Rattle.rl_grammar.proofs.Spelled.{spelling_solid, word_is_read, word_first, spelled_here, word_spelled, quote_spelled}
 
@@ -90,7 +90,7 @@ pub record Starts (token : Token) (at rest : List ℕ) : Type 0 where
   pub solid : IsSolid byte
   pub found : lexed byte others ≡ Lexes token rest
 
-written_starts : FindsSpelled → (token : Token) (w : Written) (at rest : List ℕ) → Stands w at rest → token_of w ≡ Some token → Starts token at rest
+written_starts : FindsSpelled → (token : Token) (w : Written) (at rest : List ℕ) → StandsWritten w at rest → token_of w ≡ Some token → Starts token at rest
 written_starts finds token (Spelled w) at rest stands e =
     let first = word_first w token stands.1 e in
     let is : at ≡ first.byte ∷ (first.others ++ rest) = stands.0 ∙ ap (λ (text : List ℕ). text ++ rest) first.is in
@@ -117,14 +117,14 @@ pub token_starts : FindsSpelled → (token : Token) (at rest : List ℕ) → IsT
 token_starts finds token at rest t = written_starts finds token t.written at rest t.stands t.is
 
 -- behind a gap the first token is the one there
-pub first_passed : (gap bytes : List ℕ) (b : ℕ) (bs : List ℕ) → IsSolid b → bytes ≡ gap ++ b ∷ bs → IsGap gap → first_token bytes ≡ first_of (b ∷ bs) (lexed b bs)
+pub first_passed : (gap bytes : List ℕ) (b : ℕ) (bs : List ℕ) → IsSolid b → bytes ≡ gap ++ b ∷ bs → IsGap gap → first_token bytes ≡ first_token_of (b ∷ bs) (lexed b bs)
 first_passed gap bytes b bs solid is gap_is = ap first_token is ∙ ap first_behind (gap_passed gap b bs solid gap_is)
 
 pub first_is_found : FindsSpelled → (bytes at rest : List ℕ) (token : Token) → IsFirst token bytes at rest → first_token bytes ≡ Begins token at rest
 first_is_found finds bytes at rest token f =
     let start = token_starts finds token at rest f.token_is in
     first_passed f.gap bytes start.byte start.others start.solid (f.is ∙ ap (λ (at : List ℕ). f.gap ++ at) start.is) f.is_gap
-    ∙ ap (first_of (start.byte ∷ start.others)) start.found
+    ∙ ap (first_token_of (start.byte ∷ start.others)) start.found
     ∙ ap (λ (at : List ℕ). Begins token at rest) (sym start.is)
 
 -- ---- what is found stands here
@@ -163,7 +163,7 @@ lexed_token finds b bs token rest found = elim (cases_Bool (begins_spelling b)) 
   | inr other ↦ mark_token b bs token rest (rw other at found)
 ]
 
-behind_first : FindsSpelled → (bytes at rest : List ℕ) (token : Token) (b : ℕ) (bs : List ℕ) (l : Lexed) → behind_gap false bytes ≡ b ∷ bs → lexed b bs ≡ l → first_of (b ∷ bs) l ≡ Begins token at rest → IsFirst token bytes at rest
+behind_first : FindsSpelled → (bytes at rest : List ℕ) (token : Token) (b : ℕ) (bs : List ℕ) (l : Lexed) → behind_gap false bytes ≡ b ∷ bs → lexed b bs ≡ l → first_token_of (b ∷ bs) l ≡ Begins token at rest → IsFirst token bytes at rest
 behind_first finds bytes at rest token b bs (Lexes other after) e lexes found =
     let s = found_solid bytes b bs e in
     let token_same : other ≡ token = cc in
@@ -190,7 +190,7 @@ none_behind : (bytes here : List ℕ) → behind_gap false bytes ≡ here → fi
 none_behind bytes [] e none = none_is_blank bytes e
 none_behind bytes (b ∷ bs) e none = absurd (no_none (b ∷ bs) (lexed b bs) none)
   where
-    no_none : (at : List ℕ) (l : Lexed) → first_of at l ≡ NoneLeft → ⊥
+    no_none : (at : List ℕ) (l : Lexed) → first_token_of at l ≡ NoneLeft → ⊥
     no_none at (Lexes token rest) none = absurd cc
     no_none at (Bad from) none = absurd cc
 

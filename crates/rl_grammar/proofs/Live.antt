@@ -1,15 +1,15 @@
 -- Wherever parsing has come, some tokens end the statement well.
 use Rattle.std.proofs.Common.{◌≡◌, true, List, [], ◌∷◌, refl, ◌∙◌}
 use Rattle.rl_grammar.specs.Token.{Semicolon, Do, Token, Identifier, Assign, Close, Colon, Then, Until, In, Does, Separating, End}
-use Rattle.rl_grammar.specs.Tree.{Head, Plain, Just, Also, NoParameters, NoneListed, Listed, Labels, Unlabelled, Label, Declarations, Declared, Group, Block, Prog, group_end, GoBare, Tree, Variable, Bare, Call, Apply, Enclosed, Set, Binary, Raise, Pair, Negate, Signed, IfThen, IfElse, WhileDo, RepeatUntil, ForTo, EachIn, LambdaOf, Grouped, ReturnNone, ReturnOf, GoingTo, Nothing, Something}
-use Rattle.rl_grammar.specs.Grammar.{is_else, begins, is_lambda}
-use Rattle.rl_grammar.specs.Parser.{with_last, Behind, NoPiece, with_piece, Frame, InBinary, InPower, InPair, InNot, InSign, InApply, InSet, InEnclosed, InCond, InThen, InElse, InWhile, InDo, InRepeat, InUntil, InFrom, InTo, InFor, InOf, InEach, InLambda, InArgs, InPiece, InReturn, wanted, Listing, Begun, Opening, Naming, Parted, Over, State, Want, Named, Has, Opened, Shut, Returned, AtPiece, AtName, AtDeclarations, AtScalar, AtNames, AtMore, AtParameters, AtFor, AtIndex, AtEach, AtIn, AtGo, AtGoal, Step, Goes, ended, after, is_colon, Read, after_step, run}
+use Rattle.rl_grammar.specs.Tree.{NameUse, Plain, Just, Also, NoParameters, NoneListed, Listed, Labels, Unlabelled, Label, Declarations, Declared, Group, Block, Prog, group_end, GoBare, Tree, Variable, Bare, Call, Apply, Enclosed, Set, Binary, Raise, Pair, Negate, Signed, IfThen, IfElse, WhileDo, RepeatUntil, ForTo, EachIn, LambdaOf, Grouped, ReturnNone, ReturnOf, GoingTo, Nothing, Something}
+use Rattle.rl_grammar.specs.Grammar.{is_else, begins, is_parenthesized_lambda}
+use Rattle.rl_grammar.specs.Parser.{with_last, Behind, NoPiece, pieces_with, ParserFrame, InBinary, InPower, InPair, InNot, InSign, InApply, InSet, InEnclosed, InCond, InThen, InElse, InWhile, InDo, InRepeat, InUntil, InFrom, InTo, InFor, InOf, InEach, InLambda, InArgs, InPiece, InReturn, operand_level, Listing, Begun, Opening, Naming, Parted, Over, ParserState, Want, Named, Has, Opened, Shut, Returned, AtPiece, AtName, AtDeclarations, AtScalar, AtNames, AtMore, AtParameters, AtFor, AtIndex, AtEach, AtIn, AtGo, AtGoal, ParserStep, Goes, operand_ended, after, is_colon, Read, after_parser_step, parser_run}
 use Rattle.rl_tree.specs.Name.{t_name}
 use Rattle.std.proofs.lemmas.Bool.{cond_both, cond-false, not-true}
 use Rattle.rl_grammar.proofs.Complete.{closes, closes_goes, closes_else, closes_follows, closes_begins, name_read, shut_read, reduced, by_step}
 
 -- the token that ends the innermost that only a token can end, and those that end all else
-abbrev closer : List Frame → Token
+abbrev closer : List ParserFrame → Token
 closer [] = Separating Semicolon
 closer (InEnclosed ∷ fs) = Close
 closer (InCond ∷ fs) = Then
@@ -22,7 +22,7 @@ closer (InArgs c es ∷ fs) = Close
 closer (InPiece g ps ls ∷ fs) = group_end g
 closer (f ∷ fs) = closer fs
 
-abbrev closers : List Frame → List Token
+abbrev closers : List ParserFrame → List Token
 closers [] = []
 closers (InEnclosed ∷ fs) = closer fs ∷ closers fs
 closers (InCond ∷ fs) = Identifier t_name ∷ closer fs ∷ closers fs
@@ -35,7 +35,7 @@ closers (InArgs c es ∷ fs) = closer fs ∷ closers fs
 closers (InPiece g ps ls ∷ fs) = closer fs ∷ closers fs
 closers (f ∷ fs) = closers fs
 
-closer_closes : (fs : List Frame) → closes (closer fs) ≡ true
+closer_closes : (fs : List ParserFrame) → closes (closer fs) ≡ true
 closer_closes [] = refl
 closer_closes (InEnclosed ∷ fs) = refl
 closer_closes (InCond ∷ fs) = refl
@@ -49,30 +49,30 @@ closer_closes (InPiece Block ps ls ∷ fs) = refl
 closer_closes (InPiece (Prog ds) ps ls ∷ fs) = refl
 closer_closes (f ∷ fs) = closer_closes fs
 
-record Finish (s : State) (ts : List Token) : Type 0 where
+record Finish (s : ParserState) (ts : List Token) : Type 0 where
   tree : Tree
-  read : run s ts ≡ Read tree Semicolon []
+  read : parser_run s ts ≡ Read tree Semicolon []
 
 -- what ends all that has begun
-abbrev ending : List Frame → List Token
+abbrev ending : List ParserFrame → List Token
 ending fs = closer fs ∷ closers fs
 
 -- the innermost ends as this
-reduces : (f : Frame) (fs : List Frame) (a b : Tree) → ended f fs a (closer fs) (λ b. after fs b (closer fs)) ≡ after fs b (closer fs) → Finish (Has fs b) (ending fs) → Finish (Has (f ∷ fs) a) (ending fs)
-reduces f fs a b e finish = record { tree = finish.tree; read = reduced f fs a b (closer fs) (closers fs) (closes_goes (wanted f) (closer fs) (closer_closes fs)) e ∙ finish.read }
+reduces : (f : ParserFrame) (fs : List ParserFrame) (a b : Tree) → operand_ended f fs a (closer fs) (λ b. after fs b (closer fs)) ≡ after fs b (closer fs) → Finish (Has fs b) (ending fs) → Finish (Has (f ∷ fs) a) (ending fs)
+reduces f fs a b e finish = record { tree = finish.tree; read = reduced f fs a b (closer fs) (closers fs) (closes_goes (operand_level f) (closer fs) (closer_closes fs)) e ∙ finish.read }
 
-then_reduces : (fs : List Frame) (a b : Tree) → Finish (Has fs (IfThen a b)) (ending fs) → Finish (Has (InThen a ∷ fs) b) (ending fs)
+then_reduces : (fs : List ParserFrame) (a b : Tree) → Finish (Has fs (IfThen a b)) (ending fs) → Finish (Has (InThen a ∷ fs) b) (ending fs)
 then_reduces fs a b finish = reduces (InThen a) fs b (IfThen a b) (cond-false (is_else (closer fs)) _ _ (not-true _ (closes_else (closer fs) (closer_closes fs)))) finish
 
-name_reads : (fs : List Frame) (h : Head) (t : Token) (ts : List Token) → closes t ≡ true → Finish (Has fs (Variable h)) (t ∷ ts) → Finish (Named fs h) (t ∷ ts)
+name_reads : (fs : List ParserFrame) (h : NameUse) (t : Token) (ts : List Token) → closes t ≡ true → Finish (Has fs (Variable h)) (t ∷ ts) → Finish (Named fs h) (t ∷ ts)
 name_reads fs h t ts e finish = record { tree = finish.tree; read = name_read fs h t ts (closes_follows t e) ∙ finish.read }
 
 -- an operand, and what ends all that has begun
-operand : (fs : List Frame) → Finish (Has fs (Variable (Plain t_name))) (ending fs) → Finish (Want fs) (Identifier t_name ∷ ending fs)
+operand : (fs : List ParserFrame) → Finish (Has fs (Variable (Plain t_name))) (ending fs) → Finish (Want fs) (Identifier t_name ∷ ending fs)
 operand fs finish = let name = name_reads fs (Plain t_name) (closer fs) (closers fs) (closer_closes fs) finish in record { tree = name.tree; read = name.read }
 
 -- the last operand of what ends with it
-last_operand : (f : Frame) (fs : List Frame) (b : Tree) → ended f fs (Variable (Plain t_name)) (closer fs) (λ b. after fs b (closer fs)) ≡ after fs b (closer fs) → Finish (Has fs b) (ending fs) → Finish (Want (f ∷ fs)) (Identifier t_name ∷ ending fs)
+last_operand : (f : ParserFrame) (fs : List ParserFrame) (b : Tree) → operand_ended f fs (Variable (Plain t_name)) (closer fs) (λ b. after fs b (closer fs)) ≡ after fs b (closer fs) → Finish (Has fs b) (ending fs) → Finish (Want (f ∷ fs)) (Identifier t_name ∷ ending fs)
 last_operand f fs b e finish =
     let name = name_reads (f ∷ fs) (Plain t_name) (closer fs) (closers fs) (closer_closes fs) (reduces f fs (Variable (Plain t_name)) b e finish) in
     record { tree = name.tree; read = name.read }
@@ -80,13 +80,13 @@ last_operand f fs b e finish =
 abbrev zero_variable : Tree
 zero_variable = Variable (Plain t_name)
 
-enclosed_ends : (fs : List Frame) (a : Tree) → Finish (Has fs (Enclosed a)) (ending fs) → Finish (Has (InEnclosed ∷ fs) a) (Close ∷ ending fs)
+enclosed_ends : (fs : List ParserFrame) (a : Tree) → Finish (Has fs (Enclosed a)) (ending fs) → Finish (Has (InEnclosed ∷ fs) a) (Close ∷ ending fs)
 enclosed_ends fs a finish = record {
   tree = finish.tree;
-  read = cond_both (is_lambda a) (Goes (Shut fs a)) (Goes (Has fs (Enclosed a))) (λ (st : Step). after_step (ending fs) Close st (λ s. run s (ending fs)) ≡ run (Has fs (Enclosed a)) (ending fs)) (λ lambda. shut_read fs a (closer fs) (closers fs) (closes_follows _ (closer_closes fs))) (λ other. refl) ∙ finish.read;
+  read = cond_both (is_parenthesized_lambda a) (Goes (Shut fs a)) (Goes (Has fs (Enclosed a))) (λ (st : ParserStep). after_parser_step (ending fs) Close st (λ s. parser_run s (ending fs)) ≡ parser_run (Has fs (Enclosed a)) (ending fs)) (λ lambda. shut_read fs a (closer fs) (closers fs) (closes_follows _ (closer_closes fs))) (λ other. refl) ∙ finish.read;
 }
 
-finish : (fs : List Frame) (a : Tree) → Finish (Has fs a) (ending fs)
+finish : (fs : List ParserFrame) (a : Tree) → Finish (Has fs a) (ending fs)
 finish [] a = record { tree = a; read = refl }
 finish (InBinary o b ∷ fs) a = reduces (InBinary o b) fs a (Binary o b a) refl (finish fs (Binary o b a))
 finish (InPower b ∷ fs) a = reduces (InPower b) fs a (Raise b a) refl (finish fs (Raise b a))
@@ -112,41 +112,41 @@ finish (InOf e x ∷ fs) a = let last = last_operand (InEach e x a Do) fs (EachI
 finish (InEach e x b w ∷ fs) a = reduces (InEach e x b w) fs a (EachIn e x b w a) refl (finish fs (EachIn e x b w a))
 finish (InLambda p ∷ fs) a = reduces (InLambda p) fs a (LambdaOf p a) refl (finish fs (LambdaOf p a))
 finish (InArgs c es ∷ fs) a = let outer = finish fs (Call c (with_last es a)) in record { tree = outer.tree; read = outer.read }
-finish (InPiece Block ps ls ∷ fs) a = let outer = finish fs (Grouped Block (with_piece ps (Something ls a))) in record { tree = outer.tree; read = outer.read }
-finish (InPiece (Prog ds) ps ls ∷ fs) a = let outer = finish fs (Grouped (Prog ds) (with_piece ps (Something ls a))) in record { tree = outer.tree; read = outer.read }
+finish (InPiece Block ps ls ∷ fs) a = let outer = finish fs (Grouped Block (pieces_with ps (Something ls a))) in record { tree = outer.tree; read = outer.read }
+finish (InPiece (Prog ds) ps ls ∷ fs) a = let outer = finish fs (Grouped (Prog ds) (pieces_with ps (Something ls a))) in record { tree = outer.tree; read = outer.read }
 finish (InReturn ∷ fs) a = reduces InReturn fs a (ReturnOf a) refl (finish fs (ReturnOf a))
 
 -- the tokens make a label of a name that may be one
-abbrev pub LabelsName : State → List Token → Type 0
+abbrev pub LabelsName : ParserState → List Token → Type 0
 LabelsName (AtName fs g ps ls x) [] = ⊥
 LabelsName (AtName fs g ps ls x) (t ∷ ts) = is_colon t ≡ true
 LabelsName s ts = Unit {0}
 
 -- tokens that end the statement well
-pub record Live (s : State) : Type 0 where
+pub record Live (s : ParserState) : Type 0 where
   pub tokens : List Token
   pub tree : Tree
-  pub read : run s tokens ≡ Read tree Semicolon []
+  pub read : parser_run s tokens ≡ Read tree Semicolon []
   pub labels : LabelsName s tokens
 
-pieces_live : (fs : List Frame) (g : Group) (ps : Behind) (ls : Labels) → Finish (AtPiece fs g ps ls) (group_end g ∷ ending fs)
-pieces_live fs Block ps ls = let outer = finish fs (Grouped Block (with_piece ps (Nothing ls))) in record { tree = outer.tree; read = outer.read }
-pieces_live fs (Prog ds) ps ls = let outer = finish fs (Grouped (Prog ds) (with_piece ps (Nothing ls))) in record { tree = outer.tree; read = outer.read }
+pieces_live : (fs : List ParserFrame) (g : Group) (ps : Behind) (ls : Labels) → Finish (AtPiece fs g ps ls) (group_end g ∷ ending fs)
+pieces_live fs Block ps ls = let outer = finish fs (Grouped Block (pieces_with ps (Nothing ls))) in record { tree = outer.tree; read = outer.read }
+pieces_live fs (Prog ds) ps ls = let outer = finish fs (Grouped (Prog ds) (pieces_with ps (Nothing ls))) in record { tree = outer.tree; read = outer.read }
 
-declarations_live : (fs : List Frame) (ds : Declarations) → Finish (AtDeclarations fs ds) (End ∷ ending fs)
-declarations_live fs ds = let outer = finish fs (Grouped (Prog ds) (with_piece NoPiece (Nothing Unlabelled))) in record { tree = outer.tree; read = outer.read }
+declarations_live : (fs : List ParserFrame) (ds : Declarations) → Finish (AtDeclarations fs ds) (End ∷ ending fs)
+declarations_live fs ds = let outer = finish fs (Grouped (Prog ds) (pieces_with NoPiece (Nothing Unlabelled))) in record { tree = outer.tree; read = outer.read }
 
-want_live : (fs : List Frame) → Finish (Want fs) (Identifier t_name ∷ ending fs)
+want_live : (fs : List ParserFrame) → Finish (Want fs) (Identifier t_name ∷ ending fs)
 want_live fs = operand fs (finish fs zero_variable)
 
-parameters_live : (fs : List Frame) (l : Listing) → Live (AtParameters fs l)
+parameters_live : (fs : List ParserFrame) (l : Listing) → Live (AtParameters fs l)
 parameters_live fs Begun = let end = want_live (InLambda NoParameters ∷ fs) in record { tokens = Separating Semicolon ∷ Identifier t_name ∷ ending fs; tree = end.tree; read = end.read; labels = tt }
 parameters_live fs Opening = let end = want_live (InLambda NoneListed ∷ fs) in record { tokens = Close ∷ Separating Semicolon ∷ Identifier t_name ∷ ending fs; tree = end.tree; read = end.read; labels = tt }
 parameters_live fs (Naming xs) = let end = want_live (InLambda (Listed xs) ∷ fs) in record { tokens = Close ∷ Separating Semicolon ∷ Identifier t_name ∷ ending fs; tree = end.tree; read = end.read; labels = tt }
 parameters_live fs (Parted xs) = let end = want_live (InLambda (Listed (Also xs t_name)) ∷ fs) in record { tokens = Identifier t_name ∷ Close ∷ Separating Semicolon ∷ Identifier t_name ∷ ending fs; tree = end.tree; read = end.read; labels = tt }
 parameters_live fs (Over p) = let end = want_live (InLambda p ∷ fs) in record { tokens = Separating Semicolon ∷ Identifier t_name ∷ ending fs; tree = end.tree; read = end.read; labels = tt }
 
-pub live : (s : State) → Live s
+pub live : (s : ParserState) → Live s
 live (Want fs) = let end = want_live fs in record { tokens = Identifier t_name ∷ ending fs; tree = end.tree; read = end.read; labels = tt }
 live (Named fs h) = let end = name_reads fs h (closer fs) (closers fs) (closer_closes fs) (finish fs (Variable h)) in record { tokens = ending fs; tree = end.tree; read = end.read; labels = tt }
 live (Has fs a) = let end = finish fs a in record { tokens = ending fs; tree = end.tree; read = end.read; labels = tt }

@@ -3,12 +3,12 @@ use Rattle.std.proofs.Common.{◌≡◌, ◌↔◌, ℕ, suc, ◌+◌, ◌-◌, 
 use Rattle.std.proofs.lemmas.Bool.{and_parts, and_from}
 use Rattle.std.proofs.lemmas.List.{take-append-drop, take-take, length-append, take_at}
 use Rattle.rl_grammar.specs.Token.{Separator, Semicolon, Token}
-use Rattle.rl_grammar.specs.Tree.{Body}
+use Rattle.rl_grammar.specs.Tree.{StatementBody}
 use Rattle.rl_grammar.specs.Grammar.{IsStatement}
-use Rattle.rl_grammar.specs.Parser.{Frame, AtName, is_colon}
-use Rattle.rl_grammar.specs.Statement.{Place, Start, Inside, PlaceStep, GoesTo, Ends, Fails, place_step, Result, Parsed, Syntax, after_place, run_place}
+use Rattle.rl_grammar.specs.Parser.{ParserFrame, AtName, is_colon}
+use Rattle.rl_grammar.specs.Statement.{StatementPlace, Start, Inside, PlaceStep, GoesTo, Ends, Fails, place_step, Result, Parsed, Syntax, after_place, run_place}
 use Rattle.rl_grammar.specs.Nesting.{statement_nests}
-use Rattle.rl_grammar.specs.Within.{nesting, place_within, run_within, parse_within}
+use Rattle.rl_grammar.specs.Within.{nesting, place_within, place_run_within, parse_within}
 use Rattle.rl_grammar.specs.Bound.{AllWithin, BeginsWithin, IsRefusedWithin}
 use Rattle.rl_grammar.proofs.Deep.{name_depth}
 use Rattle.rl_grammar.proofs.Counted.{told_place, owed, known_behind, known, statement_is_known}
@@ -19,27 +19,27 @@ use Rattle.rl_grammar.proofs.OnePlace.{one_place}
 -- ---- so many of the numbers belong to the tokens that were taken
 
 -- what is open about the last token stands before those
-abbrev held : Place → ℕ → ℕ
+abbrev held : StatementPlace → ℕ → ℕ
 held (Inside b (AtName fs g ps ls x)) n = suc n
 held s n = n
 
-take_told : (next : Place) (n : ℕ) (ns : List ℕ) → take (suc n) (told_place next ns) ≡ told_place next (take (held next n) ns)
+take_told : (next : StatementPlace) (n : ℕ) (ns : List ℕ) → take (suc n) (told_place next ns) ≡ told_place next (take (held next n) ns)
 take_told (Inside b (AtName fs g ps ls x)) n ns = refl
 take_told (Inside b s) n ns = refl
 take_told s n ns = refl
 
-take_owed : (s : Place) (t : Token) (n : ℕ) (ns : List ℕ) → take (held s (suc n)) (owed s t ++ ns) ≡ owed s t ++ take (suc n) ns
+take_owed : (s : StatementPlace) (t : Token) (n : ℕ) (ns : List ℕ) → take (held s (suc n)) (owed s t ++ ns) ≡ owed s t ++ take (suc n) ns
 take_owed (Inside b (AtName fs g ps ls x)) t n ns = refl
 take_owed s t n ns = refl
 
-take_known : (s : Place) (t : Token) (next : Place) (n : ℕ) (ns : List ℕ) → take (held s (suc n)) (owed s t ++ told_place next ns) ≡ owed s t ++ told_place next (take (held next n) ns)
+take_known : (s : StatementPlace) (t : Token) (next : StatementPlace) (n : ℕ) (ns : List ℕ) → take (held s (suc n)) (owed s t ++ told_place next ns) ≡ owed s t ++ told_place next (take (held next n) ns)
 take_known s t next n ns = take_owed s t n (told_place next ns) ∙ ap (λ (ns : List ℕ). owed s t ++ ns) (take_told next n ns)
 
 -- where a label is made of the last token, what is known of it is within the bound
-colon_small : (fs : List Frame) (t : Token) → is_colon t ≡ true → small (nesting fs) ≡ true → small (name_depth fs t) ≡ true
+colon_small : (fs : List ParserFrame) (t : Token) → is_colon t ≡ true → small (nesting fs) ≡ true → small (name_depth fs t) ≡ true
 colon_small fs t colon low = rw colon low
 
-none_taken : (s : Place) (more : List Token) → Low s → LabelsPlace s more → AllWithin (take (held s 0) (known s more))
+none_taken : (s : StatementPlace) (more : List Token) → Low s → LabelsPlace s more → AllWithin (take (held s 0) (known s more))
 none_taken (Inside b (AtName fs g ps ls x)) [] low labels = absurd labels
 none_taken (Inside b (AtName fs g ps ls x)) (t ∷ ts) low labels = and_from _ _ (colon_small fs t labels low) refl
 none_taken s more low labels = refl
@@ -47,21 +47,21 @@ none_taken s more low labels = refl
 -- ---- tokens in front of the refused one
 
 -- all the tokens in front go on, whatever follows them, and are within the bound; and the token behind them is refused, whatever follows it
-record Stops (s : Place) (ts from : List Token) : Type 0 where
+record Stops (s : StatementPlace) (ts from : List Token) : Type 0 where
   front : List Token
   is : ts ≡ front ++ from
-  at : Place
+  at : StatementPlace
   goes : (more : List Token) → run_place s (front ++ more) ≡ run_place at more
-  through : (more : List Token) → run_within s (front ++ more) ≡ run_within at more
+  through : (more : List Token) → place_run_within s (front ++ more) ≡ place_run_within at more
   within : (more : List Token) → LabelsPlace at more → AllWithin (take (held s (length front)) (known s (front ++ more)))
-  refuses : (t : Token) (others more : List Token) → from ≡ t ∷ others → run_within at (t ∷ more) ≡ Syntax (t ∷ more)
+  refuses : (t : Token) (others more : List Token) → from ≡ t ∷ others → place_run_within at (t ∷ more) ≡ Syntax (t ∷ more)
 
-one_more : (s : Place) (t : Token) (next : Place) (n : ℕ) (ts : List Token) → Low s → Passes s t next → AllWithin (take (held next n) (known next ts)) → AllWithin (take (held s (suc n)) (known s (t ∷ ts)))
+one_more : (s : StatementPlace) (t : Token) (next : StatementPlace) (n : ℕ) (ts : List Token) → Low s → Passes s t next → AllWithin (take (held next n) (known next ts)) → AllWithin (take (held s (suc n)) (known s (t ∷ ts)))
 one_more s t next n ts low passes all =
     rw (known_by s t ts (GoesTo next) passes.goes, take_known s t next n (known next ts))
     (all_from (owed s t) _ (owed_small s t low passes.admitted) (told_small next (take (held next n) (known next ts)) passes.low all))
 
-stops_here : (s : Place) (t : Token) (ts from : List Token) → Low s → place_within s t ≡ Fails → run_within s (t ∷ ts) ≡ Syntax from → Stops s (t ∷ ts) from
+stops_here : (s : StatementPlace) (t : Token) (ts from : List Token) → Low s → place_within s t ≡ Fails → place_run_within s (t ∷ ts) ≡ Syntax from → Stops s (t ∷ ts) from
 stops_here s t ts from low e refused =
     let stop = sym (by_within s t ts Fails e) ∙ refused in
     let is : t ∷ ts ≡ from = cc in
@@ -75,7 +75,7 @@ stops_here s t ts from low e refused =
       refuses = λ u others more same. let first : u ≡ t = cc in rw first (by_within s t more Fails e);
     }
 
-stops_after : (s : Place) (t : Token) (ts from : List Token) → Low s → Taken s t → run_within s (t ∷ ts) ≡ Syntax from → ((next : Place) → Low next → run_within next ts ≡ Syntax from → Stops next ts from) → Stops s (t ∷ ts) from
+stops_after : (s : StatementPlace) (t : Token) (ts from : List Token) → Low s → Taken s t → place_run_within s (t ∷ ts) ≡ Syntax from → ((next : StatementPlace) → Low next → place_run_within next ts ≡ Syntax from → Stops next ts from) → Stops s (t ∷ ts) from
 stops_after s t ts from low (Passed next passes e) refused each =
     let stops = each next passes.low (sym (by_within s t ts (GoesTo next) e) ∙ refused) in
     record {
@@ -90,7 +90,7 @@ stops_after s t ts from low (Passed next passes e) refused each =
 stops_after s t ts from low (Ended b p admitted ends e) refused each = absurd (let parsed = sym (by_within s t ts (Ends b p) e) ∙ refused in cc)
 stops_after s t ts from low (Failed e) refused each = stops_here s t ts from low e refused
 
-stops : (ts : List Token) (s : Place) (from : List Token) → Low s → run_within s ts ≡ Syntax from → Stops s ts from
+stops : (ts : List Token) (s : StatementPlace) (from : List Token) → Low s → place_run_within s ts ≡ Syntax from → Stops s ts from
 stops [] s from low refused =
     let none : from ≡ [] = cc in
     record {
@@ -119,7 +119,7 @@ front_begins ts from s =
 
 -- ---- no token of such a front is refused
 
-suffix_after : (s : Place) (t : Token) (ts from : List Token) → Taken s t → run_within s (t ∷ ts) ≡ Syntax from → ((next : Place) → run_within next ts ≡ Syntax from → length from ≤ length ts) → length from ≤ length (t ∷ ts)
+suffix_after : (s : StatementPlace) (t : Token) (ts from : List Token) → Taken s t → place_run_within s (t ∷ ts) ≡ Syntax from → ((next : StatementPlace) → place_run_within next ts ≡ Syntax from → length from ≤ length ts) → length from ≤ length (t ∷ ts)
 suffix_after s t ts from (Passed next passes e) refused each = let most = each next (sym (by_within s t ts (GoesTo next) e) ∙ refused) in omega arith
 suffix_after s t ts from (Ended b p admitted ends e) refused each = absurd (let parsed = sym (by_within s t ts (Ends b p) e) ∙ refused in cc)
 suffix_after s t ts from (Failed e) refused each =
@@ -127,28 +127,28 @@ suffix_after s t ts from (Failed e) refused each =
     let is : t ∷ ts ≡ from = cc in
     let same = ap length is in omega arith
 
-pub suffix : (ts : List Token) (s : Place) (from : List Token) → run_within s ts ≡ Syntax from → length from ≤ length ts
+pub suffix : (ts : List Token) (s : StatementPlace) (from : List Token) → place_run_within s ts ≡ Syntax from → length from ≤ length ts
 suffix [] s from refused = let none : from ≡ [] = cc in rw none (omega arith)
 suffix (t ∷ ts) s from refused = suffix_after s t ts from (token_taken s t) refused (λ next refused. suffix ts next from refused)
 
-low_taken : (next : Place) (n : ℕ) (ts : List Token) (b : Body) (p : Separator) (rest : List Token) → run_place next ts ≡ Parsed b p rest → AllWithin (told_place next (take (held next n) (known next ts))) → Low next
+low_taken : (next : StatementPlace) (n : ℕ) (ts : List Token) (b : StatementBody) (p : Separator) (rest : List Token) → run_place next ts ≡ Parsed b p rest → AllWithin (told_place next (take (held next n) (known next ts))) → Low next
 low_taken (Inside c (AtName fs g ps ls x)) n [] b p rest e all = absurd cc
 low_taken (Inside c (AtName fs g ps ls x)) n (t ∷ ts) b p rest e all = name_low fs t (and_parts _ _ all).0
 low_taken (Inside c s) n ts b p rest e all = (and_parts _ _ all).0
 low_taken s n ts b p rest e all = tt
 
-untold : (s : Place) (ns : List ℕ) → AllWithin (told_place s ns) → AllWithin ns
+untold : (s : StatementPlace) (ns : List ℕ) → AllWithin (told_place s ns) → AllWithin ns
 untold (Inside b (AtName fs g ps ls x)) ns all = all
 untold (Inside b s) ns all = (and_parts _ _ all).1
 untold s ns all = all
 
-owed_taken : (s : Place) (t : Token) (n : ℕ) (ns : List ℕ) → AllWithin (take (held s (suc n)) (owed s t ++ ns)) → AllWithin (owed s t)
+owed_taken : (s : StatementPlace) (t : Token) (n : ℕ) (ns : List ℕ) → AllWithin (take (held s (suc n)) (owed s t ++ ns)) → AllWithin (owed s t)
 owed_taken s t n ns all = (all_parts (owed s t) (take (suc n) ns) (rw (take_owed s t n ns) at all)).0
 
-abbrev Later : List Token → List Token → List Token → Body → Separator → List Token → Type 0
-Later front more from b p rest = (s : Place) → run_place s (front ++ more) ≡ Parsed b p rest → AllWithin (take (held s (length front)) (known s (front ++ more))) → run_within s (front ++ more) ≡ Syntax from → length from ≤ length more
+abbrev Later : List Token → List Token → List Token → StatementBody → Separator → List Token → Type 0
+Later front more from b p rest = (s : StatementPlace) → run_place s (front ++ more) ≡ Parsed b p rest → AllWithin (take (held s (length front)) (known s (front ++ more))) → place_run_within s (front ++ more) ≡ Syntax from → length from ≤ length more
 
-later_after : (s : Place) (t : Token) (front more from : List Token) (b : Body) (p : Separator) (rest : List Token) (st : PlaceStep) → place_step s t ≡ st → after_place (front ++ more) t st (λ s. run_place s (front ++ more)) ≡ Parsed b p rest → AllWithin (take (held s (suc (length front))) (owed s t ++ known_behind st (λ s. known s (front ++ more)))) → run_within s (t ∷ (front ++ more)) ≡ Syntax from → Later front more from b p rest → length from ≤ length more
+later_after : (s : StatementPlace) (t : Token) (front more from : List Token) (b : StatementBody) (p : Separator) (rest : List Token) (st : PlaceStep) → place_step s t ≡ st → after_place (front ++ more) t st (λ s. run_place s (front ++ more)) ≡ Parsed b p rest → AllWithin (take (held s (suc (length front))) (owed s t ++ known_behind st (λ s. known s (front ++ more)))) → place_run_within s (t ∷ (front ++ more)) ≡ Syntax from → Later front more from b p rest → length from ≤ length more
 later_after s t front more from b p rest (GoesTo next) goes parsed all refused each =
     let parts = all_parts (owed s t) (told_place next (take (held next (length front)) (known next (front ++ more)))) (rw (take_known s t next (length front) (known next (front ++ more))) at all) in
     let low = low_taken next (length front) (front ++ more) b p rest parsed parts.1 in
@@ -159,7 +159,7 @@ later_after s t front more from b p rest (Ends c q) ends parsed all refused each
     absurd (let whole = sym (by_within s t (front ++ more) (Ends c q) (ends_within s t c q admitted ends)) ∙ refused in cc)
 later_after s t front more from b p rest Fails fails parsed all refused each = absurd cc
 
-later : (front more from : List Token) (b : Body) (p : Separator) (rest : List Token) → Later front more from b p rest
+later : (front more from : List Token) (b : StatementBody) (p : Separator) (rest : List Token) → Later front more from b p rest
 later [] more from b p rest s parsed all refused = suffix more s from refused
 later (t ∷ front) more from b p rest s parsed all refused = later_after s t front more from b p rest (place_step s t) refl parsed all refused (later front more from b p rest)
 
@@ -171,7 +171,7 @@ none_further ts t others s begins =
     let known_is = statement_is_known (front ++ begins.more) begins.tree begins.separator [] parsed in
     let all = subst (λ (ns : List ℕ). AllWithin (take (length front) ns)) (sym known_is) begins.within in
     let same = append_assoc s.front (t ∷ []) begins.more in
-    let refused : run_within Start (front ++ begins.more) ≡ Syntax (t ∷ begins.more) = rw same (s.through (t ∷ begins.more) ∙ s.refuses t others begins.more refl) in
+    let refused : place_run_within Start (front ++ begins.more) ≡ Syntax (t ∷ begins.more) = rw same (s.through (t ∷ begins.more) ∙ s.refuses t others begins.more refl) in
     let most = later front begins.more (t ∷ begins.more) begins.tree begins.separator [] Start parsed all refused in
     absurd (omega arith)
 
@@ -217,17 +217,17 @@ stops_at ts (t ∷ others) s more begins =
     none_further ts t others s (rw e at begins)
 
 -- what is within the bound is parsed
-pub statement_within : (ts : List Token) (a : Body) (p : Separator) (rest : List Token) → IsStatement ts a p rest → AllWithin (statement_nests a) → parse_within ts ≡ Parsed a p rest
+pub statement_within : (ts : List Token) (a : StatementBody) (p : Separator) (rest : List Token) → IsStatement ts a p rest → AllWithin (statement_nests a) → parse_within ts ≡ Parsed a p rest
 statement_within ts a p rest is all =
     let parsed = statement_is_parsed ts a p rest is in
     within_parsed ts Start a p rest parsed (subst (λ (ns : List ℕ). AllWithin ns) (sym (statement_is_known ts a p rest parsed)) all)
 
-pub within_statement : (ts : List Token) (a : Body) (p : Separator) (rest : List Token) → parse_within ts ≡ Parsed a p rest → IsStatement ts a p rest × AllWithin (statement_nests a)
+pub within_statement : (ts : List Token) (a : StatementBody) (p : Separator) (rest : List Token) → parse_within ts ≡ Parsed a p rest → IsStatement ts a p rest × AllWithin (statement_nests a)
 within_statement ts a p rest e =
     let parsed = parsed_within ts Start a p rest tt e in
     (parsed_is_statement ts a p rest parsed.0, subst (λ (ns : List ℕ). AllWithin ns) (statement_is_known ts a p rest parsed.0) parsed.1)
 
-pub parses_within : (ts : List Token) (a : Body) (p : Separator) (rest : List Token) → (parse_within ts ≡ Parsed a p rest) ↔ (IsStatement ts a p rest × AllWithin (statement_nests a))
+pub parses_within : (ts : List Token) (a : StatementBody) (p : Separator) (rest : List Token) → (parse_within ts ≡ Parsed a p rest) ↔ (IsStatement ts a p rest × AllWithin (statement_nests a))
 parses_within ts a p rest = (within_statement ts a p rest, λ both. statement_within ts a p rest both.0 both.1)
 
 refused_behind : (ts from : List Token) → parse_within ts ≡ Syntax from → (s : Stops Start ts from) → IsRefusedWithin ts (length s.front)
@@ -257,32 +257,32 @@ refused_within ts k = (λ r. subst (λ (k : ℕ). IsRefusedWithin ts k) (sym r.2
 
 -- ---- as many numbers as tokens
 
-counts_one : (s : Place) (t : Token) (next : Place) (ns : List ℕ) (m r : ℕ) → length ns + r ≡ held next m → length (owed s t ++ told_place next ns) + r ≡ held s (suc m)
+counts_one : (s : StatementPlace) (t : Token) (next : StatementPlace) (ns : List ℕ) (m r : ℕ) → length ns + r ≡ held next m → length (owed s t ++ told_place next ns) + r ≡ held s (suc m)
 counts_one s t next ns m r e = counts_owed s (told_place next ns) (suc m) (counts_told next e)
   where
-    counts_told : (next : Place) → length ns + r ≡ held next m → length (told_place next ns) + r ≡ suc m
+    counts_told : (next : StatementPlace) → length ns + r ≡ held next m → length (told_place next ns) + r ≡ suc m
     counts_told (Inside b (AtName fs g ps ls x)) e = e
     counts_told (Inside b s) e = omega arith
     counts_told s e = omega arith
 
-    counts_owed : (s : Place) (ns : List ℕ) (m : ℕ) → length ns + r ≡ m → length (owed s t ++ ns) + r ≡ held s m
+    counts_owed : (s : StatementPlace) (ns : List ℕ) (m : ℕ) → length ns + r ≡ m → length (owed s t ++ ns) + r ≡ held s m
     counts_owed (Inside b (AtName fs g ps ls x)) ns m e = omega arith
     counts_owed s ns m e = e
 
-counts_end : (s : Place) (t : Token) (m : ℕ) → length (owed s t ++ 0 ∷ []) + m ≡ held s (suc m)
+counts_end : (s : StatementPlace) (t : Token) (m : ℕ) → length (owed s t ++ 0 ∷ []) + m ≡ held s (suc m)
 counts_end (Inside b (AtName fs g ps ls x)) t m = omega arith
 counts_end s t m = omega arith
 
-counts_after : (s : Place) (t : Token) (ts : List Token) (b : Body) (p : Separator) (rest : List Token) (st : PlaceStep) → after_place ts t st (λ s. run_place s ts) ≡ Parsed b p rest → ((s : Place) → run_place s ts ≡ Parsed b p rest → length (known s ts) + length rest ≡ held s (length ts)) → length (owed s t ++ known_behind st (λ s. known s ts)) + length rest ≡ held s (suc (length ts))
+counts_after : (s : StatementPlace) (t : Token) (ts : List Token) (b : StatementBody) (p : Separator) (rest : List Token) (st : PlaceStep) → after_place ts t st (λ s. run_place s ts) ≡ Parsed b p rest → ((s : StatementPlace) → run_place s ts ≡ Parsed b p rest → length (known s ts) + length rest ≡ held s (length ts)) → length (owed s t ++ known_behind st (λ s. known s ts)) + length rest ≡ held s (suc (length ts))
 counts_after s t ts b p rest (GoesTo next) e each = counts_one s t next (known next ts) (length ts) (length rest) (each next e)
 counts_after s t ts b p rest (Ends c q) e each = let left : ts ≡ rest = cc in rw (← left) (counts_end s t (length ts))
 counts_after s t ts b p rest Fails e each = absurd cc
 
-counts : (ts : List Token) (s : Place) (b : Body) (p : Separator) (rest : List Token) → run_place s ts ≡ Parsed b p rest → length (known s ts) + length rest ≡ held s (length ts)
+counts : (ts : List Token) (s : StatementPlace) (b : StatementBody) (p : Separator) (rest : List Token) → run_place s ts ≡ Parsed b p rest → length (known s ts) + length rest ≡ held s (length ts)
 counts [] s b p rest e = absurd cc
 counts (t ∷ ts) s b p rest e = counts_after s t ts b p rest (place_step s t) e (λ s e. counts ts s b p rest e)
 
-pub counts_tokens : (ts : List Token) (a : Body) (p : Separator) → IsStatement ts a p [] → length (statement_nests a) ≡ length ts
+pub counts_tokens : (ts : List Token) (a : StatementBody) (p : Separator) → IsStatement ts a p [] → length (statement_nests a) ≡ length ts
 counts_tokens ts a p is =
     let parsed = statement_is_parsed ts a p [] is in
     let all = counts ts Start a p [] parsed in

@@ -1,9 +1,9 @@
 -- What is parsed is of the grammar.
 use Rattle.std.proofs.Common.{◌≡◌, ℕ, suc, ◌<◌, ◌≤◌, Bool, true, false, not, ◌&&◌, nat_le, if◌then◌else◌, List, [], ◌∷◌, refl, ap, ◌∙◌, arith}
 use Rattle.rl_grammar.specs.Token.{Or, And, Plus, Minus, Times, Divide, Separator, Semicolon, Do, Token, Identifier, Integer, String, Quoted, Infix, Word, Power, Dot, Not, Assign, Open, Close, Comma, Colon, If, Then, Else, While, Repeat, Until, For, Each, Foreach, In, Does, OpenBlock, CloseBlock, Separating, Begin, End, Scalar, Return, Go, To, Goto, Lambda}
-use Rattle.rl_grammar.specs.Tree.{Head, Plain, Reserved, head_token, Operation, By, ByWord, operation_token, sign_token, Names, names_spelled, parameters_spelled, Labels, Unlabelled, Label, labels_spelled, Declarations, declarations_spelled, Group, Block, Prog, group_spelled, EachOf, each_spelled, going_spelled, Tree, Variable, Whole, Text, Quote, Bare, Call, Apply, Enclosed, Set, Binary, Raise, Pair, Negate, Signed, IfThen, IfElse, WhileDo, RepeatUntil, ForTo, EachIn, LambdaOf, Grouped, ReturnNone, ReturnOf, GoingTo, Callee, EnclosedLambda, Pieces, Piece, Nothing, Something, spelled, callee_spelled, items_spelled, pieces_spelled, piece_spelled}
-use Rattle.rl_grammar.specs.Grammar.{head_level, level, goes, is_else, begins_phrase, begins, ends, is_lambda, LabelsFit, Fits, CalleeFits, ItemsFit, PiecesFit, PieceFits, IsExpr}
-use Rattle.rl_grammar.specs.Parser.{Before, None, After, with_last, Behind, NoPiece, Pieced, with_piece, Frame, InBinary, InPower, InPair, InNot, InSign, InApply, InSet, InEnclosed, InCond, InThen, InElse, InWhile, InDo, InRepeat, InUntil, InFrom, InTo, InFor, InOf, InEach, InLambda, InArgs, InPiece, InReturn, wanted, lowest, Listing, Begun, Opening, Naming, Parted, Over, State, Want, Named, Has, Opened, Shut, Returned, AtPiece, AtName, AtDeclarations, AtScalar, AtNames, AtMore, AtParameters, AtFor, AtIndex, AtEach, AtIn, AtGo, AtGoal, Step, Goes, Done, Refuses, begin, pushed, pieced, ended, whole, after, name_alone, named, call_empty, shut, piece_begins, at_piece, is_colon, at_name, at_declarations, at_names, at_parameters, at_for, at_go, with_identifier, at_index, at_in, step, Read, after_step, run, parse}
+use Rattle.rl_grammar.specs.Tree.{NameUse, Plain, Reserved, head_token, LeftOperator, By, ByWord, operation_token, sign_token, NameList, names_spelled, parameters_spelled, Labels, Unlabelled, Label, labels_spelled, Declarations, declarations_spelled, Group, Block, Prog, group_spelled, EachOf, each_spelled, going_spelled, Tree, Variable, Whole, Text, Quote, Bare, Call, Apply, Enclosed, Set, Binary, Raise, Pair, Negate, Signed, IfThen, IfElse, WhileDo, RepeatUntil, ForTo, EachIn, LambdaOf, Grouped, ReturnNone, ReturnOf, GoingTo, Callee, EnclosedLambda, Pieces, Piece, Nothing, Something, spelled, callee_spelled, items_spelled, pieces_spelled, piece_spelled}
+use Rattle.rl_grammar.specs.Grammar.{head_level, level, goes, is_else, begins_phrase, begins, ends, is_parenthesized_lambda, LabelsFit, Fits, CalleeFits, ItemsFit, PiecesFit, PieceFits, IsExpr}
+use Rattle.rl_grammar.specs.Parser.{Before, None, After, with_last, Behind, NoPiece, Pieced, pieces_with, ParserFrame, InBinary, InPower, InPair, InNot, InSign, InApply, InSet, InEnclosed, InCond, InThen, InElse, InWhile, InDo, InRepeat, InUntil, InFrom, InTo, InFor, InOf, InEach, InLambda, InArgs, InPiece, InReturn, operand_level, lowest, Listing, Begun, Opening, Naming, Parted, Over, ParserState, Want, Named, Has, Opened, Shut, Returned, AtPiece, AtName, AtDeclarations, AtScalar, AtNames, AtMore, AtParameters, AtFor, AtIndex, AtEach, AtIn, AtGo, AtGoal, ParserStep, Goes, Done, Refuses, begin, pushed, pieced, operand_ended, statement_whole, after, name_alone, named, call_empty, shut, piece_begins, at_piece, is_colon, at_name, at_declarations, at_names, at_parameters, at_for, at_go, at_identifier, at_index, at_in, parser_step, Read, after_parser_step, parser_run, parse}
 use Rattle.rl_grammar.specs.Tree as tree
 use Rattle.rl_tree.specs.Name.{Name}
 use Rattle.std.proofs.lemmas.Bool.{cond_both, leb-true, leb-false, and_parts, and_from, not-true, not-false, not_from_false}
@@ -18,7 +18,7 @@ abbrev pub shown_behind : Behind → List Token → List Token
 shown_behind NoPiece ts = ts
 shown_behind (Pieced ps s) ts = pieces_spelled ps (Separating s ∷ ts)
 
-abbrev pub shown : List Frame → List Token → List Token
+abbrev pub shown : List ParserFrame → List Token → List Token
 shown [] ts = ts
 shown (InBinary o a ∷ fs) ts = shown fs (spelled a (operation_token o ∷ ts))
 shown (InPower a ∷ fs) ts = shown fs (spelled a (Power ∷ ts))
@@ -52,7 +52,7 @@ shown_listing (Naming xs) ts = Open ∷ names_spelled xs ts
 shown_listing (Parted xs) ts = Open ∷ names_spelled xs (Comma ∷ ts)
 shown_listing (Over p) ts = parameters_spelled p ts
 
-abbrev pub shown_state : State → List Token → List Token
+abbrev pub shown_state : ParserState → List Token → List Token
 shown_state (Want fs) ts = shown fs ts
 shown_state (Named fs h) ts = shown fs (head_token h ∷ ts)
 shown_state (Has fs a) ts = shown fs (spelled a ts)
@@ -83,7 +83,7 @@ abbrev BehindFits : Group → Behind → Type 0
 BehindFits g NoPiece = Unit {0}
 BehindFits g (Pieced ps s) = PiecesFit g ps
 
-abbrev FrameFits : Frame → List Frame → Type 0
+abbrev FrameFits : ParserFrame → List ParserFrame → Type 0
 FrameFits (InBinary o a) fs = (lowest fs ≤ level o) × Fits (level o) a × (ends a (operation_token o) ≡ true)
 FrameFits (InPower a) fs = (lowest fs ≤ 7) × Fits 8 a × (ends a Power ≡ true)
 FrameFits (InPair a) fs = (lowest fs ≤ 8) × Fits 9 a × (ends a Dot ≡ true)
@@ -103,16 +103,16 @@ FrameFits (InArgs c es) fs = CalleeFits (lowest fs) c × BeforeFits es
 FrameFits (InPiece g ps ls) fs = BehindFits g ps × LabelsFit g ls
 FrameFits f fs = Unit {0}
 
-abbrev FramesFit : List Frame → Type 0
+abbrev FramesFit : List ParserFrame → Type 0
 FramesFit [] = Unit {0}
 FramesFit (f ∷ fs) = FrameFits f fs × FramesFit fs
 
-abbrev pub StateFits : State → Type 0
+abbrev pub StateFits : ParserState → Type 0
 StateFits (Want fs) = FramesFit fs
 StateFits (Named fs h) = FramesFit fs × (lowest fs ≤ head_level h)
 StateFits (Has fs a) = FramesFit fs × Fits (lowest fs) a × ((t : Token) → ends a t ≡ true)
 StateFits (Opened fs c) = FramesFit fs × CalleeFits (lowest fs) c
-StateFits (Shut fs a) = FramesFit fs × (lowest fs ≤ 9) × (is_lambda a ≡ true) × Fits 0 a
+StateFits (Shut fs a) = FramesFit fs × (lowest fs ≤ 9) × (is_parenthesized_lambda a ≡ true) × Fits 0 a
 StateFits (Returned fs) = FramesFit fs
 StateFits (AtPiece fs g ps ls) = FramesFit fs × BehindFits g ps × LabelsFit g ls
 StateFits (AtName fs Block ps ls x) = ⊥
@@ -132,14 +132,14 @@ StateFits (AtGoal fs g) = FramesFit fs
 abbrev pub Front : Type 0
 Front = List Token → List Token
 
-abbrev pub Holds : Front → Token → Step → Type 0
+abbrev pub Holds : Front → Token → ParserStep → Type 0
 Holds front t (Goes s) = ((ts : List Token) → front (t ∷ ts) ≡ shown_state s ts) × StateFits s
 Holds front t (Done a s) = ((ts : List Token) → front (t ∷ ts) ≡ spelled a (Separating s ∷ ts)) × Fits 0 a
 Holds front t Refuses = Unit {0}
 
 -- ---- an operand before an operator is of its level
 
-pub level_most : (o : Operation) → level o ≤ 6
+pub level_most : (o : LeftOperator) → level o ≤ 6
 level_most (By Or) = omega arith
 level_most (By And) = omega arith
 level_most (By Plus) = omega arith
@@ -149,12 +149,12 @@ level_most (By Divide) = omega arith
 level_most (By o) = omega arith
 level_most (ByWord w) = omega arith
 
-head_least : (h : Head) → 9 ≤ head_level h
+head_least : (h : NameUse) → 9 ≤ head_level h
 head_least (Plain x) = omega arith
 head_least (Reserved w) = omega arith
 
 -- an operand of level n does not go on with it
-below : (n : ℕ) (o : Operation) (x : Bool) → (not (goes n (operation_token o)) && x) ≡ true → level o < n
+below : (n : ℕ) (o : LeftOperator) (x : Bool) → (not (goes n (operation_token o)) && x) ≡ true → level o < n
 below n (By o) x e = leb-false _ _ (not-true _ (and_parts _ _ e).0)
 below n (ByWord w) x e = leb-false _ _ (not-true _ (and_parts _ _ e).0)
 
@@ -162,7 +162,7 @@ callee_at : (c : Callee) (n m : ℕ) → CalleeFits n c → m ≤ 9 → CalleeFi
 callee_at (tree.Named h) n m is low = let least = head_least h in omega arith
 callee_at (EnclosedLambda a) n m is low = (low, is.1, is.2)
 
-pub at_operation : (a : Tree) (n : ℕ) (o : Operation) → Fits n a → ends a (operation_token o) ≡ true → Fits (level o) a
+pub at_operation : (a : Tree) (n : ℕ) (o : LeftOperator) → Fits n a → ends a (operation_token o) ≡ true → Fits (level o) a
 at_operation (Variable h) n o is e = let most = level_most o in let least = head_least h in omega arith
 at_operation (Whole k) n o is e = tt
 at_operation (Text k) n o is e = tt
@@ -190,7 +190,7 @@ at_operation (ReturnOf a) n o is e = is
 at_operation (GoingTo g x) n o is e = tt
 
 -- no operator's right operand ends before `**` or `.`
-binary_takes : (o : Operation) (t : Token) (x : Bool) → (not (goes 7 t)) ≡ false → (not (goes (suc (level o)) t) && x) ≡ true → ⊥
+binary_takes : (o : LeftOperator) (t : Token) (x : Bool) → (not (goes 7 t)) ≡ false → (not (goes (suc (level o)) t) && x) ≡ true → ⊥
 binary_takes (By Or) Power x g e = absurd cc
 binary_takes (By And) Power x g e = absurd cc
 binary_takes (By Plus) Power x g e = absurd cc
@@ -267,10 +267,10 @@ at_dot (GoingTo g x) n is e = tt
 
 -- ---- a token
 
-low_holds : (n : ℕ) (fs : List Frame) (front : Front) (t : Token) (st : Step) → (lowest fs ≤ n → Holds front t st) → Holds front t (if nat_le (lowest fs) n then st else Refuses)
+low_holds : (n : ℕ) (fs : List ParserFrame) (front : Front) (t : Token) (st : ParserStep) → (lowest fs ≤ n → Holds front t st) → Holds front t (if nat_le (lowest fs) n then st else Refuses)
 low_holds n fs front t st holds = cond_both (nat_le (lowest fs) n) st Refuses (Holds front t) (λ e. holds (leb-true _ _ e)) (λ e. tt)
 
-name_level : (fs : List Frame) (x : Name) → lowest fs ≤ head_level (Plain x)
+name_level : (fs : List ParserFrame) (x : Name) → lowest fs ≤ head_level (Plain x)
 name_level [] x = omega arith
 name_level (InBinary o a ∷ fs) x = let most = level_most o in omega arith
 name_level (InPower a ∷ fs) x = omega arith
@@ -280,7 +280,7 @@ name_level (InSign s ∷ fs) x = omega arith
 name_level (InApply h ∷ fs) x = omega arith
 name_level (f ∷ fs) x = omega arith
 
-begin_holds : (fs : List Frame) (t : Token) → FramesFit fs → Holds (λ ts. shown fs ts) t (begin fs t)
+begin_holds : (fs : List ParserFrame) (t : Token) → FramesFit fs → Holds (λ ts. shown fs ts) t (begin fs t)
 begin_holds fs (Identifier x) fit = (λ ts. refl, (fit, name_level fs x))
 begin_holds fs (Word w) fit = low_holds 9 fs (λ ts. shown fs ts) (Word w) _ (λ low. (λ ts. refl, (fit, low)))
 begin_holds fs (Integer k) fit = (λ ts. refl, (fit, tt, λ t. refl))
@@ -304,16 +304,16 @@ begin_holds fs Goto fit = (λ ts. refl, fit)
 begin_holds fs t fit = tt
 
 -- what is shown otherwise is the same
-moved : (front other : Front) (t : Token) (st : Step) → ((ts : List Token) → front ts ≡ other ts) → Holds other t st → Holds front t st
+moved : (front other : Front) (t : Token) (st : ParserStep) → ((ts : List Token) → front ts ≡ other ts) → Holds other t st → Holds front t st
 moved front other t (Goes s) is h = (λ ts. is (t ∷ ts) ∙ h.0 ts, h.1)
 moved front other t (Done a s) is h = (λ ts. is (t ∷ ts) ∙ h.0 ts, h.1)
 moved front other t Refuses is h = tt
 
 -- what stands deeper begins
-deeper_holds : (f : Frame) (fs : List Frame) (front : Front) (t : Token) → ((ts : List Token) → front ts ≡ shown (f ∷ fs) ts) → FrameFits f fs → FramesFit fs → Holds front t (begin (f ∷ fs) t)
+deeper_holds : (f : ParserFrame) (fs : List ParserFrame) (front : Front) (t : Token) → ((ts : List Token) → front ts ≡ shown (f ∷ fs) ts) → FrameFits f fs → FramesFit fs → Holds front t (begin (f ∷ fs) t)
 deeper_holds f fs front t is fits outer = moved front (λ ts. shown (f ∷ fs) ts) t (begin (f ∷ fs) t) is (begin_holds (f ∷ fs) t (fits, outer))
 
-pushed_holds : (fs : List Frame) (a : Tree) (t : Token) → goes (lowest fs) t ≡ true → FramesFit fs → Fits (lowest fs) a → ends a t ≡ true → Holds (λ ts. shown fs (spelled a ts)) t (pushed fs a t)
+pushed_holds : (fs : List ParserFrame) (a : Tree) (t : Token) → goes (lowest fs) t ≡ true → FramesFit fs → Fits (lowest fs) a → ends a t ≡ true → Holds (λ ts. shown fs (spelled a ts)) t (pushed fs a t)
 pushed_holds fs a (Infix o) g fit is e = (λ ts. refl, ((leb-true _ _ g, at_operation a _ (By o) is e, e), fit))
 pushed_holds fs a (Word w) g fit is e = (λ ts. refl, ((leb-true _ _ g, at_operation a _ (ByWord w) is e, e), fit))
 pushed_holds fs a Power g fit is e = (λ ts. refl, ((leb-true _ _ g, at_power a _ is e, e), fit))
@@ -328,11 +328,11 @@ last_fits : (es : Before) (a : Tree) → BeforeFits es → Fits 0 a → ItemsFit
 last_fits None a fit is = is
 last_fits (After es) a fit is = (fit, is)
 
-piece_shown : (ps : Behind) (p : Piece) (ts : List Token) → shown_behind ps (piece_spelled p ts) ≡ pieces_spelled (with_piece ps p) ts
+piece_shown : (ps : Behind) (p : Piece) (ts : List Token) → shown_behind ps (piece_spelled p ts) ≡ pieces_spelled (pieces_with ps p) ts
 piece_shown NoPiece p ts = refl
 piece_shown (Pieced ps s) p ts = refl
 
-piece_fits : (g : Group) (ps : Behind) (p : Piece) → BehindFits g ps → PieceFits g p → PiecesFit g (with_piece ps p)
+piece_fits : (g : Group) (ps : Behind) (p : Piece) → BehindFits g ps → PieceFits g p → PiecesFit g (pieces_with ps p)
 piece_fits g NoPiece p fit is = is
 piece_fits g (Pieced ps s) p fit is = (fit, is)
 
@@ -341,17 +341,17 @@ unlabelled_fits Block = tt
 unlabelled_fits (Prog ds) = tt
 
 -- pieces have come
-pieced_holds : (fs : List Frame) (g : Group) (ps : Pieces) (t : Token) → FramesFit fs → PiecesFit g ps → Holds (λ ts. shown fs (group_spelled g (pieces_spelled ps ts))) t (pieced fs g ps t)
+pieced_holds : (fs : List ParserFrame) (g : Group) (ps : Pieces) (t : Token) → FramesFit fs → PiecesFit g ps → Holds (λ ts. shown fs (group_spelled g (pieces_spelled ps ts))) t (pieced fs g ps t)
 pieced_holds fs g ps (Separating s) fit is = (λ ts. refl, (fit, is, unlabelled_fits g))
 pieced_holds fs Block ps CloseBlock fit is = (λ ts. refl, (fit, is, λ t. refl))
 pieced_holds fs (Prog ds) ps End fit is = (λ ts. refl, (fit, is, λ t. refl))
 pieced_holds fs Block ps t fit is = tt
 pieced_holds fs (Prog ds) ps t fit is = tt
 
-abbrev Further : List Frame → Token → Type 0
+abbrev Further : List ParserFrame → Token → Type 0
 Further fs t = (a : Tree) → Fits (lowest fs) a → ends a t ≡ true → Holds (λ ts. shown fs (spelled a ts)) t (after fs a t)
 
-ended_holds : (f : Frame) (fs : List Frame) (a : Tree) (t : Token) → goes (wanted f) t ≡ false → FrameFits f fs → FramesFit fs → Fits (wanted f) a → ends a t ≡ true → Further fs t → Holds (λ ts. shown (f ∷ fs) (spelled a ts)) t (ended f fs a t (λ b. after fs b t))
+ended_holds : (f : ParserFrame) (fs : List ParserFrame) (a : Tree) (t : Token) → goes (operand_level f) t ≡ false → FrameFits f fs → FramesFit fs → Fits (operand_level f) a → ends a t ≡ true → Further fs t → Holds (λ ts. shown (f ∷ fs) (spelled a ts)) t (operand_ended f fs a t (λ b. after fs b t))
 ended_holds (InBinary o b) fs a t g fit outer is e next = next (Binary o b a) (fit.0, fit.1, fit.2, is) (and_from _ _ (not_from_false _ g) e)
 ended_holds (InPower b) fs a t g fit outer is e next = next (Raise b a) (fit.0, fit.1, fit.2, is) (and_from _ _ (not_from_false _ g) e)
 ended_holds (InPair b) fs a t g fit outer is e next = next (Pair b a) (fit.0, fit.1, fit.2, is) (and_from _ _ (not_from_false _ g) e)
@@ -360,7 +360,7 @@ ended_holds (InSign s) fs a t g fit outer is e next = next (Signed s a) (fit, is
 ended_holds (InApply h) fs a t g fit outer is e next = next (Apply h a) (fit, is) (and_from _ _ (not_from_false _ g) e)
 ended_holds (InSet h) fs a t g fit outer is e next = next (Set h a) (fit, is) (and_from _ _ (not_from_false _ g) e)
 ended_holds InEnclosed fs a Close g fit outer is e next =
-    cond_both (is_lambda a) (Goes (Shut fs a)) (Goes (Has fs (Enclosed a))) (Holds (λ ts. shown (InEnclosed ∷ fs) (spelled a ts)) Close)
+    cond_both (is_parenthesized_lambda a) (Goes (Shut fs a)) (Goes (Has fs (Enclosed a))) (Holds (λ ts. shown (InEnclosed ∷ fs) (spelled a ts)) Close)
     (λ lambda. (λ ts. refl, (outer, fit, lambda, is)))
     (λ other. (λ ts. refl, (outer, (fit, is), λ t. refl)))
 ended_holds InCond fs a Then g fit outer is e next = (λ ts. refl, (is, outer))
@@ -386,26 +386,26 @@ ended_holds (InLambda p) fs a t g fit outer is e next = next (LambdaOf p a) is (
 ended_holds (InArgs c es) fs a Comma g fit outer is e next = (λ ts. ap (λ ts. shown fs (callee_spelled c (Open ∷ ts))) (last_shown es a (Comma ∷ ts)), ((fit.0, last_fits es a fit.1 is), outer))
 ended_holds (InArgs c es) fs a Close g fit outer is e next = (λ ts. ap (λ ts. shown fs (callee_spelled c (Open ∷ ts))) (last_shown es a (Close ∷ ts)), (outer, (fit.0, last_fits es a fit.1 is), λ t. refl))
 ended_holds (InPiece h ps ls) fs a t g fit outer is e next =
-    moved (λ ts. shown (InPiece h ps ls ∷ fs) (spelled a ts)) (λ ts. shown fs (group_spelled h (pieces_spelled (with_piece ps (Something ls a)) ts))) t (pieced fs h (with_piece ps (Something ls a)) t)
+    moved (λ ts. shown (InPiece h ps ls ∷ fs) (spelled a ts)) (λ ts. shown fs (group_spelled h (pieces_spelled (pieces_with ps (Something ls a)) ts))) t (pieced fs h (pieces_with ps (Something ls a)) t)
     (λ ts. ap (λ ts. shown fs (group_spelled h ts)) (piece_shown ps (Something ls a) ts))
-    (pieced_holds fs h (with_piece ps (Something ls a)) t outer (piece_fits h ps (Something ls a) fit.0 (fit.1, is)))
+    (pieced_holds fs h (pieces_with ps (Something ls a)) t outer (piece_fits h ps (Something ls a) fit.0 (fit.1, is)))
 ended_holds InReturn fs a t g fit outer is e next = next (ReturnOf a) is (and_from _ _ (not_from_false _ g) e)
 ended_holds f fs a t g fit outer is e next = tt
 
-whole_holds : (a : Tree) (t : Token) → Fits 0 a → Holds (λ ts. spelled a ts) t (whole a t)
+whole_holds : (a : Tree) (t : Token) → Fits 0 a → Holds (λ ts. spelled a ts) t (statement_whole a t)
 whole_holds a (Separating s) is = (λ ts. refl, is)
 whole_holds a t is = tt
 
-after_holds : (fs : List Frame) (a : Tree) (t : Token) → FramesFit fs → Fits (lowest fs) a → ends a t ≡ true → Holds (λ ts. shown fs (spelled a ts)) t (after fs a t)
+after_holds : (fs : List ParserFrame) (a : Tree) (t : Token) → FramesFit fs → Fits (lowest fs) a → ends a t ≡ true → Holds (λ ts. shown fs (spelled a ts)) t (after fs a t)
 after_holds [] a t fit is e =
-    cond_both (goes 0 t) (pushed [] a t) (whole a t) (Holds (λ ts. spelled a ts) t)
+    cond_both (goes 0 t) (pushed [] a t) (statement_whole a t) (Holds (λ ts. spelled a ts) t)
     (λ g. pushed_holds [] a t g fit is e) (λ g. whole_holds a t is)
 after_holds (f ∷ fs) a t fit is e =
-    cond_both (goes (wanted f) t) (pushed (f ∷ fs) a t) (ended f fs a t (λ b. after fs b t)) (Holds (λ ts. shown (f ∷ fs) (spelled a ts)) t)
+    cond_both (goes (operand_level f) t) (pushed (f ∷ fs) a t) (operand_ended f fs a t (λ b. after fs b t)) (Holds (λ ts. shown (f ∷ fs) (spelled a ts)) t)
     (λ g. pushed_holds (f ∷ fs) a t g fit is e)
     (λ g. ended_holds f fs a t g fit.0 fit.1 is e (λ b is e. after_holds fs b t fit.1 is e))
 
-alone_holds : (fs : List Frame) (h : Head) (t : Token) → FramesFit fs → lowest fs ≤ head_level h → Holds (λ ts. shown fs (head_token h ∷ ts)) t (name_alone fs h t)
+alone_holds : (fs : List ParserFrame) (h : NameUse) (t : Token) → FramesFit fs → lowest fs ≤ head_level h → Holds (λ ts. shown fs (head_token h ∷ ts)) t (name_alone fs h t)
 alone_holds fs (Plain x) Assign fit low = low_holds 0 fs (λ ts. shown fs (Identifier x ∷ ts)) Assign _ (λ least. (λ ts. refl, (least, fit)))
 alone_holds fs (Reserved w) Assign fit low = low_holds 0 fs (λ ts. shown fs (Word w ∷ ts)) Assign _ (λ least. (λ ts. refl, (least, fit)))
 alone_holds fs (Plain x) Open fit low = (λ ts. refl, (fit, low))
@@ -413,61 +413,61 @@ alone_holds fs (Reserved w) Open fit low = (λ ts. refl, (fit, low))
 alone_holds fs (Plain x) t fit low = after_holds fs (Variable (Plain x)) t fit low refl
 alone_holds fs (Reserved w) t fit low = after_holds fs (Variable (Reserved w)) t fit low refl
 
-named_holds : (fs : List Frame) (h : Head) (t : Token) → FramesFit fs → lowest fs ≤ head_level h → Holds (λ ts. shown fs (head_token h ∷ ts)) t (named fs h t)
+named_holds : (fs : List ParserFrame) (h : NameUse) (t : Token) → FramesFit fs → lowest fs ≤ head_level h → Holds (λ ts. shown fs (head_token h ∷ ts)) t (named fs h t)
 named_holds fs h t fit low =
     cond_both (begins_phrase t) (begin (InApply h ∷ fs) t) (name_alone fs h t) (Holds (λ ts. shown fs (head_token h ∷ ts)) t)
     (λ e. deeper_holds (InApply h) fs (λ ts. shown fs (head_token h ∷ ts)) t (λ ts. refl) low fit)
     (λ e. alone_holds fs h t fit low)
 
-empty_holds : (fs : List Frame) (c : Callee) (t : Token) → FramesFit fs → CalleeFits (lowest fs) c → Holds (λ ts. shown fs (callee_spelled c (Open ∷ ts))) t (call_empty fs c t)
+empty_holds : (fs : List ParserFrame) (c : Callee) (t : Token) → FramesFit fs → CalleeFits (lowest fs) c → Holds (λ ts. shown fs (callee_spelled c (Open ∷ ts))) t (call_empty fs c t)
 empty_holds fs c Close fit is = (λ ts. refl, (fit, is, λ t. refl))
 empty_holds fs c t fit is = tt
 
-shut_holds : (fs : List Frame) (a : Tree) (t : Token) → StateFits (Shut fs a) → Holds (λ ts. shown fs (Open ∷ spelled a (Close ∷ ts))) t (shut fs a t)
+shut_holds : (fs : List ParserFrame) (a : Tree) (t : Token) → StateFits (Shut fs a) → Holds (λ ts. shown fs (Open ∷ spelled a (Close ∷ ts))) t (shut fs a t)
 shut_holds fs a Open fit = (λ ts. refl, (fit.0, (fit.1, fit.2, fit.3)))
 shut_holds fs a t fit = after_holds fs (Enclosed a) t fit.0 (fit.1, fit.3) refl
 
-abbrev piece_front : List Frame → Group → Behind → Labels → Front
+abbrev piece_front : List ParserFrame → Group → Behind → Labels → Front
 piece_front fs g ps ls ts = shown fs (group_spelled g (shown_behind ps (labels_spelled ls ts)))
 
-begins_holds : (fs : List Frame) (g : Group) (ps : Behind) (ls : Labels) (t : Token) → FramesFit fs → BehindFits g ps → LabelsFit g ls → Holds (λ ts. piece_front fs g ps ls ts) t (piece_begins fs g ps ls t)
+begins_holds : (fs : List ParserFrame) (g : Group) (ps : Behind) (ls : Labels) (t : Token) → FramesFit fs → BehindFits g ps → LabelsFit g ls → Holds (λ ts. piece_front fs g ps ls ts) t (piece_begins fs g ps ls t)
 begins_holds fs (Prog ds) ps ls (Identifier x) fit is ok = (λ ts. refl, (fit, is))
 begins_holds fs (Prog ds) ps ls t fit is ok = deeper_holds (InPiece (Prog ds) ps ls) fs (λ ts. piece_front fs (Prog ds) ps ls ts) t (λ ts. refl) (is, ok) fit
 begins_holds fs Block ps ls t fit is ok = deeper_holds (InPiece Block ps ls) fs (λ ts. piece_front fs Block ps ls ts) t (λ ts. refl) (is, ok) fit
 
-piece_holds : (fs : List Frame) (g : Group) (ps : Behind) (ls : Labels) (t : Token) → FramesFit fs → BehindFits g ps → LabelsFit g ls → Holds (λ ts. piece_front fs g ps ls ts) t (at_piece fs g ps ls t)
+piece_holds : (fs : List ParserFrame) (g : Group) (ps : Behind) (ls : Labels) (t : Token) → FramesFit fs → BehindFits g ps → LabelsFit g ls → Holds (λ ts. piece_front fs g ps ls ts) t (at_piece fs g ps ls t)
 piece_holds fs g ps ls t fit is ok =
-    cond_both (begins t) (piece_begins fs g ps ls t) (pieced fs g (with_piece ps (Nothing ls)) t) (Holds (λ ts. piece_front fs g ps ls ts) t)
+    cond_both (begins t) (piece_begins fs g ps ls t) (pieced fs g (pieces_with ps (Nothing ls)) t) (Holds (λ ts. piece_front fs g ps ls ts) t)
     (λ e. begins_holds fs g ps ls t fit is ok)
-    (λ e. moved (λ ts. piece_front fs g ps ls ts) (λ ts. shown fs (group_spelled g (pieces_spelled (with_piece ps (Nothing ls)) ts))) t (pieced fs g (with_piece ps (Nothing ls)) t)
+    (λ e. moved (λ ts. piece_front fs g ps ls ts) (λ ts. shown fs (group_spelled g (pieces_spelled (pieces_with ps (Nothing ls)) ts))) t (pieced fs g (pieces_with ps (Nothing ls)) t)
     (λ ts. ap (λ ts. shown fs (group_spelled g ts)) (piece_shown ps (Nothing ls) ts))
-    (pieced_holds fs g (with_piece ps (Nothing ls)) t fit (piece_fits g ps (Nothing ls) is ok)))
+    (pieced_holds fs g (pieces_with ps (Nothing ls)) t fit (piece_fits g ps (Nothing ls) is ok)))
 
-colon_holds : (fs : List Frame) (ds : Declarations) (ps : Behind) (ls : Labels) (x : Name) (t : Token) → is_colon t ≡ true → FramesFit fs → BehindFits (Prog ds) ps → Holds (λ ts. piece_front fs (Prog ds) ps ls (Identifier x ∷ ts)) t (Goes (AtPiece fs (Prog ds) ps (Label ls x)))
+colon_holds : (fs : List ParserFrame) (ds : Declarations) (ps : Behind) (ls : Labels) (x : Name) (t : Token) → is_colon t ≡ true → FramesFit fs → BehindFits (Prog ds) ps → Holds (λ ts. piece_front fs (Prog ds) ps ls (Identifier x ∷ ts)) t (Goes (AtPiece fs (Prog ds) ps (Label ls x)))
 colon_holds fs ds ps ls x Colon e fit is = (λ ts. refl, (fit, is, tt))
 colon_holds fs ds ps ls x t e fit is = absurd cc
 
-at_name_holds : (fs : List Frame) (ds : Declarations) (ps : Behind) (ls : Labels) (x : Name) (t : Token) → FramesFit fs → BehindFits (Prog ds) ps → Holds (λ ts. piece_front fs (Prog ds) ps ls (Identifier x ∷ ts)) t (at_name fs (Prog ds) ps ls x t)
+at_name_holds : (fs : List ParserFrame) (ds : Declarations) (ps : Behind) (ls : Labels) (x : Name) (t : Token) → FramesFit fs → BehindFits (Prog ds) ps → Holds (λ ts. piece_front fs (Prog ds) ps ls (Identifier x ∷ ts)) t (at_name fs (Prog ds) ps ls x t)
 at_name_holds fs ds ps ls x t fit is =
     let front : Front = λ ts. piece_front fs (Prog ds) ps ls (Identifier x ∷ ts) in
     cond_both (is_colon t) (Goes (AtPiece fs (Prog ds) ps (Label ls x))) _ (Holds front t)
     (λ e. colon_holds fs ds ps ls x t e fit is)
     (λ e. moved front (λ ts. shown (InPiece (Prog ds) ps ls ∷ fs) (Identifier x ∷ ts)) t (named (InPiece (Prog ds) ps ls ∷ fs) (Plain x) t) (λ ts. refl) (named_holds (InPiece (Prog ds) ps ls ∷ fs) (Plain x) t ((is, tt), fit) (omega arith)))
 
-declarations_holds : (fs : List Frame) (ds : Declarations) (t : Token) → FramesFit fs → Holds (λ ts. shown fs (Begin ∷ declarations_spelled ds ts)) t (at_declarations fs ds t)
+declarations_holds : (fs : List ParserFrame) (ds : Declarations) (t : Token) → FramesFit fs → Holds (λ ts. shown fs (Begin ∷ declarations_spelled ds ts)) t (at_declarations fs ds t)
 declarations_holds fs ds Scalar fit = (λ ts. refl, fit)
 declarations_holds fs ds t fit = piece_holds fs (Prog ds) NoPiece Unlabelled t fit tt tt
 
-identifier_holds : (front : Front) (t : Token) (next : Name → State) → ((x : Name) → Holds front (Identifier x) (Goes (next x))) → Holds front t (with_identifier t next)
+identifier_holds : (front : Front) (t : Token) (next : Name → ParserState) → ((x : Name) → Holds front (Identifier x) (Goes (next x))) → Holds front t (at_identifier t next)
 identifier_holds front (Identifier x) next holds = holds x
 identifier_holds front t next holds = tt
 
-names_holds : (fs : List Frame) (ds : Declarations) (xs : Names) (t : Token) → FramesFit fs → Holds (λ ts. shown fs (Begin ∷ declarations_spelled ds (Scalar ∷ names_spelled xs ts))) t (at_names fs ds xs t)
+names_holds : (fs : List ParserFrame) (ds : Declarations) (xs : NameList) (t : Token) → FramesFit fs → Holds (λ ts. shown fs (Begin ∷ declarations_spelled ds (Scalar ∷ names_spelled xs ts))) t (at_names fs ds xs t)
 names_holds fs ds xs Comma fit = (λ ts. refl, fit)
 names_holds fs ds xs (Separating Semicolon) fit = (λ ts. refl, fit)
 names_holds fs ds xs t fit = tt
 
-parameters_holds : (fs : List Frame) (l : Listing) (t : Token) → FramesFit fs → Holds (λ ts. shown fs (Lambda ∷ shown_listing l ts)) t (at_parameters fs l t)
+parameters_holds : (fs : List ParserFrame) (l : Listing) (t : Token) → FramesFit fs → Holds (λ ts. shown fs (Lambda ∷ shown_listing l ts)) t (at_parameters fs l t)
 parameters_holds fs Begun (Identifier x) fit = (λ ts. refl, fit)
 parameters_holds fs Begun Open fit = (λ ts. refl, fit)
 parameters_holds fs Begun (Separating Semicolon) fit = (λ ts. refl, (tt, fit))
@@ -479,25 +479,25 @@ parameters_holds fs (Parted xs) (Identifier x) fit = (λ ts. refl, fit)
 parameters_holds fs (Over p) (Separating Semicolon) fit = (λ ts. refl, (tt, fit))
 parameters_holds fs l t fit = tt
 
-for_holds : (fs : List Frame) (t : Token) → FramesFit fs → Holds (λ ts. shown fs (For ∷ ts)) t (at_for fs t)
+for_holds : (fs : List ParserFrame) (t : Token) → FramesFit fs → Holds (λ ts. shown fs (For ∷ ts)) t (at_for fs t)
 for_holds fs Each fit = (λ ts. refl, fit)
 for_holds fs (Identifier x) fit = (λ ts. refl, fit)
 for_holds fs t fit = tt
 
-go_holds : (fs : List Frame) (t : Token) → FramesFit fs → Holds (λ ts. shown fs (Go ∷ ts)) t (at_go fs t)
+go_holds : (fs : List ParserFrame) (t : Token) → FramesFit fs → Holds (λ ts. shown fs (Go ∷ ts)) t (at_go fs t)
 go_holds fs To fit = (λ ts. refl, fit)
 go_holds fs (Identifier x) fit = (λ ts. refl, (fit, tt, λ t. refl))
 go_holds fs t fit = tt
 
-index_holds : (fs : List Frame) (x : Name) (t : Token) → FramesFit fs → Holds (λ ts. shown fs (For ∷ Identifier x ∷ ts)) t (at_index fs x t)
+index_holds : (fs : List ParserFrame) (x : Name) (t : Token) → FramesFit fs → Holds (λ ts. shown fs (For ∷ Identifier x ∷ ts)) t (at_index fs x t)
 index_holds fs x Assign fit = (λ ts. refl, (tt, fit))
 index_holds fs x t fit = tt
 
-in_holds : (fs : List Frame) (e : EachOf) (x : Name) (t : Token) → FramesFit fs → Holds (λ ts. shown fs (each_spelled e (Identifier x ∷ ts))) t (at_in fs e x t)
+in_holds : (fs : List ParserFrame) (e : EachOf) (x : Name) (t : Token) → FramesFit fs → Holds (λ ts. shown fs (each_spelled e (Identifier x ∷ ts))) t (at_in fs e x t)
 in_holds fs e x In fit = (λ ts. refl, (tt, fit))
 in_holds fs e x t fit = tt
 
-pub step_holds : (s : State) (t : Token) → StateFits s → Holds (λ ts. shown_state s ts) t (step s t)
+pub step_holds : (s : ParserState) (t : Token) → StateFits s → Holds (λ ts. shown_state s ts) t (parser_step s t)
 step_holds (Want fs) t fit = begin_holds fs t fit
 step_holds (Named fs h) t fit = named_holds fs h t fit.0 fit.1
 step_holds (Has fs a) t fit = after_holds fs a t fit.0 fit.1 (fit.2 t)
@@ -530,14 +530,14 @@ step_holds (AtGoal fs g) t fit = identifier_holds (λ ts. shown_state (AtGoal fs
 abbrev Shows : List Token → Tree → Separator → List Token → Type 0
 Shows ts a p rest = (ts ≡ spelled a (Separating p ∷ rest)) × Fits 0 a
 
-step_shows : (s : State) (t : Token) (ts : List Token) (a : Tree) (p : Separator) (rest : List Token) (st : Step) → Holds (λ ts. shown_state s ts) t st → after_step ts t st (λ s. run s ts) ≡ Read a p rest → ((s : State) → StateFits s → run s ts ≡ Read a p rest → Shows (shown_state s ts) a p rest) → Shows (shown_state s (t ∷ ts)) a p rest
+step_shows : (s : ParserState) (t : Token) (ts : List Token) (a : Tree) (p : Separator) (rest : List Token) (st : ParserStep) → Holds (λ ts. shown_state s ts) t st → after_parser_step ts t st (λ s. parser_run s ts) ≡ Read a p rest → ((s : ParserState) → StateFits s → parser_run s ts ≡ Read a p rest → Shows (shown_state s ts) a p rest) → Shows (shown_state s (t ∷ ts)) a p rest
 step_shows s t ts a p rest (Goes next) h e further = let more = further next h.1 e in (h.0 ts ∙ more.0, more.1)
 step_shows s t ts a p rest (Done b q) h e further = let same : b ≡ a = cc in let ending : q ≡ p = cc in let left : ts ≡ rest = cc in (rw (← left, ← same, ← ending) (h.0 ts), rw (← same) h.1)
 step_shows s t ts a p rest Refuses h e further = absurd cc
 
-run_shows : (ts : List Token) (s : State) (a : Tree) (p : Separator) (rest : List Token) → StateFits s → run s ts ≡ Read a p rest → Shows (shown_state s ts) a p rest
+run_shows : (ts : List Token) (s : ParserState) (a : Tree) (p : Separator) (rest : List Token) → StateFits s → parser_run s ts ≡ Read a p rest → Shows (shown_state s ts) a p rest
 run_shows [] s a p rest fit e = absurd cc
-run_shows (t ∷ ts) s a p rest fit e = step_shows s t ts a p rest (step s t) (step_holds s t fit) e (λ s fit e. run_shows ts s a p rest fit e)
+run_shows (t ∷ ts) s a p rest fit e = step_shows s t ts a p rest (parser_step s t) (step_holds s t fit) e (λ s fit e. run_shows ts s a p rest fit e)
 
 pub parsed_is_expr : (ts : List Token) (a : Tree) (p : Separator) (rest : List Token) → parse ts ≡ Read a p rest → IsExpr ts a p rest
 parsed_is_expr ts a p rest e = let shows = run_shows ts (Want []) a p rest tt e in record { is = shows.0; fits = shows.1 }

@@ -8,13 +8,13 @@ use Rattle.rl_text.specs.Spelling as spelling
 use Rattle.rl_text.specs.Word.{word_text}
 use Rattle.std.specs.Prelude.{Some}
 use Rattle.rl_grammar.specs.Token.{Separator, Token}
-use Rattle.rl_grammar.specs.Written.{Written, Spelled, Quoting, Short, Long, token_of, Stands, IsTokenAt, IsFirst}
+use Rattle.rl_grammar.specs.Written.{Written, Spelled, Quoting, Short, Long, token_of, StandsWritten, IsTokenAt, IsFirst}
 use Rattle.rl_grammar.specs.Lexer.{behind_gap, Front, Begins, NoneLeft, Stops, first_token}
-use Rattle.rl_grammar.specs.Tree.{Body}
-use Rattle.rl_grammar.specs.Statement.{Place, Start, PlaceStep, GoesTo, Ends, Fails, Parsed}
-use Rattle.rl_grammar.specs.Within.{place_within, run_within}
-use Rattle.rl_grammar.specs.Source.{past_longest, AreTokens, IsSource}
-use Rattle.rl_grammar.specs.SourceReader.{HasStatement, NothingLeft, Unreadable, after_token, fits, with_first, read_source, started, source_behind, source_statement}
+use Rattle.rl_grammar.specs.Tree.{StatementBody}
+use Rattle.rl_grammar.specs.Statement.{StatementPlace, Start, PlaceStep, GoesTo, Ends, Fails, Parsed}
+use Rattle.rl_grammar.specs.Within.{place_within, place_run_within}
+use Rattle.rl_grammar.specs.Source.{past_longest, AreTokensOfSource, IsSource}
+use Rattle.rl_grammar.specs.SourceReader.{HasStatement, NothingLeft, Unreadable, after_token, fits_source, with_first, read_source, source_started, source_behind, source_statement}
 use Rattle.rl_grammar.proofs.Gaps.{none_is_blank, blank_is_none}
 use Rattle.rl_grammar.proofs.Spelled.{word_first}
 use Rattle.rl_grammar.proofs.Lexed.{first_is_found, found_is_first, blank_found}
@@ -23,7 +23,7 @@ use Rattle.rl_grammar.proofs.PrefixWithin.{statement_within, within_statement}
 
 -- ---- each token takes a byte at least
 
-spelled_slice : (tokens : List spelling.Token) (bytes rest : List ℕ) → spelling.AreTokens tokens bytes rest → (text : List ℕ) × (bytes ≡ text ++ rest)
+spelled_slice : (tokens : List spelling.LispToken) (bytes rest : List ℕ) → spelling.AreTokens tokens bytes rest → (text : List ℕ) × (bytes ≡ text ++ rest)
 spelled_slice [] bytes rest are = ([], are)
 spelled_slice (token ∷ tokens) bytes rest are =
     let front = are.1 in
@@ -36,7 +36,7 @@ spelled_slice (token ∷ tokens) bytes rest are =
           ∙ sym (append_assoc front.gap (text ++ more.0) rest),
     )
 
-written_slice : (token : Token) (w : Written) (at rest : List ℕ) → Stands w at rest → token_of w ≡ Some token → (text : List ℕ) × (at ≡ text ++ rest) × (0 < length text)
+written_slice : (token : Token) (w : Written) (at rest : List ℕ) → StandsWritten w at rest → token_of w ≡ Some token → (text : List ℕ) × (at ≡ text ++ rest) × (0 < length text)
 written_slice token (Spelled w) at rest stands e =
     let first = word_first w token stands.1 e in
     let some = ap length first.is in
@@ -62,7 +62,7 @@ first_shorter token bytes at rest f =
     let outer = length-append f.gap at in
     omega arith
 
-pub tokens_shorter : (ts : List Token) (bytes rest : List ℕ) → AreTokens ts bytes rest → length rest ≤ length bytes
+pub tokens_shorter : (ts : List Token) (bytes rest : List ℕ) → AreTokensOfSource ts bytes rest → length rest ≤ length bytes
 tokens_shorter [] bytes rest are = let same = ap length are in omega arith
 tokens_shorter (t ∷ ts) bytes rest are =
     let one = first_shorter t bytes are.0 are.1 are.2 in
@@ -71,24 +71,24 @@ tokens_shorter (t ∷ ts) bytes rest are =
 
 -- ---- steps
 
-pub by_first : (n : ℕ) (end : List ℕ) (s : Place) (bytes : List ℕ) (f : Front) → first_token bytes ≡ f → read_source (suc n) end s bytes ≡ with_first end s f (λ s rest. read_source n end s rest)
+pub by_first : (n : ℕ) (end : List ℕ) (s : StatementPlace) (bytes : List ℕ) (f : Front) → first_token bytes ≡ f → read_source (suc n) end s bytes ≡ with_first end s f (λ s rest. read_source n end s rest)
 by_first n end s bytes f e = ap (λ (f : Front). with_first end s f (λ s rest. read_source n end s rest)) e
 
 -- a token that is whole before the end leads on by its step
-pub by_token : (n : ℕ) (end : List ℕ) (s : Place) (bytes : List ℕ) (t : Token) (at rest : List ℕ) (st : PlaceStep) → first_token bytes ≡ Begins t at rest → fits end rest ≡ true → place_within s t ≡ st → read_source (suc n) end s bytes ≡ after_token end at rest st (λ s. read_source n end s rest)
+pub by_token : (n : ℕ) (end : List ℕ) (s : StatementPlace) (bytes : List ℕ) (t : Token) (at rest : List ℕ) (st : PlaceStep) → first_token bytes ≡ Begins t at rest → fits_source end rest ≡ true → place_within s t ≡ st → read_source (suc n) end s bytes ≡ after_token end at rest st (λ s. read_source n end s rest)
 by_token n end s bytes t at rest st e fit step =
     by_first n end s bytes (Begins t at rest) e
-    ∙ cond-true (fits end rest) _ _ fit
+    ∙ cond-true (fits_source end rest) _ _ fit
     ∙ ap (λ (st : PlaceStep). after_token end at rest st (λ s. read_source n end s rest)) step
 
-pub by_long : (n : ℕ) (end : List ℕ) (s : Place) (bytes : List ℕ) (t : Token) (at rest : List ℕ) → first_token bytes ≡ Begins t at rest → fits end rest ≡ false → read_source (suc n) end s bytes ≡ Unreadable end
-by_long n end s bytes t at rest e long = by_first n end s bytes (Begins t at rest) e ∙ cond-false (fits end rest) _ _ long
+pub by_long : (n : ℕ) (end : List ℕ) (s : StatementPlace) (bytes : List ℕ) (t : Token) (at rest : List ℕ) → first_token bytes ≡ Begins t at rest → fits_source end rest ≡ false → read_source (suc n) end s bytes ≡ Unreadable end
+by_long n end s bytes t at rest e long = by_first n end s bytes (Begins t at rest) e ∙ cond-false (fits_source end rest) _ _ long
 
-pub fits_from : (end rest : List ℕ) → length end ≤ length rest → fits end rest ≡ true
+pub fits_from : (end rest : List ℕ) → length end ≤ length rest → fits_source end rest ≡ true
 fits_from end rest short = le-leb (length end) (length rest) short
 
-pub fits_not : (end rest : List ℕ) → length rest < length end → fits end rest ≡ false
-fits_not end rest long = elim (cases_Bool (fits end rest)) [
+pub fits_not : (end rest : List ℕ) → length rest < length end → fits_source end rest ≡ false
+fits_not end rest long = elim (cases_Bool (fits_source end rest)) [
   | inl fit ↦ absurd (let short = leb-true (length end) (length rest) fit in omega arith)
   | inr other ↦ other
 ]
@@ -96,16 +96,16 @@ fits_not end rest long = elim (cases_Bool (fits end rest)) [
 -- ---- what is read is a statement
 
 -- tokens that stand here, and are a statement from this place on
-record Stand (end : List ℕ) (s : Place) (bytes : List ℕ) (b : Body) (p : Separator) (rest : List ℕ) : Type 0 where
+record Stand (end : List ℕ) (s : StatementPlace) (bytes : List ℕ) (b : StatementBody) (p : Separator) (rest : List ℕ) : Type 0 where
   tokens : List Token
-  stand : AreTokens tokens bytes rest
-  parsed : run_within s tokens ≡ Parsed b p []
+  stand : AreTokensOfSource tokens bytes rest
+  parsed : place_run_within s tokens ≡ Parsed b p []
   short : length end ≤ length rest
 
-abbrev EachReads : ℕ → List ℕ → Body → Separator → List ℕ → Type 0
-EachReads n end b p rest = (s : Place) (bytes : List ℕ) → read_source n end s bytes ≡ HasStatement b p rest → Stand end s bytes b p rest
+abbrev EachReads : ℕ → List ℕ → StatementBody → Separator → List ℕ → Type 0
+EachReads n end b p rest = (s : StatementPlace) (bytes : List ℕ) → read_source n end s bytes ≡ HasStatement b p rest → Stand end s bytes b p rest
 
-token_reads : (n : ℕ) (end : List ℕ) (s : Place) (bytes : List ℕ) (b : Body) (p : Separator) (rest : List ℕ) (t : Token) (at after : List ℕ) (st : PlaceStep) → IsFirst t bytes at after → fits end after ≡ true → place_within s t ≡ st → after_token end at after st (λ s. read_source n end s after) ≡ HasStatement b p rest → EachReads n end b p rest → Stand end s bytes b p rest
+token_reads : (n : ℕ) (end : List ℕ) (s : StatementPlace) (bytes : List ℕ) (b : StatementBody) (p : Separator) (rest : List ℕ) (t : Token) (at after : List ℕ) (st : PlaceStep) → IsFirst t bytes at after → fits_source end after ≡ true → place_within s t ≡ st → after_token end at after st (λ s. read_source n end s after) ≡ HasStatement b p rest → EachReads n end b p rest → Stand end s bytes b p rest
 token_reads n end s bytes b p rest t at after (GoesTo next) first fit step e each =
     let more = each next after e in
     record {
@@ -126,42 +126,42 @@ token_reads n end s bytes b p rest t at after (Ends c q) first fit step e each =
     }
 token_reads n end s bytes b p rest t at after Fails first fit step e each = absurd cc
 
-first_reads : FindsSpelled → (n : ℕ) (end : List ℕ) (s : Place) (bytes : List ℕ) (b : Body) (p : Separator) (rest : List ℕ) (f : Front) → first_token bytes ≡ f → with_first end s f (λ s rest. read_source n end s rest) ≡ HasStatement b p rest → EachReads n end b p rest → Stand end s bytes b p rest
-first_reads finds n end s bytes b p rest (Begins t at after) found e each = elim (cases_Bool (fits end after)) [
-  | inl fit ↦ token_reads n end s bytes b p rest t at after (place_within s t) (found_is_first finds bytes at after t found) fit refl (sym (cond-true (fits end after) _ _ fit) ∙ e) each
-  | inr long ↦ absurd (let none = sym (cond-false (fits end after) _ _ long) ∙ e in cc)
+first_reads : FindsSpelled → (n : ℕ) (end : List ℕ) (s : StatementPlace) (bytes : List ℕ) (b : StatementBody) (p : Separator) (rest : List ℕ) (f : Front) → first_token bytes ≡ f → with_first end s f (λ s rest. read_source n end s rest) ≡ HasStatement b p rest → EachReads n end b p rest → Stand end s bytes b p rest
+first_reads finds n end s bytes b p rest (Begins t at after) found e each = elim (cases_Bool (fits_source end after)) [
+  | inl fit ↦ token_reads n end s bytes b p rest t at after (place_within s t) (found_is_first finds bytes at after t found) fit refl (sym (cond-true (fits_source end after) _ _ fit) ∙ e) each
+  | inr long ↦ absurd (let none = sym (cond-false (fits_source end after) _ _ long) ∙ e in cc)
 ]
 first_reads finds n end s bytes b p rest NoneLeft found e each = absurd cc
 first_reads finds n end s bytes b p rest (Stops from) found e each = absurd cc
 
-source_stands : FindsSpelled → (n : ℕ) (end : List ℕ) (s : Place) (bytes : List ℕ) (b : Body) (p : Separator) (rest : List ℕ) → read_source n end s bytes ≡ HasStatement b p rest → Stand end s bytes b p rest
+source_stands : FindsSpelled → (n : ℕ) (end : List ℕ) (s : StatementPlace) (bytes : List ℕ) (b : StatementBody) (p : Separator) (rest : List ℕ) → read_source n end s bytes ≡ HasStatement b p rest → Stand end s bytes b p rest
 source_stands finds zero end s bytes b p rest e = absurd cc
 source_stands finds (suc n) end s bytes b p rest e = first_reads finds n end s bytes b p rest (first_token bytes) refl e (λ s bytes e. source_stands finds n end s bytes b p rest e)
 
-started_is_source : FindsSpelled → (bytes : List ℕ) (b : Body) (p : Separator) (rest : List ℕ) → started bytes ≡ HasStatement b p rest → IsSource bytes b p rest
+started_is_source : FindsSpelled → (bytes : List ℕ) (b : StatementBody) (p : Separator) (rest : List ℕ) → source_started bytes ≡ HasStatement b p rest → IsSource bytes b p rest
 started_is_source finds bytes b p rest e =
     let stand = source_stands finds (suc (length bytes)) (past_longest bytes) Start bytes b p rest e in
     let both = within_statement stand.tokens b p [] stand.parsed in
     record { tokens = stand.tokens; stand = stand.stand; is = both.0; within = both.1; short = stand.short }
 
-read_is_source : FindsSpelled → (bytes : List ℕ) (b : Body) (p : Separator) (rest here : List ℕ) → source_behind here bytes ≡ HasStatement b p rest → IsSource bytes b p rest
+read_is_source : FindsSpelled → (bytes : List ℕ) (b : StatementBody) (p : Separator) (rest here : List ℕ) → source_behind here bytes ≡ HasStatement b p rest → IsSource bytes b p rest
 read_is_source finds bytes b p rest [] e = absurd cc
 read_is_source finds bytes b p rest (c ∷ cs) e = started_is_source finds bytes b p rest e
 
 -- ---- a statement is read
 
-last_read : (ts : List Token) (b c : Body) (p q : Separator) (after rest : List ℕ) → AreTokens ts after rest → Parsed c q ts ≡ Parsed b p [] → HasStatement c q after ≡ HasStatement b p rest
+last_read : (ts : List Token) (b c : StatementBody) (p q : Separator) (after rest : List ℕ) → AreTokensOfSource ts after rest → Parsed c q ts ≡ Parsed b p [] → HasStatement c q after ≡ HasStatement b p rest
 last_read [] b c p q after rest more e = let body : c ≡ b = cc in let separator : q ≡ p = cc in rw (body, separator) (ap (HasStatement b p) more)
 last_read (u ∷ us) b c p q after rest more e = absurd cc
 
-token_read : (st : PlaceStep) (ts : List Token) (n : ℕ) (end : List ℕ) (s : Place) (bytes : List ℕ) (b : Body) (p : Separator) (rest : List ℕ) (t : Token) (at after : List ℕ) → place_within s t ≡ st → first_token bytes ≡ Begins t at after → fits end after ≡ true → AreTokens ts after rest → run_within s (t ∷ ts) ≡ Parsed b p [] → ((next : Place) → run_within next ts ≡ Parsed b p [] → read_source n end next after ≡ HasStatement b p rest) → read_source (suc n) end s bytes ≡ HasStatement b p rest
+token_read : (st : PlaceStep) (ts : List Token) (n : ℕ) (end : List ℕ) (s : StatementPlace) (bytes : List ℕ) (b : StatementBody) (p : Separator) (rest : List ℕ) (t : Token) (at after : List ℕ) → place_within s t ≡ st → first_token bytes ≡ Begins t at after → fits_source end after ≡ true → AreTokensOfSource ts after rest → place_run_within s (t ∷ ts) ≡ Parsed b p [] → ((next : StatementPlace) → place_run_within next ts ≡ Parsed b p [] → read_source n end next after ≡ HasStatement b p rest) → read_source (suc n) end s bytes ≡ HasStatement b p rest
 token_read (GoesTo next) ts n end s bytes b p rest t at after step found fit are parsed each =
     by_token n end s bytes t at after (GoesTo next) found fit step ∙ each next (sym (by_within s t ts (GoesTo next) step) ∙ parsed)
 token_read (Ends c q) ts n end s bytes b p rest t at after step found fit are parsed each =
     by_token n end s bytes t at after (Ends c q) found fit step ∙ last_read ts b c p q after rest are (sym (by_within s t ts (Ends c q) step) ∙ parsed)
 token_read Fails ts n end s bytes b p rest t at after step found fit are parsed each = absurd (let refused = sym (by_within s t ts Fails step) ∙ parsed in cc)
 
-stands_read : FindsSpelled → (ts : List Token) (n : ℕ) (end : List ℕ) (s : Place) (bytes : List ℕ) (b : Body) (p : Separator) (rest : List ℕ) → AreTokens ts bytes rest → run_within s ts ≡ Parsed b p [] → length end ≤ length rest → length bytes < n → read_source n end s bytes ≡ HasStatement b p rest
+stands_read : FindsSpelled → (ts : List Token) (n : ℕ) (end : List ℕ) (s : StatementPlace) (bytes : List ℕ) (b : StatementBody) (p : Separator) (rest : List ℕ) → AreTokensOfSource ts bytes rest → place_run_within s ts ≡ Parsed b p [] → length end ≤ length rest → length bytes < n → read_source n end s bytes ≡ HasStatement b p rest
 stands_read finds [] n end s bytes b p rest are parsed short enough = absurd cc
 stands_read finds (t ∷ ts) zero end s bytes b p rest are parsed short enough = absurd (omega arith)
 stands_read finds (t ∷ ts) (suc n) end s bytes b p rest are parsed short enough =
@@ -172,38 +172,38 @@ stands_read finds (t ∷ ts) (suc n) end s bytes b p rest are parsed short enoug
     token_read (place_within s t) ts n end s bytes b p rest t are.0 are.1 refl (first_is_found finds bytes are.0 are.1 t are.2) fit are.3 parsed
     (λ next parsed. stands_read finds ts n end next are.1 b p rest are.3 parsed short small)
 
-source_is_started : FindsSpelled → (bytes : List ℕ) (b : Body) (p : Separator) (rest : List ℕ) → IsSource bytes b p rest → started bytes ≡ HasStatement b p rest
+source_is_started : FindsSpelled → (bytes : List ℕ) (b : StatementBody) (p : Separator) (rest : List ℕ) → IsSource bytes b p rest → source_started bytes ≡ HasStatement b p rest
 source_is_started finds bytes b p rest is = stands_read finds is.tokens (suc (length bytes)) (past_longest bytes) Start bytes b p rest is.stand (statement_within is.tokens b p [] is.is is.within) is.short (omega arith)
 
 -- a blank text has no tokens
-blank_stands : FindsSpelled → (ts : List Token) (bytes : List ℕ) (b : Body) (p : Separator) (rest : List ℕ) → IsBlankText bytes → AreTokens ts bytes rest → run_within Start ts ≡ Parsed b p [] → ⊥
+blank_stands : FindsSpelled → (ts : List Token) (bytes : List ℕ) (b : StatementBody) (p : Separator) (rest : List ℕ) → IsBlankText bytes → AreTokensOfSource ts bytes rest → place_run_within Start ts ≡ Parsed b p [] → ⊥
 blank_stands finds [] bytes b p rest blank are parsed = absurd cc
 blank_stands finds (t ∷ ts) bytes b p rest blank are parsed = let found = sym (first_is_found finds bytes are.0 are.1 t are.2) ∙ blank_found bytes blank in absurd cc
 
-source_is_read : FindsSpelled → (bytes : List ℕ) (b : Body) (p : Separator) (rest here : List ℕ) → behind_gap false bytes ≡ here → IsSource bytes b p rest → source_behind here bytes ≡ HasStatement b p rest
+source_is_read : FindsSpelled → (bytes : List ℕ) (b : StatementBody) (p : Separator) (rest here : List ℕ) → behind_gap false bytes ≡ here → IsSource bytes b p rest → source_behind here bytes ≡ HasStatement b p rest
 source_is_read finds bytes b p rest [] e is = absurd (blank_stands finds is.tokens bytes b p rest (none_is_blank bytes e) is.stand (statement_within is.tokens b p [] is.is is.within))
 source_is_read finds bytes b p rest (c ∷ cs) e is = source_is_started finds bytes b p rest is
 
-pub reads_source : FindsSpelled → (bytes : List ℕ) (b : Body) (p : Separator) (rest : List ℕ) → (source_statement bytes ≡ HasStatement b p rest) ↔ IsSource bytes b p rest
+pub reads_source : FindsSpelled → (bytes : List ℕ) (b : StatementBody) (p : Separator) (rest : List ℕ) → (source_statement bytes ≡ HasStatement b p rest) ↔ IsSource bytes b p rest
 reads_source finds bytes b p rest = (read_is_source finds bytes b p rest (behind_gap false bytes), source_is_read finds bytes b p rest (behind_gap false bytes) refl)
 
 -- ---- nothing is left
 
-token_some : (n : ℕ) (end : List ℕ) (at rest : List ℕ) (st : PlaceStep) → ((s : Place) → read_source n end s rest ≡ NothingLeft → ⊥) → after_token end at rest st (λ s. read_source n end s rest) ≡ NothingLeft → ⊥
+token_some : (n : ℕ) (end : List ℕ) (at rest : List ℕ) (st : PlaceStep) → ((s : StatementPlace) → read_source n end s rest ≡ NothingLeft → ⊥) → after_token end at rest st (λ s. read_source n end s rest) ≡ NothingLeft → ⊥
 token_some n end at rest (GoesTo next) each e = each next e
 token_some n end at rest (Ends b p) each e = absurd cc
 token_some n end at rest Fails each e = absurd cc
 
-first_some : (n : ℕ) (end : List ℕ) (s : Place) (f : Front) → ((s : Place) (rest : List ℕ) → read_source n end s rest ≡ NothingLeft → ⊥) → with_first end s f (λ s rest. read_source n end s rest) ≡ NothingLeft → ⊥
-first_some n end s (Begins t at rest) each e = elim (cases_Bool (fits end rest)) [
-  | inl fit ↦ token_some n end at rest (place_within s t) (λ s. each s rest) (sym (cond-true (fits end rest) _ _ fit) ∙ e)
-  | inr long ↦ let stop : Unreadable end ≡ NothingLeft = sym (cond-false (fits end rest) _ _ long) ∙ e in absurd cc
+first_some : (n : ℕ) (end : List ℕ) (s : StatementPlace) (f : Front) → ((s : StatementPlace) (rest : List ℕ) → read_source n end s rest ≡ NothingLeft → ⊥) → with_first end s f (λ s rest. read_source n end s rest) ≡ NothingLeft → ⊥
+first_some n end s (Begins t at rest) each e = elim (cases_Bool (fits_source end rest)) [
+  | inl fit ↦ token_some n end at rest (place_within s t) (λ s. each s rest) (sym (cond-true (fits_source end rest) _ _ fit) ∙ e)
+  | inr long ↦ let stop : Unreadable end ≡ NothingLeft = sym (cond-false (fits_source end rest) _ _ long) ∙ e in absurd cc
 ]
 first_some n end s NoneLeft each e = absurd cc
 first_some n end s (Stops from) each e = absurd cc
 
 -- a statement that has begun is something
-source_some : (n : ℕ) (end : List ℕ) (s : Place) (bytes : List ℕ) → read_source n end s bytes ≡ NothingLeft → ⊥
+source_some : (n : ℕ) (end : List ℕ) (s : StatementPlace) (bytes : List ℕ) → read_source n end s bytes ≡ NothingLeft → ⊥
 source_some zero end s bytes e = absurd cc
 source_some (suc n) end s bytes e = first_some n end s (first_token bytes) (λ s rest. source_some n end s rest) e
 

@@ -6,15 +6,15 @@ use Rattle.std.proofs.lemmas.Bool.Decides.{nat_tests}
 use Rattle.std.proofs.lemmas.List.{length-append, take_at}
 use Rattle.rl_tree.specs.Bytes.{is_digit, is_letter, is_name_byte}
 use Rattle.rl_tree.specs.Atoms.{doubled}
-use Rattle.rl_tree.specs.Digits.{number_of}
+use Rattle.rl_tree.specs.Digits.{digits_number}
 use Rattle.rl_text.specs.Byte.{Open, Quote, OpenVector, is_special}
 use Rattle.rl_text.specs.Datum.{Datum, quoted}
-use Rattle.rl_text.specs.Word.{Character, Plain, Escaped, Unsigned, Plus, Minus, Number, Named, Single, character_text, word_text, IsWord, IsNamed, begins_name, continues_name, atom_of, datum_of_atom, character_of}
+use Rattle.rl_text.specs.Word.{Character, Plain, Escaped, Unsigned, Plus, Minus, Number, Named, Single, character_text, word_text, IsWord, AreNameCharacters, begins_name, continues_name, atom_of, datum_of_atom, character_of}
 use Rattle.rl_text.specs.Word as word
 use Rattle.rl_text.specs.Spelling.{Spelling, Atom, Empty, Listed, Vectored, datum_of, Sign, tokens_of, token_text, IsFront, AreTokens, IsSpelled}
 use Rattle.rl_text.specs.Spelling as spelling
 use Rattle.rl_grammar.specs.Token.{Token, Integer, String, Quoted, Identifier}
-use Rattle.rl_grammar.specs.Written.{Spelled, Quoting, is_bare, word_token, named_token, token_of, IsTokenAt}
+use Rattle.rl_grammar.specs.Written.{Spelled, Quoting, is_bare_character, word_token, named_token, token_of, IsTokenAt}
 use Rattle.rl_grammar.specs.Lexer.{begins_spelling, before_rest, has_no_escape, token_read}
 use Rattle.rl_grammar.proofs.Gaps.{IsSolid, solid_no_gap}
 
@@ -44,21 +44,21 @@ before_is text rest = take_at text rest (length (text ++ rest) - length rest) (l
 
 -- ---- `!` in a name
 
-first_bare : (c : Character) (text : List ℕ) → begins_name c ≡ true → has_no_escape (character_text c ++ text) ≡ (is_bare c && has_no_escape text)
+first_bare : (c : Character) (text : List ℕ) → begins_name c ≡ true → has_no_escape (character_text c ++ text) ≡ (is_bare_character c && has_no_escape text)
 first_bare (Plain b) text e = rw (letter_no_escape b e) refl
 first_bare (Escaped b) text e = refl
 
-next_bare : (c : Character) (text : List ℕ) → continues_name c ≡ true → has_no_escape (character_text c ++ text) ≡ (is_bare c && has_no_escape text)
+next_bare : (c : Character) (text : List ℕ) → continues_name c ≡ true → has_no_escape (character_text c ++ text) ≡ (is_bare_character c && has_no_escape text)
 next_bare (Plain b) text e = rw (name_no_escape b e) refl
 next_bare (Escaped b) text e = refl
 
-others_bare : (cs : List Character) → list_all continues_name cs ≡ true → has_no_escape (flat_map character_text cs) ≡ list_all is_bare cs
+others_bare : (cs : List Character) → list_all continues_name cs ≡ true → has_no_escape (flat_map character_text cs) ≡ list_all is_bare_character cs
 others_bare [] e = refl
-others_bare (c ∷ cs) e = let parts = and_parts _ _ e in next_bare c (flat_map character_text cs) parts.0 ∙ ap (λ (x : Bool). is_bare c && x) (others_bare cs parts.1)
+others_bare (c ∷ cs) e = let parts = and_parts _ _ e in next_bare c (flat_map character_text cs) parts.0 ∙ ap (λ (x : Bool). is_bare_character c && x) (others_bare cs parts.1)
 
-all_bare : (cs : List Character) → IsNamed cs → has_no_escape (flat_map character_text cs) ≡ list_all is_bare cs
+all_bare : (cs : List Character) → AreNameCharacters cs → has_no_escape (flat_map character_text cs) ≡ list_all is_bare_character cs
 all_bare [] is = refl
-all_bare (c ∷ cs) is = let parts = and_parts _ _ is.name in first_bare c (flat_map character_text cs) parts.0 ∙ ap (λ (x : Bool). is_bare c && x) (others_bare cs parts.1)
+all_bare (c ∷ cs) is = let parts = and_parts _ _ is.name in first_bare c (flat_map character_text cs) parts.0 ∙ ap (λ (x : Bool). is_bare_character c && x) (others_bare cs parts.1)
 
 -- ---- which token a word is
 
@@ -80,11 +80,11 @@ pub record FirstByte (text : List ℕ) : Type 0 where
   pub is : text ≡ byte ∷ others
   pub begins : begins_spelling byte ≡ true
 
-number_first : (digits : List ℕ) → word.IsNumber Unsigned digits → FirstByte digits
+number_first : (digits : List ℕ) → word.AreIntegerDigits Unsigned digits → FirstByte digits
 number_first [] is = absurd (let some = is.some in omega arith)
 number_first (d ∷ ds) is = record { byte = d; others = ds; is = refl; begins = digit_begins d (and_parts _ _ is.are_digits).0 }
 
-named_first : (cs : List Character) → IsNamed cs → FirstByte (flat_map character_text cs)
+named_first : (cs : List Character) → AreNameCharacters cs → FirstByte (flat_map character_text cs)
 named_first [] is = absurd (let name = is.name in cc)
 named_first (Plain b ∷ cs) is = record { byte = b; others = flat_map character_text cs; is = refl; begins = letter_begins b (and_parts _ _ is.name).0 }
 named_first (Escaped b ∷ cs) is = record { byte = 33; others = b ∷ flat_map character_text cs; is = refl; begins = refl }
@@ -106,7 +106,7 @@ pub record ReadHere (bytes : List ℕ) (datum : Datum) (rest : List ℕ) : Type 
   pub read : token_read (before_rest bytes rest) datum ≡ Some token
 
 -- no gap stands before the first token of a spelling
-front_here : (token : spelling.Token) (b : ℕ) (bs rest : List ℕ) → IsSolid b → IsFront token (b ∷ bs) rest → b ∷ bs ≡ token_text token ++ rest
+front_here : (token : spelling.LispToken) (b : ℕ) (bs rest : List ℕ) → IsSolid b → IsFront token (b ∷ bs) rest → b ∷ bs ≡ token_text token ++ rest
 front_here token b bs rest solid front =
     let none = solid_no_gap b bs front.gap (token_text token ++ rest) solid front.is_gap front.is in
     front.is ∙ ap (λ (gap : List ℕ). gap ++ (token_text token ++ rest)) none
@@ -119,7 +119,7 @@ word_here w token bytes rest is word_is ends e = record {
 }
 
 atom_here : (w : word.Word) (b : ℕ) (bs rest : List ℕ) → begins_spelling b ≡ true → b ∷ bs ≡ word_text w ++ rest → IsWord w → spelling.EndsBefore (spelling.Spelled w) rest → ReadHere (b ∷ bs) (datum_of_atom (atom_of w)) rest
-atom_here (Number Unsigned digits) b bs rest begins is word_is ends = word_here (Number Unsigned digits) (Integer (number_of digits)) (b ∷ bs) rest is word_is ends refl
+atom_here (Number Unsigned digits) b bs rest begins is word_is ends = word_here (Number Unsigned digits) (Integer (digits_number digits)) (b ∷ bs) rest is word_is ends refl
 atom_here (Number Plus digits) b bs rest begins is word_is ends = absurd (let same : b ≡ 43 = cc in let bad : false ≡ true = rw same at begins in cc)
 atom_here (Number Minus digits) b bs rest begins is word_is ends = absurd (let same : b ≡ 45 = cc in let bad : false ≡ true = rw same at begins in cc)
 atom_here (Named cs) b bs rest begins is word_is ends = word_here (Named cs) (named_token cs) (b ∷ bs) rest is word_is ends refl

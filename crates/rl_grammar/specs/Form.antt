@@ -6,7 +6,7 @@ use Rattle.rl_text.specs.Datum.{Datum, Id, Pair, nil, quoted}
 use Rattle.rl_text.specs.Datum as datum
 use Rattle.rl_grammar.specs.Tree as tree
 use Rattle.rl_grammar.specs.Token.{Or, And, Equal, Unequal, AtLeast, Greater, AtMost, Less, Plus, Minus, Times, Divide, Worded, Eq, Member, Memq, Separator, Way, Do, Collect, Join, Expr, Fexpr, Macro, Smacro, Token}
-use Rattle.rl_grammar.specs.Tree.{Head, Plain, Reserved, Operation, By, ByWord, Sign, Positive, Negative, Names, Just, Also, Parameters, NoParameters, OneParameter, NoneListed, Listed, Labels, Unlabelled, Label, Declarations, NoDeclarations, Declared, Group, Block, Prog, Tree, Variable, Whole, Text, Quote, Bare, Call, Apply, Enclosed, Set, Binary, Raise, Negate, Signed, IfThen, IfElse, WhileDo, RepeatUntil, ForTo, EachIn, LambdaOf, Grouped, ReturnNone, ReturnOf, GoingTo, Callee, Named, EnclosedLambda, Items, One, More, Pieces, First, Next, Piece, Nothing, Something, MaybeKind, NoKind, OfKind, Files, JustFile, AlsoFile, Plainly, Defining, Body, Empty, Ending, InFiles, Only, Based}
+use Rattle.rl_grammar.specs.Tree.{NameUse, Plain, Reserved, LeftOperator, By, ByWord, LeadingSign, Positive, Negative, NameList, Just, Also, Parameters, NoParameters, OneParameter, NoneListed, Listed, Labels, Unlabelled, Label, Declarations, NoDeclarations, Declared, Group, Block, Prog, Tree, Variable, Whole, Text, Quote, Bare, Call, Apply, Enclosed, Set, Binary, Raise, Negate, Signed, IfThen, IfElse, WhileDo, RepeatUntil, ForTo, EachIn, LambdaOf, Grouped, ReturnNone, ReturnOf, GoingTo, Callee, Named, EnclosedLambda, Items, One, More, Pieces, First, Next, Piece, Nothing, Something, MaybeKind, NoKind, OfKind, FileNames, JustFile, AlsoFile, Plainly, Defining, StatementBody, Empty, Ending, InFiles, Only, Based}
 use Rattle.rl_grammar.specs.Grammar.{IsStatement}
 
 -- ---- lists
@@ -51,20 +51,20 @@ abbrev pub negation : Datum → Datum
 negation a = two (Id (codes "NOT")) a
 
 -- `a op b`
-abbrev pub operated : Operation → Datum → Datum → Datum
-operated (By Or) a b = three (Id or_name) a b
-operated (By And) a b = three (Id and_name) a b
-operated (By Equal) a b = three (Id (codes "EQUAL")) a b
-operated (By Greater) a b = three (Id (codes "GREATERP")) a b
-operated (By Less) a b = three (Id (codes "LESSP")) a b
-operated (By Unequal) a b = negation (three (Id (codes "EQUAL")) a b)
-operated (By AtLeast) a b = negation (three (Id (codes "LESSP")) a b)
-operated (By AtMost) a b = negation (three (Id (codes "GREATERP")) a b)
-operated (By Plus) a b = three (Id (codes "PLUS2")) a b
-operated (By Minus) a b = three (Id (codes "DIFFERENCE")) a b
-operated (By Times) a b = three (Id (codes "TIMES2")) a b
-operated (By Divide) a b = three (Id (codes "QUOTIENT")) a b
-operated (ByWord w) a b = three (Id (worded_name w)) a b
+abbrev pub operated_data : LeftOperator → Datum → Datum → Datum
+operated_data (By Or) a b = three (Id or_name) a b
+operated_data (By And) a b = three (Id and_name) a b
+operated_data (By Equal) a b = three (Id (codes "EQUAL")) a b
+operated_data (By Greater) a b = three (Id (codes "GREATERP")) a b
+operated_data (By Less) a b = three (Id (codes "LESSP")) a b
+operated_data (By Unequal) a b = negation (three (Id (codes "EQUAL")) a b)
+operated_data (By AtLeast) a b = negation (three (Id (codes "LESSP")) a b)
+operated_data (By AtMost) a b = negation (three (Id (codes "GREATERP")) a b)
+operated_data (By Plus) a b = three (Id (codes "PLUS2")) a b
+operated_data (By Minus) a b = three (Id (codes "DIFFERENCE")) a b
+operated_data (By Times) a b = three (Id (codes "TIMES2")) a b
+operated_data (By Divide) a b = three (Id (codes "QUOTIENT")) a b
+operated_data (ByWord w) a b = three (Id (worded_name w)) a b
 
 -- what of an operand its form does not tell: `a or b or c` is one list, and so is `a and b and c`, but not where parentheses stand round a part of it; and a
 -- bare integer has a negative
@@ -81,10 +81,10 @@ shape_of (Whole k) = IsBare k
 shape_of a = IsOther
 
 -- an operator behind an operand of this shape
-abbrev pub joined : Operation → Shape → Datum → Datum → Datum
-joined (By Or) IsOr a b = with_element a b
-joined (By And) IsAnd a b = with_element a b
-joined o shape a b = operated o a b
+abbrev pub joined_by : LeftOperator → Shape → Datum → Datum → Datum
+joined_by (By Or) IsOr a b = with_element a b
+joined_by (By And) IsAnd a b = with_element a b
+joined_by o shape a b = operated_data o a b
 
 -- `a ** b`
 abbrev pub power : Datum → Datum → Datum
@@ -95,19 +95,19 @@ abbrev pub dotted : Datum → Datum → Datum
 dotted a b = three (Id cons_name) a b
 
 -- a leading `-`: before a bare integer the negative integer; a leading `+` changes nothing
-abbrev pub signed : Sign → Shape → Datum → Datum
-signed Positive shape a = a
-signed Negative (IsBare k) a = datum.Int (negated k)
-signed Negative shape a = two (Id (codes "MINUS")) a
+abbrev pub signed_datum : LeadingSign → Shape → Datum → Datum
+signed_datum Positive shape a = a
+signed_datum Negative (IsBare k) a = datum.Int (negated k)
+signed_datum Negative shape a = two (Id (codes "MINUS")) a
 
 -- ---- names
 
-abbrev pub head_form : Head → Datum
+abbrev pub head_form : NameUse → Datum
 head_form (Plain x) = Id x
 head_form (Reserved w) = Id (worded_name w)
 
 -- `x, y` before these
-abbrev pub names_form : Names → Datum → Datum
+abbrev pub names_form : NameList → Datum → Datum
 names_form (Just x) f = Pair (Id x) f
 names_form (Also xs x) f = names_form xs (Pair (Id x) f)
 
@@ -235,11 +235,11 @@ abbrev mutual
   form_of (Apply h a) = two (head_form h) (form_of a)
   form_of (Enclosed a) = form_of a
   form_of (Set h a) = assignment (head_form h) (form_of a)
-  form_of (Binary o a b) = joined o (shape_of a) (form_of a) (form_of b)
+  form_of (Binary o a b) = joined_by o (shape_of a) (form_of a) (form_of b)
   form_of (Raise a b) = power (form_of a) (form_of b)
   form_of (tree.Pair a b) = dotted (form_of a) (form_of b)
   form_of (Negate a) = negation (form_of a)
-  form_of (Signed s a) = signed s (shape_of a) (form_of a)
+  form_of (Signed s a) = signed_datum s (shape_of a) (form_of a)
   form_of (IfThen a b) = if_then (form_of a) (form_of b)
   form_of (IfElse a b c) = if_else (form_of a) (form_of b) (form_of c)
   form_of (WhileDo a s) = while_do (form_of a) (form_of s)
@@ -294,11 +294,11 @@ pub data Meant : Type 0 where
   Evaluates : Datum → Meant
 
 -- the names of the files, before these
-abbrev pub files_named : Files → List (List ℕ) → List (List ℕ)
+abbrev pub files_named : FileNames → List (List ℕ) → List (List ℕ)
 files_named (JustFile k) ks = k ∷ ks
 files_named (AlsoFile fs k) ks = files_named fs (k ∷ ks)
 
-abbrev pub meant : Body → Meant
+abbrev pub meant : StatementBody → Meant
 meant Empty = IsEmpty
 meant Ending = IsEnd
 meant (InFiles fs) = Reads (files_named fs [])
@@ -308,7 +308,7 @@ meant (Based (Defining m k f p) a) = Evaluates (procedure k (Id f) (parameters_f
 
 -- the tokens begin with a statement that means this
 pub record Means (ts : List Token) (m : Meant) (rest : List Token) : Type 0 where
-  pub body : Body
+  pub body : StatementBody
   pub separator : Separator
   pub is : IsStatement ts body separator rest
   pub means : m ≡ meant body

@@ -1,7 +1,7 @@
 -- The grammar of statements: which trees are of it, and the statements that tokens begin with.
 use Rattle.std.specs.Prelude.{◌≡◌, ℕ, suc, ◌≤◌, Bool, true, false, not, ◌&&◌, nat_le, List, ◌∷◌}
 use Rattle.rl_grammar.specs.Token.{Operator, Or, And, Plus, Minus, Times, Divide, Separator, Token, Identifier, Integer, String, Quoted, Infix, Word, Power, Dot, Not, Open, If, Else, While, Repeat, For, Foreach, OpenBlock, Separating, Begin, Return, Go, Goto, Lambda}
-use Rattle.rl_grammar.specs.Tree.{Head, Plain, Reserved, Operation, By, ByWord, operation_token, Labels, Label, Group, Block, Tree, Variable, Whole, Text, Quote, Bare, Call, Apply, Enclosed, Set, Binary, Raise, Pair, Negate, Signed, IfThen, IfElse, WhileDo, RepeatUntil, ForTo, EachIn, LambdaOf, Grouped, ReturnNone, ReturnOf, GoingTo, Callee, Named, EnclosedLambda, Items, One, More, Pieces, First, Next, Piece, Nothing, Something, spelled, Body, Based, body_spelled}
+use Rattle.rl_grammar.specs.Tree.{NameUse, Plain, Reserved, LeftOperator, By, ByWord, operation_token, Labels, Label, Group, Block, Tree, Variable, Whole, Text, Quote, Bare, Call, Apply, Enclosed, Set, Binary, Raise, Pair, Negate, Signed, IfThen, IfElse, WhileDo, RepeatUntil, ForTo, EachIn, LambdaOf, Grouped, ReturnNone, ReturnOf, GoingTo, Callee, Named, EnclosedLambda, Items, One, More, Pieces, First, Next, Piece, Nothing, Something, spelled, StatementBody, Based, body_spelled}
 
 -- ---- levels: 0 expr, 1 or, 2 and, 3 neg, 4 rel, 5 sum, 6 prod, 7 pow, 8 dot, 9 prim, 10 a prim that does not begin with `(`
 
@@ -15,11 +15,11 @@ operator_level Divide = 6
 operator_level o = 4
 
 -- an identifier that is one of the three words begins no `id prim`'s operand
-abbrev pub head_level : Head → ℕ
+abbrev pub head_level : NameUse → ℕ
 head_level (Plain x) = 10
 head_level (Reserved w) = 9
 
-abbrev pub level : Operation → ℕ
+abbrev pub level : LeftOperator → ℕ
 level (By o) = operator_level o
 level (ByWord w) = 4
 
@@ -84,9 +84,9 @@ ends (ReturnOf a) t = not (goes 0 t) && ends a t
 ends a t = true
 
 -- a lambda in parentheses may be called
-abbrev pub is_lambda : Tree → Bool
-is_lambda (LambdaOf p a) = true
-is_lambda a = false
+abbrev pub is_parenthesized_lambda : Tree → Bool
+is_parenthesized_lambda (LambdaOf p a) = true
+is_parenthesized_lambda a = false
 
 -- only pieces of `begin` have labels
 abbrev pub LabelsFit : Group → Labels → Type 0
@@ -125,7 +125,7 @@ abbrev mutual
 
   pub CalleeFits : ℕ → Callee → Type 0
   CalleeFits n (Named h) = n ≤ head_level h
-  CalleeFits n (EnclosedLambda a) = (n ≤ 9) × (is_lambda a ≡ true) × Fits 0 a
+  CalleeFits n (EnclosedLambda a) = (n ≤ 9) × (is_parenthesized_lambda a ≡ true) × Fits 0 a
 
   pub ItemsFit : Items → Type 0
   ItemsFit (One a) = Fits 0 a
@@ -144,11 +144,11 @@ pub record IsExpr (ts : List Token) (a : Tree) (s : Separator) (rest : List Toke
   pub is : ts ≡ spelled a (Separating s ∷ rest)
   pub fits : Fits 0 a
 
-abbrev pub BodyFits : Body → Type 0
+abbrev pub BodyFits : StatementBody → Type 0
 BodyFits (Based b a) = Fits 0 a
 BodyFits b = Unit {0}
 
 -- a statement, and the tokens behind it
-pub record IsStatement (ts : List Token) (b : Body) (s : Separator) (rest : List Token) : Type 0 where
+pub record IsStatement (ts : List Token) (b : StatementBody) (s : Separator) (rest : List Token) : Type 0 where
   pub is : ts ≡ body_spelled b (Separating s ∷ rest)
   pub fits : BodyFits b

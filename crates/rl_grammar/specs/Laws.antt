@@ -5,7 +5,7 @@ use Rattle.rl_grammar.specs.Token.{Separator, Token}
 use Rattle.rl_grammar.specs.Written.{IsTokenAt, IsFirst}
 use Rattle.rl_grammar.specs.Lexer.{Begins, NoneLeft, Stops, first_token}
 use Rattle.rl_grammar.specs.Refusal.{IsBadAt}
-use Rattle.rl_grammar.specs.Tree.{Body}
+use Rattle.rl_grammar.specs.Tree.{StatementBody}
 use Rattle.rl_grammar.specs.Grammar.{IsStatement}
 use Rattle.rl_grammar.specs.Form.{Meant, Means}
 use Rattle.rl_grammar.specs.Statement.{Parsed, Syntax, parse_statement}
@@ -13,10 +13,10 @@ use Rattle.rl_grammar.specs.Nesting.{statement_nests}
 use Rattle.rl_grammar.specs.Within.{parse_within}
 use Rattle.rl_grammar.specs.Bound.{AllWithin, IsRefusedWithin}
 use Rattle.rl_grammar.specs.Source.{past_longest, IsSource, IsUnreadable}
-use Rattle.rl_grammar.specs.SourceReader.{HasStatement, NothingLeft, Unreadable, source_statement, extended}
+use Rattle.rl_grammar.specs.SourceReader.{HasStatement, NothingLeft, Unreadable, source_statement, extended_source}
 
 abbrev pub ParsesGrammar : Type 0
-ParsesGrammar = (ts : List Token) (a : Body) (s : Separator) (rest : List Token) → (parse_statement ts ≡ Parsed a s rest) ↔ IsStatement ts a s rest
+ParsesGrammar = (ts : List Token) (a : StatementBody) (s : Separator) (rest : List Token) → (parse_statement ts ≡ Parsed a s rest) ↔ IsStatement ts a s rest
 
 -- tokens begin with one statement, which means one thing, or with none
 abbrev pub MeansOne : Type 0
@@ -25,28 +25,28 @@ MeansOne = (ts : List Token) (m n : Meant) (rest more : List Token) → Means ts
 -- some statement begins with these tokens
 pub record BeginsStatement (ts : List Token) : Type 0 where
   pub more : List Token
-  pub tree : Body
+  pub tree : StatementBody
   pub separator : Separator
   pub is : IsStatement (ts ++ more) tree separator []
 
 -- the tokens begin with no statement; some statement begins with the first k, and none with one more
-pub record IsRefusedAt (ts : List Token) (k : ℕ) : Type 0 where
-  pub none : (a : Body) (s : Separator) (rest : List Token) → IsStatement ts a s rest → ⊥
+pub record AreTokensRefusedAt (ts : List Token) (k : ℕ) : Type 0 where
+  pub none : (a : StatementBody) (s : Separator) (rest : List Token) → IsStatement ts a s rest → ⊥
   pub within : k ≤ length ts
   pub begins : BeginsStatement (take k ts)
   pub stops : k < length ts → BeginsStatement (take (suc k) ts) → ⊥
 
-abbrev pub RefusesFirst : Type 0
-RefusesFirst = (ts : List Token) (k : ℕ) → ((from : List Token) × (parse_statement ts ≡ Syntax from) × (k ≡ length ts - length from)) ↔ IsRefusedAt ts k
+abbrev pub TokensAreRefusedFirst : Type 0
+TokensAreRefusedFirst = (ts : List Token) (k : ℕ) → ((from : List Token) × (parse_statement ts ≡ Syntax from) × (k ≡ length ts - length from)) ↔ AreTokensRefusedAt ts k
 
 -- ---- with bounded nesting
 
 -- what is unfinished is counted at each token, and the separator's is the last
 abbrev pub CountsTokens : Type 0
-CountsTokens = (ts : List Token) (a : Body) (s : Separator) → IsStatement ts a s [] → length (statement_nests a) ≡ length ts
+CountsTokens = (ts : List Token) (a : StatementBody) (s : Separator) → IsStatement ts a s [] → length (statement_nests a) ≡ length ts
 
 abbrev pub ParsesWithin : Type 0
-ParsesWithin = (ts : List Token) (a : Body) (s : Separator) (rest : List Token) → (parse_within ts ≡ Parsed a s rest) ↔ (IsStatement ts a s rest × AllWithin (statement_nests a))
+ParsesWithin = (ts : List Token) (a : StatementBody) (s : Separator) (rest : List Token) → (parse_within ts ≡ Parsed a s rest) ↔ (IsStatement ts a s rest × AllWithin (statement_nests a))
 
 abbrev pub RefusesWithin : Type 0
 RefusesWithin = (ts : List Token) (k : ℕ) → ((from : List Token) × (parse_within ts ≡ Syntax from) × (k ≡ length ts - length from)) ↔ IsRefusedWithin ts k
@@ -77,7 +77,7 @@ RefusesByte = (bytes : List ℕ) (k : ℕ) → ((from : List ℕ) × (first_toke
 
 -- a statement is read exactly where the text begins with it
 abbrev pub ReadsSource : Type 0
-ReadsSource = (bytes : List ℕ) (b : Body) (s : Separator) (rest : List ℕ) → (source_statement bytes ≡ HasStatement b s rest) ↔ IsSource bytes b s rest
+ReadsSource = (bytes : List ℕ) (b : StatementBody) (s : Separator) (rest : List ℕ) → (source_statement bytes ≡ HasStatement b s rest) ↔ IsSource bytes b s rest
 
 -- nothing is left exactly where nothing but blanks and comments is there
 abbrev pub FindsNoSource : Type 0
@@ -85,7 +85,7 @@ FindsNoSource = (bytes : List ℕ) → (source_statement bytes ≡ NothingLeft) 
 
 -- a text begins with one statement, and it takes so many bytes, or with none
 abbrev pub ReadsOneSource : Type 0
-ReadsOneSource = (bytes : List ℕ) (b c : Body) (s t : Separator) (rest more : List ℕ) → IsSource bytes b s rest → IsSource bytes c t more → (b ≡ c) × (s ≡ t) × (rest ≡ more)
+ReadsOneSource = (bytes : List ℕ) (b c : StatementBody) (s t : Separator) (rest more : List ℕ) → IsSource bytes b s rest → IsSource bytes c t more → (b ≡ c) × (s ≡ t) × (rest ≡ more)
 
 -- and a text is unreadable exactly where no statement goes on
 abbrev pub RefusesSource : Type 0
@@ -93,4 +93,4 @@ RefusesSource = (bytes from : List ℕ) → (source_statement bytes ≡ Unreadab
 
 -- what stands behind the byte behind the longest statement does not matter
 abbrev pub LooksNoFurther : Type 0
-LooksNoFurther = (bytes more : List ℕ) → 0 < length (past_longest bytes) → source_statement (bytes ++ more) ≡ extended more (source_statement bytes)
+LooksNoFurther = (bytes more : List ℕ) → 0 < length (past_longest bytes) → source_statement (bytes ++ more) ≡ extended_source more (source_statement bytes)

@@ -66,13 +66,13 @@ pub data Front : Type 0 where
   NoneLeft : Front
   Stops : List ℕ → Front
 
-abbrev pub first_of : List ℕ → Lexed → Front
-first_of bytes (Lexes token rest) = Begins token bytes rest
-first_of bytes (Bad from) = Stops from
+abbrev pub first_token_of : List ℕ → Lexed → Front
+first_token_of bytes (Lexes token rest) = Begins token bytes rest
+first_token_of bytes (Bad from) = Stops from
 
 abbrev pub first_behind : List ℕ → Front
 first_behind [] = NoneLeft
-first_behind (b ∷ bs) = first_of (b ∷ bs) (lexed b bs)
+first_behind (b ∷ bs) = first_token_of (b ∷ bs) (lexed b bs)
 
 abbrev pub first_token : List ℕ → Front
 first_token bytes = first_behind (behind_gap false bytes)

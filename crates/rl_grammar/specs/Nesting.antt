@@ -1,9 +1,9 @@
 -- How many expressions, and operands of `not`, `**`, `.` and of names, are unfinished at each token of a statement: a list parallel to its tokens. Each is unfinished from its first token to its last.
 use Rattle.std.specs.Prelude.{ℕ, suc, List, [], ◌∷◌}
-use Rattle.rl_grammar.specs.Tree.{Names, Just, Also, Parameters, NoParameters, OneParameter, NoneListed, Listed, Labels, Unlabelled, Label, Declarations, NoDeclarations, Declared, Group, Block, Prog, EachOf, Two, Single, Going, GoBare, GoTo, Gotos, Tree, Variable, Whole, Text, Quote, Bare, Call, Apply, Enclosed, Set, Binary, Raise, Pair, Negate, Signed, IfThen, IfElse, WhileDo, RepeatUntil, ForTo, EachIn, LambdaOf, Grouped, ReturnNone, ReturnOf, GoingTo, Callee, Named, EnclosedLambda, Items, One, More, Pieces, First, Next, Piece, Nothing, Something, MaybeMode, NoMode, InMode, MaybeKind, NoKind, OfKind, Files, JustFile, AlsoFile, Base, Plainly, Defining, Body, Empty, Ending, InFiles, Only, Based}
+use Rattle.rl_grammar.specs.Tree.{NameList, Just, Also, Parameters, NoParameters, OneParameter, NoneListed, Listed, Labels, Unlabelled, Label, Declarations, NoDeclarations, Declared, Group, Block, Prog, EachOf, Two, Single, Going, GoBare, GoTo, Gotos, Tree, Variable, Whole, Text, Quote, Bare, Call, Apply, Enclosed, Set, Binary, Raise, Pair, Negate, Signed, IfThen, IfElse, WhileDo, RepeatUntil, ForTo, EachIn, LambdaOf, Grouped, ReturnNone, ReturnOf, GoingTo, Callee, Named, EnclosedLambda, Items, One, More, Pieces, First, Next, Piece, Nothing, Something, MaybeMode, NoMode, InMode, MaybeKind, NoKind, OfKind, FileNames, JustFile, AlsoFile, Base, Plainly, Defining, StatementBody, Empty, Ending, InFiles, Only, Based}
 
 -- at a name, and at each token of more
-abbrev pub names_nests : ℕ → Names → List ℕ → List ℕ
+abbrev pub names_nests : ℕ → NameList → List ℕ → List ℕ
 names_nests n (Just x) ns = n ∷ ns
 names_nests n (Also xs x) ns = names_nests n xs (n ∷ n ∷ ns)
 
@@ -89,7 +89,7 @@ abbrev pub kind_nests : MaybeKind → List ℕ → List ℕ
 kind_nests NoKind ns = ns
 kind_nests (OfKind k) ns = 0 ∷ ns
 
-abbrev pub files_nests : Files → List ℕ → List ℕ
+abbrev pub files_nests : FileNames → List ℕ → List ℕ
 files_nests (JustFile k) ns = 0 ∷ ns
 files_nests (AlsoFile fs k) ns = files_nests fs (0 ∷ 0 ∷ ns)
 
@@ -97,7 +97,7 @@ abbrev pub base_nests : Base → List ℕ → List ℕ
 base_nests (Plainly m) ns = mode_nests m ns
 base_nests (Defining m k x p) ns = mode_nests m (kind_nests k (0 ∷ 0 ∷ parameters_nests 0 p (0 ∷ ns)))
 
-abbrev pub body_nests : Body → List ℕ → List ℕ
+abbrev pub body_nests : StatementBody → List ℕ → List ℕ
 body_nests Empty ns = ns
 body_nests Ending ns = 0 ∷ ns
 body_nests (InFiles fs) ns = 0 ∷ files_nests fs ns
@@ -105,9 +105,9 @@ body_nests (Only m) ns = 0 ∷ ns
 body_nests (Based b a) ns = base_nests b (nests 1 a ns)
 
 -- at each token of a statement and of its separator
-abbrev pub statement_nests : Body → List ℕ
+abbrev pub statement_nests : StatementBody → List ℕ
 statement_nests b = body_nests b (0 ∷ [])
 
 -- at most so many may be unfinished
-abbrev pub bound : ℕ
-bound = 200
+abbrev pub nesting_bound : ℕ
+nesting_bound = 200

@@ -5,7 +5,7 @@ use Rattle.rl_grammar.specs.Token.{Separator, Token}
 use Rattle.rl_grammar.specs.Written.{IsFirst}
 use Rattle.rl_grammar.specs.Lexer.{behind_gap}
 use Rattle.rl_grammar.specs.Refusal.{IsBadAt}
-use Rattle.rl_grammar.specs.Tree.{Body}
+use Rattle.rl_grammar.specs.Tree.{StatementBody}
 use Rattle.rl_grammar.specs.Grammar.{IsStatement}
 use Rattle.rl_grammar.specs.Nesting.{statement_nests}
 use Rattle.rl_grammar.specs.Bound.{AllWithin, BeginsWithin}
@@ -19,14 +19,14 @@ abbrev pub past_longest : List ℕ → List ℕ
 past_longest bytes = drop longest (behind_gap false bytes)
 
 -- these tokens, one after another, and then the rest
-abbrev pub AreTokens : List Token → List ℕ → List ℕ → Type 0
-AreTokens [] bytes rest = bytes ≡ rest
-AreTokens (t ∷ ts) bytes rest = (at : List ℕ) × (after : List ℕ) × IsFirst t bytes at after × AreTokens ts after rest
+abbrev pub AreTokensOfSource : List Token → List ℕ → List ℕ → Type 0
+AreTokensOfSource [] bytes rest = bytes ≡ rest
+AreTokensOfSource (t ∷ ts) bytes rest = (at : List ℕ) × (after : List ℕ) × IsFirst t bytes at after × AreTokensOfSource ts after rest
 
 -- the text begins with the statement, and then comes the rest
-pub record IsSource (bytes : List ℕ) (b : Body) (s : Separator) (rest : List ℕ) : Type 0 where
+pub record IsSource (bytes : List ℕ) (b : StatementBody) (s : Separator) (rest : List ℕ) : Type 0 where
   pub tokens : List Token
-  pub stand : AreTokens tokens bytes rest
+  pub stand : AreTokensOfSource tokens bytes rest
   pub is : IsStatement tokens b s []
   pub within : AllWithin (statement_nests b)
   pub short : length (past_longest bytes) ≤ length rest
@@ -50,11 +50,11 @@ pub data Ceases (end : List ℕ) (ts : List Token) (after from : List ℕ) : Typ
 
 -- the text begins with no statement, and is not blank: it begins with tokens with which some statement goes on, and then none does
 pub record IsUnreadable (bytes from : List ℕ) : Type 0 where
-  pub none : (b : Body) (s : Separator) (rest : List ℕ) → IsSource bytes b s rest → ⊥
+  pub none : (b : StatementBody) (s : Separator) (rest : List ℕ) → IsSource bytes b s rest → ⊥
   pub some : IsBlankText bytes → ⊥
   pub tokens : List Token
   pub after : List ℕ
-  pub stand : AreTokens tokens bytes after
+  pub stand : AreTokensOfSource tokens bytes after
   pub begins : BeginsWithin tokens
   pub short : length (past_longest bytes) ≤ length after
   pub ceases : Ceases (past_longest bytes) tokens after from

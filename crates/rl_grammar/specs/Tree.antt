@@ -5,38 +5,38 @@ use Rattle.rl_text.specs.Datum.{Datum}
 use Rattle.rl_grammar.specs.Token.{Operator, Plus, Minus, Worded, Separator, Semicolon, Way, Do, ModeWord, KindWord, Token, Mode, Kind, Procedure, Identifier, Integer, String, Quoted, Infix, Word, Power, Dot, Not, Assign, Open, Close, Comma, Colon, If, Then, Else, While, Repeat, Until, For, Each, Foreach, In, Does, OpenBlock, CloseBlock, Separating, Begin, End, Scalar, Return, Go, To, Goto, Lambda}
 
 -- a name that stands as a value or is called
-pub data Head : Type 0 where
-  Plain : Name → Head
-  Reserved : Worded → Head
+pub data NameUse : Type 0 where
+  Plain : Name → NameUse
+  Reserved : Worded → NameUse
 
-abbrev pub head_token : Head → Token
+abbrev pub head_token : NameUse → Token
 head_token (Plain x) = Identifier x
 head_token (Reserved w) = Word w
 
 -- an operator that groups to the left
-pub data Operation : Type 0 where
-  By : Operator → Operation
-  ByWord : Worded → Operation
+pub data LeftOperator : Type 0 where
+  By : Operator → LeftOperator
+  ByWord : Worded → LeftOperator
 
-abbrev pub operation_token : Operation → Token
+abbrev pub operation_token : LeftOperator → Token
 operation_token (By o) = Infix o
 operation_token (ByWord w) = Word w
 
 -- a leading `+` or `-`
-pub data Sign : Type 0 where
-  Positive : Sign
-  Negative : Sign
+pub data LeadingSign : Type 0 where
+  Positive : LeadingSign
+  Negative : LeadingSign
 
-abbrev pub sign_token : Sign → Token
+abbrev pub sign_token : LeadingSign → Token
 sign_token Positive = Infix Plus
 sign_token Negative = Infix Minus
 
 -- names with `,` between them
-pub data Names : Type 0 where
-  Just : Name → Names
-  Also : Names → Name → Names
+pub data NameList : Type 0 where
+  Just : Name → NameList
+  Also : NameList → Name → NameList
 
-abbrev pub names_spelled : Names → List Token → List Token
+abbrev pub names_spelled : NameList → List Token → List Token
 names_spelled (Just x) ts = Identifier x ∷ ts
 names_spelled (Also xs x) ts = names_spelled xs (Comma ∷ Identifier x ∷ ts)
 
@@ -45,7 +45,7 @@ pub data Parameters : Type 0 where
   NoParameters : Parameters
   OneParameter : Name → Parameters
   NoneListed : Parameters
-  Listed : Names → Parameters
+  Listed : NameList → Parameters
 
 abbrev pub parameters_spelled : Parameters → List Token → List Token
 parameters_spelled NoParameters ts = ts
@@ -65,7 +65,7 @@ labels_spelled (Label ls x) ts = labels_spelled ls (Identifier x ∷ Colon ∷ t
 -- `scalar x, y;`, maybe some of them
 pub data Declarations : Type 0 where
   NoDeclarations : Declarations
-  Declared : Declarations → Names → Declarations
+  Declared : Declarations → NameList → Declarations
 
 abbrev pub declarations_spelled : Declarations → List Token → List Token
 declarations_spelled NoDeclarations ts = ts
@@ -106,7 +106,7 @@ going_spelled Gotos ts = Goto ∷ ts
 
 mutual
   pub data Tree : Type 0 where
-    Variable : Head → Tree
+    Variable : NameUse → Tree
     -- an integer, a string, and `'` e
     Whole : ℕ → Tree
     Text : List ℕ → Tree
@@ -114,18 +114,18 @@ mutual
     -- `f()`, `f(a, b)`, and `f a`
     Bare : Callee → Tree
     Call : Callee → Items → Tree
-    Apply : Head → Tree → Tree
+    Apply : NameUse → Tree → Tree
     -- `(a)`
     Enclosed : Tree → Tree
     -- `x := a`
-    Set : Head → Tree → Tree
-    Binary : Operation → Tree → Tree → Tree
+    Set : NameUse → Tree → Tree
+    Binary : LeftOperator → Tree → Tree → Tree
     -- `a ** b`, and `a . b`
     Raise : Tree → Tree → Tree
     Pair : Tree → Tree → Tree
     -- `not a`
     Negate : Tree → Tree
-    Signed : Sign → Tree → Tree
+    Signed : LeadingSign → Tree → Tree
     IfThen : Tree → Tree → Tree
     IfElse : Tree → Tree → Tree → Tree
     WhileDo : Tree → Tree → Tree
@@ -140,7 +140,7 @@ mutual
 
   -- what is called: a name, or `(lambda ..)`
   pub data Callee : Type 0 where
-    Named : Head → Callee
+    Named : NameUse → Callee
     EnclosedLambda : Tree → Callee
 
   -- arguments with `,` between them
@@ -225,11 +225,11 @@ kind_spelled NoKind ts = ts
 kind_spelled (OfKind k) ts = Kind k ∷ ts
 
 -- the names of files with `,` between them
-pub data Files : Type 0 where
-  JustFile : List ℕ → Files
-  AlsoFile : Files → List ℕ → Files
+pub data FileNames : Type 0 where
+  JustFile : List ℕ → FileNames
+  AlsoFile : FileNames → List ℕ → FileNames
 
-abbrev pub files_spelled : Files → List Token → List Token
+abbrev pub files_spelled : FileNames → List Token → List Token
 files_spelled (JustFile k) ts = String k ∷ ts
 files_spelled (AlsoFile ks k) ts = files_spelled ks (Comma ∷ String k ∷ ts)
 
@@ -243,14 +243,14 @@ base_spelled (Plainly m) ts = mode_spelled m ts
 base_spelled (Defining m k x p) ts = mode_spelled m (kind_spelled k (Procedure ∷ Identifier x ∷ parameters_spelled p (Separating Semicolon ∷ ts)))
 
 -- nothing, `end`, `in` with files, a mode alone, or what ends with an expr
-pub data Body : Type 0 where
-  Empty : Body
-  Ending : Body
-  InFiles : Files → Body
-  Only : ModeWord → Body
-  Based : Base → Tree → Body
+pub data StatementBody : Type 0 where
+  Empty : StatementBody
+  Ending : StatementBody
+  InFiles : FileNames → StatementBody
+  Only : ModeWord → StatementBody
+  Based : Base → Tree → StatementBody
 
-abbrev pub body_spelled : Body → List Token → List Token
+abbrev pub body_spelled : StatementBody → List Token → List Token
 body_spelled Empty ts = ts
 body_spelled Ending ts = End ∷ ts
 body_spelled (InFiles ks) ts = In ∷ files_spelled ks ts

@@ -2,7 +2,7 @@
 use Rattle.std.specs.Prelude.{◌≡◌, ℕ, Bool, true, false, ◌&&◌, ◌==◌, if◌then◌else◌, List, [], ◌∷◌, ◌++◌, map, codes, Option, Some, None}
 use Rattle.std.specs.List.{list_all}
 use Rattle.rl_tree.specs.Name.{Name}
-use Rattle.rl_tree.specs.Digits.{number_of}
+use Rattle.rl_tree.specs.Digits.{digits_number}
 use Rattle.rl_text.specs.Datum.{Datum}
 use Rattle.rl_text.specs.Gap.{IsGap}
 use Rattle.rl_text.specs.Spelling.{EndsBefore, IsSpelled}
@@ -101,13 +101,13 @@ same_name [] [] = true
 same_name (b ∷ bs) (c ∷ cs) = b == c && same_name bs cs
 same_name _ _ = false
 
-abbrev pub word_in : List (Name × Token) → Name → Token
-word_in [] name = Identifier name
-word_in (row ∷ rows) name = if same_name name row.0 then row.1 else word_in rows name
+abbrev pub word_token_in : List (Name × Token) → Name → Token
+word_token_in [] name = Identifier name
+word_token_in (row ∷ rows) name = if same_name name row.0 then row.1 else word_token_in rows name
 
 -- what a name means that is written without `!`
 abbrev pub word_token : Name → Token
-word_token name = word_in reserved_words name
+word_token name = word_token_in reserved_words name
 
 -- ---- how a token is written
 
@@ -120,17 +120,17 @@ pub data Written : Type 0 where
   Short : ℕ → Written
   Long : ℕ → ℕ → Written
 
-abbrev pub is_bare : Character → Bool
-is_bare (word.Plain b) = true
-is_bare (Escaped b) = false
+abbrev pub is_bare_character : Character → Bool
+is_bare_character (word.Plain b) = true
+is_bare_character (Escaped b) = false
 
 -- an identifier with `!` in it is never a word that is reserved
 abbrev pub named_token : List Character → Token
-named_token characters = if list_all is_bare characters then word_token (map character_of characters) else Identifier (map character_of characters)
+named_token characters = if list_all is_bare_character characters then word_token (map character_of characters) else Identifier (map character_of characters)
 
 -- signs are marks, and no other special is a token
 abbrev pub token_of : Written → Option Token
-token_of (Spelled (Number Unsigned digits)) = Some (Integer (number_of digits))
+token_of (Spelled (Number Unsigned digits)) = Some (Integer (digits_number digits))
 token_of (Spelled (Named characters)) = Some (named_token characters)
 token_of (Spelled (Text bytes)) = Some (String bytes)
 token_of (Spelled other) = None
@@ -146,16 +146,16 @@ IsAlone b [] = Unit {0}
 IsAlone b (c ∷ rest) = long_mark b c ≡ None
 
 -- the bytes are those of the token, as long as it can be, and the rest
-abbrev pub Stands : Written → List ℕ → List ℕ → Type 0
-Stands (Spelled w) bytes rest = (bytes ≡ word_text w ++ rest) × IsWord w × EndsBefore (spelling.Spelled w) rest
-Stands (Quoting e) bytes rest = (after : List ℕ) × (bytes ≡ 39 ∷ after) × IsSpelled after e rest
-Stands (Short b) bytes rest = (bytes ≡ b ∷ rest) × IsAlone b rest
-Stands (Long b c) bytes rest = bytes ≡ b ∷ c ∷ rest
+abbrev pub StandsWritten : Written → List ℕ → List ℕ → Type 0
+StandsWritten (Spelled w) bytes rest = (bytes ≡ word_text w ++ rest) × IsWord w × EndsBefore (spelling.Spelled w) rest
+StandsWritten (Quoting e) bytes rest = (after : List ℕ) × (bytes ≡ 39 ∷ after) × IsSpelled after e rest
+StandsWritten (Short b) bytes rest = (bytes ≡ b ∷ rest) × IsAlone b rest
+StandsWritten (Long b c) bytes rest = bytes ≡ b ∷ c ∷ rest
 
 -- the token stands here, and the rest follows it
 pub record IsTokenAt (token : Token) (bytes rest : List ℕ) : Type 0 where
   pub written : Written
-  pub stands : Stands written bytes rest
+  pub stands : StandsWritten written bytes rest
   pub is : token_of written ≡ Some token
 
 -- blanks and comments, the token, and then the rest

@@ -12,7 +12,7 @@ ghost use Rattle.rl_grammar.specs.Laws.{
   RefusesByte,
   ReadsOneSource,
   ReadsSource,
-  RefusesFirst,
+  TokensAreRefusedFirst,
   RefusesSource,
   RefusesWithin,
   TokensAreSlices,
@@ -32,7 +32,7 @@ pub fn means_one()
 
 /// Tokens are refused exactly at the first with which no statement goes on.
 pub fn refuses_first()
-    ensures { RefusesFirst }
+    ensures { TokensAreRefusedFirst }
 {}
 
 /// What is unfinished in a statement is counted once at each of its tokens.

@@ -6,8 +6,8 @@ use Rattle.std.proofs.lemmas.Option.{slice_get_within, get_or_from_slice_get, sl
 use Rattle.std.proofs.lemmas.Slice.Eq.{bytes_eq-Decides}
 use Rattle.std.proofs.Math.Seq.{take-append_seam, drop-append_seam, drop-append-add, take-add, drop-cons}
 use Rattle.std.specs.Str.{bytes_eq}
-use Rattle.rl_io.proofs.Looks.{file_of-append, put_of-append, used-append, put_new, file_at, put_at, file_past}
-use Rattle.rl_io.specs.Entries.{file_of, put_of, used}
+use Rattle.rl_io.proofs.Looks.{file_of-append, put_of-append, room_used-append, put_new, file_at, put_at, file_past}
+use Rattle.rl_io.specs.Entries.{file_of, put_of, room_used}
 use Rattle.rl_io.specs.Layout.{total, files_of, IsFoundAt, IsLaidOut}
 use Rattle.rl_io.specs.declared.store.Size.{Size}
 
@@ -28,15 +28,15 @@ files_of-append (s ∷ xs) ys a b l h =
     (ap (λ es. record { name = take s.name a; bytes = take s.file (drop s.name a) } ∷ es)
     (files_of-append xs ys (drop (s.name + s.file) a) b (omega (arith, length-drop (s.name + s.file) a)) (omega (arith, length-drop (s.name + s.file) a))))
 
-pub used-files_of : (xs : List Size) (a : List ℕ) → total xs ≤ length a → used (files_of xs a) ≡ total xs + 16 * length xs
-used-files_of [] a h = refl
-used-files_of (s ∷ xs) a h =
+pub room_used-files_of : (xs : List Size) (a : List ℕ) → total xs ≤ length a → room_used (files_of xs a) ≡ total xs + 16 * length xs
+room_used-files_of [] a h = refl
+room_used-files_of (s ∷ xs) a h =
     let rest : length (drop (s.name + s.file) a) ≡ length a - (s.name + s.file) = length-drop (s.name + s.file) a in
     omega (
       arith,
       length-take-le s.name a (omega arith),
       length-take-le s.file (drop s.name a) (omega (arith, length-drop s.name a)),
-      used-files_of xs (drop (s.name + s.file) a) (omega arith),
+      room_used-files_of xs (drop (s.name + s.file) a) (omega arith),
     )
 
 -- a name and a file at the front
@@ -212,8 +212,8 @@ new_total sizes s = omega (arith, total-append sizes (s ∷ []))
 
 -- the room that all files take
 pub used_all : (sizes : List Size) (bytes : List ℕ) → length bytes ≡ total sizes
-    → used (files_of sizes bytes) ≡ length bytes + 16 * length sizes
-used_all sizes bytes l = omega (arith, used-files_of sizes bytes (omega arith))
+    → room_used (files_of sizes bytes) ≡ length bytes + 16 * length sizes
+used_all sizes bytes l = omega (arith, room_used-files_of sizes bytes (omega arith))
 
 pub put_length : (bytes file : List ℕ) (from n : ℕ) → from + n ≤ length bytes
     → length (take from bytes ++ (file ++ drop (from + n) bytes)) ≡ from + (length file + (length bytes - (from + n)))
@@ -228,7 +228,7 @@ put_length bytes file from n h =
 
 pub used_found : (sizes : List Size) (bytes name file : List ℕ) (i start : ℕ) (s : Size)
     → IsFoundAt sizes bytes name i start s → length bytes ≡ total sizes
-    → used (put_of (files_of sizes bytes) name file) + s.file ≡ length bytes + 16 * length sizes + length file
+    → room_used (put_of (files_of sizes bytes) name file) + s.file ≡ length bytes + 16 * length sizes + length file
 used_found sizes bytes name file i start s f l =
     let s' : Size = record { name = s.name; file = length file } in
     let new : List ℕ = take (start + s.name) bytes ++ (file ++ drop (start + s.name + s.file) bytes) in
@@ -237,16 +237,16 @@ used_found sizes bytes name file i start s f l =
     let w : start + (s.name + s.file) ≤ length bytes = found_within sizes bytes name i start s f l in
     let t : total (slice_set sizes i s') + s.file ≡ total sizes + length file = found_total sizes i (length file) s f.size_is in
     let k : length (slice_set sizes i s') ≡ length sizes = length-set sizes i s' in
-    let u : used (files_of (slice_set sizes i s') new) ≡ total (slice_set sizes i s') + 16 * length (slice_set sizes i s')
-    = used-files_of (slice_set sizes i s') new (omega arith) in
+    let u : room_used (files_of (slice_set sizes i s') new) ≡ total (slice_set sizes i s') + 16 * length (slice_set sizes i s')
+    = room_used-files_of (slice_set sizes i s') new (omega arith) in
     rw (found_new sizes bytes name file i start s f l) (omega arith)
 
 pub used_new : (sizes : List Size) (bytes name file : List ℕ)
     → length bytes ≡ total sizes → file_of (files_of sizes bytes) name ≡ None
-    → used (put_of (files_of sizes bytes) name file) ≡ length bytes + 16 * length sizes + (16 + length name + length file)
+    → room_used (put_of (files_of sizes bytes) name file) ≡ length bytes + 16 * length sizes + (16 + length name + length file)
 used_new sizes bytes name file l n =
     rw (put_new (files_of sizes bytes) name file n)
-    (omega (arith, used-append (files_of sizes bytes) (record { name = name; bytes = file } ∷ []), used_all sizes bytes l))
+    (omega (arith, room_used-append (files_of sizes bytes) (record { name = name; bytes = file } ∷ []), used_all sizes bytes l))
 
 -- the same at a read
 pub read_is : (sizes : List Size) (i : ℕ) (d : Size) → i < length sizes → slice_get sizes i ≡ Some (get_or sizes i d)

@@ -9,12 +9,12 @@ pub record Calls : Type 0 where
   pub faults : ℕ
 
 -- one more, in a count that stands still at its end
-abbrev pub raised : ℕ → ℕ
-raised n = min (n + 1) (2 ^ 64 - 1)
+abbrev pub raised_count : ℕ → ℕ
+raised_count n = min (n + 1) (2 ^ 64 - 1)
 
 -- the next call is to fail
 abbrev pub FailsNext : Calls → Type 0
-FailsNext calls = Contains calls.fails (raised calls.made)
+FailsNext calls = Contains calls.fails (raised_count calls.made)
 
 -- no call was made yet
 abbrev pub fresh : List ℕ → Calls
@@ -22,8 +22,8 @@ fresh fails = record { fails = fails; made = 0; faults = 0 }
 
 -- after a call that did its work
 abbrev pub passed : Calls → Calls
-passed calls = record { fails = calls.fails; made = raised calls.made; faults = calls.faults }
+passed calls = record { fails = calls.fails; made = raised_count calls.made; faults = calls.faults }
 
 -- after a call that failed
 abbrev pub missed : Calls → Calls
-missed calls = record { fails = calls.fails; made = raised calls.made; faults = raised calls.faults }
+missed calls = record { fails = calls.fails; made = raised_count calls.made; faults = raised_count calls.faults }

@@ -5,44 +5,44 @@ use Rattle.rl_io.specs.Calls.{Calls, passed, missed}
 use Rattle.rl_io.specs.declared.traits.FileRead.{FileRead}
 use Rattle.rl_io.specs.declared.traits.FileRead.TheVariants.{Piece, End, Missing}
 
-pub record Entry : Type 0 where
+pub record FileEntry : Type 0 where
   pub name : List ℕ
   pub bytes : List ℕ
 
 -- the file of a name
-abbrev pub file_of : List Entry → List ℕ → Option (List ℕ)
+abbrev pub file_of : List FileEntry → List ℕ → Option (List ℕ)
 file_of [] name = None
 file_of (e ∷ es) name = (if bytes_eq e.name name then Some e.bytes else file_of es name)
 
 -- the files, once the bytes are the file of that name: in its place, where there was one, and else at the end
-abbrev pub put_of : List Entry → List ℕ → List ℕ → List Entry
+abbrev pub put_of : List FileEntry → List ℕ → List ℕ → List FileEntry
 put_of [] name bytes = record { name = name; bytes = bytes } ∷ []
 put_of (e ∷ es) name bytes =
     (if bytes_eq e.name name then record { name = e.name; bytes = bytes } ∷ es else e ∷ put_of es name bytes)
 
 -- the room that files take: each takes its name, its bytes and 16
-abbrev pub used : List Entry → ℕ
-used [] = 0
-used (e ∷ es) = 16 + length e.name + length e.bytes + used es
+abbrev pub room_used : List FileEntry → ℕ
+room_used [] = 0
+room_used (e ∷ es) = 16 + length e.name + length e.bytes + room_used es
 
 -- files, and the room for all of them
-pub record Store : Type 0 where
-  pub files : List Entry
+pub record FileStore : Type 0 where
+  pub files : List FileEntry
   pub room : ℕ
 
 -- the store, once a file was put
-abbrev pub stored : Store → List ℕ → List ℕ → Store
+abbrev pub stored : FileStore → List ℕ → List ℕ → FileStore
 stored store name bytes = record { files = put_of store.files name bytes; room = store.room }
 
 -- a folder in memory
 pub record FolderState : Type 0 where
-  pub files : List Entry
+  pub files : List FileEntry
   pub room : ℕ
   pub calls : Calls
 
 -- after a file was put by hand, which is no call of the trait
-abbrev pub with_file : FolderState → List ℕ → List ℕ → FolderState
-with_file folder name bytes = record { files = put_of folder.files name bytes; room = folder.room; calls = folder.calls }
+abbrev pub folder_with_file : FolderState → List ℕ → List ℕ → FolderState
+folder_with_file folder name bytes = record { files = put_of folder.files name bytes; room = folder.room; calls = folder.calls }
 
 -- after a write
 abbrev pub written : FolderState → List ℕ → List ℕ → FolderState

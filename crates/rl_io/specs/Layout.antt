@@ -1,6 +1,6 @@
 -- How the names and the files lie in memory, one after another.
 use Rattle.std.specs.Prelude.{◌≡◌, ℕ, ◌+◌, ◌*◌, ◌≤◌, List, [], ◌∷◌, length, take, drop, slice_get, None, Some}
-use Rattle.rl_io.specs.Entries.{Entry, file_of}
+use Rattle.rl_io.specs.Entries.{FileEntry, file_of}
 use Rattle.rl_io.specs.declared.store.Size.{Size}
 
 -- how many bytes these names and files take
@@ -9,7 +9,7 @@ total [] = 0
 total (s ∷ ss) = (s.name + s.file) + total ss
 
 -- the files of these sizes that lie in `bytes`
-abbrev pub files_of : List Size → List ℕ → List Entry
+abbrev pub files_of : List Size → List ℕ → List FileEntry
 files_of [] bytes = []
 files_of (s ∷ ss) bytes =
     record { name = take s.name bytes; bytes = take s.file (drop s.name bytes) }

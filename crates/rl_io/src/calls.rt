@@ -3,7 +3,7 @@
 
 ghost use Rattle.std.specs.Prelude.{◌≡◌, ◌↔◌, IfOk, IsErr, OnOk, OnErr};
 ghost use Rattle.rl_io.specs.Faults.{Rose};
-ghost use Rattle.rl_io.specs.Calls.{raised, FailsNext, fresh, passed, missed};
+ghost use Rattle.rl_io.specs.Calls.{raised_count, FailsNext, fresh, passed, missed};
 
 use crate::errors::{Failed, OutOfMemory};
 use std::alloc::Global;
@@ -54,7 +54,7 @@ impl CallCount {
 
     /// Counts a fault of the call that was counted last.
     pub fn fault(&mut self) -> Failed
-        ensures counted { self.new ≡ record self.old { faults = raised self.old.faults } }
+        ensures counted { self.new ≡ record self.old { faults = raised_count self.old.faults } }
         ensures rose { Rose self.old.faults self.new.faults }
     {
         self.faults = self.faults.saturating_add(1);

@@ -6,7 +6,7 @@ ghost use Rattle.rl_io.specs.Faults.{Rose};
 ghost use Rattle.rl_io.specs.FileReads.{ReadsFile, FitsBuffer};
 ghost use Rattle.rl_io.specs.Folder.{Replaces, LeavesOthers};
 ghost use Rattle.rl_io.specs.Calls.{FailsNext, fresh};
-ghost use Rattle.rl_io.specs.Entries.{file_of, put_of, used, with_file, written, looked, untouched, answer_of, buffer_of};
+ghost use Rattle.rl_io.specs.Entries.{file_of, put_of, room_used, folder_with_file, written, looked, untouched, answer_of, buffer_of};
 
 use crate::calls::CallCount;
 use crate::copies::copy_front;
@@ -45,8 +45,8 @@ impl MemFiles {
     /// Makes `bytes` the whole file of that name, where the room suffices, and says whether it does. This is no call
     /// that could be told to fail.
     pub fn put(&mut self, name: &[u8], bytes: &[u8]) -> bool
-        ensures room { IsTrue result ↔ (used (put_of self.old.files name.now bytes.now) ≤ self.old.room) }
-        ensures after { self.new ≡ (if result then with_file self.old name.now bytes.now else self.old) }
+        ensures room { IsTrue result ↔ (room_used (put_of self.old.files name.now bytes.now) ≤ self.old.room) }
+        ensures after { self.new ≡ (if result then folder_with_file self.old name.now bytes.now else self.old) }
     {
         self.store.put(name, bytes)
     }
@@ -98,7 +98,7 @@ impl Files for MemFiles {
 
     fn write(&mut self, name: &[u8], bytes: &[u8]) -> Result<(), Failed>
         ensures exactly { IsErr result ↔
-            (FailsNext self.old.calls ⊎ self.old.room < used (put_of self.old.files name.now bytes.now)) }
+            (FailsNext self.old.calls ⊎ self.old.room < room_used (put_of self.old.files name.now bytes.now)) }
         ensures after { OnOk result (self.new ≡ written self.old name.now bytes.now) }
         ensures missed { OnErr result (self.new ≡ untouched self.old) }
         ensures written { OnOk result (Replaces name.now bytes.now (file_of self.old.files) (file_of self.new.files)) }

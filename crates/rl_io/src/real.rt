@@ -6,7 +6,7 @@ ghost use Rattle.std.specs.Prelude.{◌≡◌, ℕ, ◌≤◌, length, None, Ok,
 ghost use Rattle.std.specs.Io.KnownBytes.{ReadConsumes, Appends};
 ghost use Rattle.rl_io.specs.Faults.{Rose};
 ghost use Rattle.rl_io.specs.FileReads.{FitsBuffer};
-ghost use Rattle.rl_io.specs.Calls.{raised};
+ghost use Rattle.rl_io.specs.Calls.{raised_count};
 
 use crate::errors::Failed;
 use crate::traits::{FileRead, Files, Sink, Source};
@@ -49,7 +49,7 @@ impl<R: Read + Drop> Source for StdSource<R> {
         ensures fits { IfOk result (λ n. n ≤ length buf.old) }
         ensures steady { OnOk result (self.new.faults ≡ self.old.faults) }
         ensures failed { OnErr result (Rose self.old.faults self.new.faults) }
-        ensures one { OnErr result (self.new.faults ≡ raised self.old.faults) }
+        ensures one { OnErr result (self.new.faults ≡ raised_count self.old.faults) }
     {
         match self.reader.read(buf) {
             Ok(n) => Ok(n),
@@ -102,7 +102,7 @@ impl<W: Write + Drop> Sink for StdSink<W> {
         ensures bytes { OnOk result (Appends (W.contents self.old.inner) (W.contents self.new.inner) piece.now) }
         ensures steady { OnOk result (self.new.faults ≡ self.old.faults) }
         ensures failed { OnErr result (Rose self.old.faults self.new.faults) }
-        ensures one { OnErr result (self.new.faults ≡ raised self.old.faults) }
+        ensures one { OnErr result (self.new.faults ≡ raised_count self.old.faults) }
     {
         match write_and_flush(&mut self.writer, piece) {
             Ok(()) => Ok(()),
@@ -174,7 +174,7 @@ impl<R: rt::Files + Drop> Files for DirFiles<R> {
         ensures fits { IfOk result (FitsBuffer (length buf.old)) }
         ensures steady { OnOk result (self.new ≡ self.old) }
         ensures failed { OnErr result (Rose self.old self.new) }
-        ensures one { OnErr result (self.new ≡ raised self.old) }
+        ensures one { OnErr result (self.new ≡ raised_count self.old) }
     {
         let Ok(path) = str::from_utf8(name) else {
             return Ok(FileRead::Missing);
@@ -192,7 +192,7 @@ impl<R: rt::Files + Drop> Files for DirFiles<R> {
         ensures no_text { ¬ (IsUtf8 name.now) → IsErr result }
         ensures steady { OnOk result (self.new ≡ self.old) }
         ensures failed { OnErr result (Rose self.old self.new) }
-        ensures one { OnErr result (self.new ≡ raised self.old) }
+        ensures one { OnErr result (self.new ≡ raised_count self.old) }
     {
         let written = match str::from_utf8(name) {
             Ok(path) => fs::write(&self.rt, path, bytes).is_ok(),

@@ -3,7 +3,7 @@
 
 ghost use Rattle.std.specs.Prelude.{◌≡◌, ℕ, ◌+◌, ◌-◌, ◌*◌, ◌<◌, ◌≤◌, ◌++◌, ◌↔◌, ◌==◌, [], ◌∷◌, length, take, drop, None, Some, slice_set, IfOk, IsTrue, MatchOption, vec_len, vec_capacity, if◌then◌else◌};
 ghost use Rattle.std.specs.Str.{bytes_eq};
-ghost use Rattle.rl_io.specs.Entries.{file_of, put_of, used, stored};
+ghost use Rattle.rl_io.specs.Entries.{file_of, put_of, room_used, stored};
 ghost use Rattle.rl_io.specs.Layout.{total, files_of, IsFoundAt};
 
 use crate::copies::append;
@@ -39,9 +39,9 @@ pub struct FileStore {
 
 impl Model for FileStore {
     ghost use Rattle.std.specs.Prelude.{◌+◌, ◌*◌, ◌<◌, ◌≤◌, length, vec_capacity};
-    ghost use Rattle.rl_io.specs.Entries.{Store};
+    ghost use Rattle.rl_io.specs.Entries.{FileStore};
 
-    ghost Value = { Store };
+    ghost Value = { FileStore };
 
     ghost use Rattle.rl_io.specs.Layout.{files_of, IsLaidOut};
 
@@ -163,7 +163,7 @@ impl FileStore {
 
     /// Makes `file` the file of that name, where the room suffices, and says whether it does.
     pub fn put(&mut self, name: &[u8], file: &[u8]) -> bool
-        ensures room { IsTrue result ↔ (used (put_of self.old.files name.now file.now) ≤ self.old.room) }
+        ensures room { IsTrue result ↔ (room_used (put_of self.old.files name.now file.now) ≤ self.old.room) }
         ensures after { self.new ≡ (if result then stored self.old name.now file.now else self.old) }
     {
         let free = self.room - self.bytes.len() - OVERHEAD * self.sizes.len();

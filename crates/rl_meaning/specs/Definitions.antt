@@ -7,11 +7,11 @@ use Rattle.rl_tree.specs.declared.held.VarKind.{VarKind}
 use Rattle.rl_tree.specs.declared.held.VarKind.TheVariants.{Plain, Fluid, Global}
 use Rattle.rl_meaning.specs.State.{State, Pointer, Definition, Function, SpecialForm, NativeFunction, HeldFunction}
 use Rattle.rl_meaning.specs.Outcome.{Outcome, Done, then_do, choose, Levels, made_pair}
-use Rattle.rl_meaning.specs.Symbols.{nil, lambda_id, is_constant, symbol_at, with_symbol, pair_at}
+use Rattle.rl_meaning.specs.Symbols.{nil_value_of_state, lambda_number, is_constant, symbol_at, with_symbol, pair_at}
 use Rattle.rl_meaning.specs.Errors.{fail, wrong_type, badly_formed, not_bindable, system_name}
-use Rattle.rl_meaning.specs.Constants.{reading, reading_pair}
+use Rattle.rl_meaning.specs.Constants.{reading_object, reading_pair}
 use Rattle.rl_meaning.specs.Holding.{hold_function, fits_kind, pointer_value, pointer_to, function_at}
-use Rattle.rl_meaning.specs.Properties.{of_identifier, with_identifier, for_each}
+use Rattle.rl_meaning.specs.Properties.{of_identifier, for_identifier, for_each}
 use Rattle.rl_meaning.specs.Variables.{assigned_by_name}
 use Rattle.rl_meaning.specs.Reach.{with_change}
 use Rattle.rl_meaning.specs.Standing.{with_standing_codes}
@@ -35,21 +35,21 @@ define i kind p s = with_definition i (Some (record { kind = kind; function = p 
 
 -- the pair of the type and the function pointer
 abbrev pub definition_pair : Option Definition → State → Outcome Value
-definition_pair None s = Done nil s
+definition_pair None s = Done nil_value_of_state s
 definition_pair (Some d) s = made_pair (kind_name d.kind) (pointer_value d.function) s
 
 abbrev pub getd : Value → State → Outcome Value
-getd f s = of_identifier f nil s (λ i s. definition_pair (symbol_at s i).definition s)
+getd f s = of_identifier f nil_value_of_state s (λ i s. definition_pair (symbol_at s i).definition s)
 
 -- ---- PUTD
 
 -- what a body may be: the pointer of a function, or a list whose CAR is LAMBDA and whose CDR is this
-pub data Body : Type 0 where
-  Given : Pointer → Body
-  Lambda : Value → Body
+pub data FunctionBody : Type 0 where
+  Given : Pointer → FunctionBody
+  Lambda : Value → FunctionBody
 
-abbrev pub lambda_body : Option (Value × Value) → Option Body
-lambda_body (Some (Id l, rest)) = if l == lambda_id then Some (Lambda rest) else None
+abbrev pub lambda_body : Option (Value × Value) → Option FunctionBody
+lambda_body (Some (Id l, rest)) = if l == lambda_number then Some (Lambda rest) else None
 lambda_body other = None
 
 abbrev pub may_define : Kind → Function → Bool
@@ -59,7 +59,7 @@ may_define kind (NativeFunction native) = false
 may_define kind (HeldFunction held) = true
 
 -- the body, where it is of a right type
-abbrev pub body_in : State → Kind → Value → Option Body
+abbrev pub body_in : State → Kind → Value → Option FunctionBody
 body_in s kind (Fun f place) = let p : Pointer = record { function = f; place = place } in if may_define kind (function_at s p) then Some (Given p) else None
 body_in s kind b = lambda_body (pair_at s b)
 
@@ -71,7 +71,7 @@ abbrev pub kind_of : Value → Option Kind
 kind_of (Id i) = kind_named i
 kind_of v = None
 
-abbrev pub with_body : {A : Type 0} → Option Body → Value → State → (Body → State → Outcome A) → Outcome A
+abbrev pub with_body : {A : Type 0} → Option FunctionBody → Value → State → (FunctionBody → State → Outcome A) → Outcome A
 with_body (Some body) b s next = next body s
 with_body None b s next = fail wrong_type b s
 
@@ -85,16 +85,16 @@ fits_function kind f = true
 
 abbrev pub hold_lambda : Kind → Levels → Option (Value × Value) → State → Outcome ℕ
 hold_lambda kind levels (Some parts) s = hold_function kind levels parts.0 parts.1 s
-hold_lambda kind levels None s = fail badly_formed (Id lambda_id) s
+hold_lambda kind levels None s = fail badly_formed (Id lambda_number) s
 
-abbrev pub function_of : Kind → Levels → Body → State → Outcome Pointer
-function_of kind levels (Given p) s = choose (fits_function kind (function_at s p)) s (λ s. Done p s) (λ s. fail badly_formed (Id lambda_id) s)
-function_of kind levels (Lambda rest) s = then_do (hold_lambda kind levels (pair_at s rest) (reading rest s)) (λ f s. Done (pointer_to f) s)
+abbrev pub function_of : Kind → Levels → FunctionBody → State → Outcome Pointer
+function_of kind levels (Given p) s = choose (fits_function kind (function_at s p)) s (λ s. Done p s) (λ s. fail badly_formed (Id lambda_number) s)
+function_of kind levels (Lambda rest) s = then_do (hold_lambda kind levels (pair_at s rest) (reading_object rest s)) (λ f s. Done (pointer_to f) s)
 
 -- the types of the arguments are tested first, then the name, then the body
 abbrev pub putd : Levels → Value → Value → Value → State → Outcome Value
 putd levels f t b s =
-    with_identifier f s (λ i s.
+    for_identifier f s (λ i s.
     with_kind (kind_of t) t s (λ kind s.
     with_body (body_in s kind b) b (reading_pair b s) (λ body s.
     own_name i s (λ s.
@@ -102,7 +102,7 @@ putd levels f t b s =
 
 abbrev pub remd : Value → State → Outcome Value
 remd f s =
-    with_identifier f s (λ i s.
+    for_identifier f s (λ i s.
     own_name i s (λ s.
     then_do (definition_pair (symbol_at s i).definition s) (λ pair s. Done pair (with_definition i None s))))
 
@@ -110,7 +110,7 @@ remd f s =
 
 abbrev pub or_given_nil : Option Value → Option Value
 or_given_nil (Some v) = Some v
-or_given_nil None = Some nil
+or_given_nil None = Some nil_value_of_state
 
 -- a variable of this kind, with the top value NIL where it has none
 abbrev pub declared : VarKind → ℕ → State → Outcome (Unit {0})
@@ -140,4 +140,4 @@ abbrev pub unfluid : Value → State → Outcome Value
 unfluid l s = for_each undeclare l s
 
 abbrev pub set : Value → Value → State → Outcome Value
-set u x s = with_identifier u s (λ i s. assigned_by_name i x s)
+set u x s = for_identifier u s (λ i s. assigned_by_name i x s)

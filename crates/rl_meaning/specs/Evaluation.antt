@@ -7,10 +7,10 @@ use Rattle.rl_meaning.specs.Names.{Native, Special, Quote, Cond, Progn, And, Or,
 use Rattle.rl_meaning.specs.Names as names
 use Rattle.rl_meaning.specs.State.{State, Code, Tree, Atom, Quoted, Pair, Literal, Kept, Held, Pointer, Definition, Function, SpecialForm, NativeFunction, HeldFunction, Expansion}
 use Rattle.rl_meaning.specs.Outcome.{Outcome, Done, Failed, Went, Returned, Stopped, Expands, then_do, choose, turn, Levels, deeper, made_pair}
-use Rattle.rl_meaning.specs.Symbols.{nil, is_nil, lambda_id, return_id, truth, pair_at, symbol_at}
+use Rattle.rl_meaning.specs.Symbols.{nil_value_of_state, is_nil, lambda_number, return_number, truth, pair_at, symbol_at}
 use Rattle.rl_meaning.specs.Errors.{fail, undefined, wrong_count, wrong_type, misplaced, badly_formed}
-use Rattle.rl_meaning.specs.Constants.{reading, reading_pair}
-use Rattle.rl_meaning.specs.Holding.{function_id, hold_form, hold_expansion, elements_of, tree_identifiers, is_list, pointer_value, pointer_to, function_at}
+use Rattle.rl_meaning.specs.Constants.{reading_object, reading_pair}
+use Rattle.rl_meaning.specs.Holding.{function_number, hold_form, hold_expansion, elements_walked, tree_identifiers, is_list, pointer_value, pointer_to, function_at}
 use Rattle.rl_meaning.specs.Copying.{copied}
 use Rattle.rl_meaning.specs.Variables.{variable, assigned, with_mark, restored, binding}
 use Rattle.rl_meaning.specs.Numbers.{operated}
@@ -19,7 +19,7 @@ use Rattle.rl_meaning.specs.Definitions.{define, own_name, hold_lambda}
 use Rattle.rl_meaning.specs.Printing.{print_error, note_value, note_error}
 use Rattle.rl_meaning.specs.Natives.{native, argument}
 use Rattle.rl_meaning.specs.Compiling.{Compiler}
-use Rattle.rl_meaning.specs.Forms.{Form, Call, Applied, Bad, head_of, count_of, call_levels, fits, lambda_parameters, after_label, hold_part}
+use Rattle.rl_meaning.specs.Forms.{Form, Call, Applied, Bad, head_of, element_count, call_levels, fits, lambda_parameters, after_label, hold_part}
 
 -- ---- where a form stands
 
@@ -132,7 +132,7 @@ print_unless_nil levels msgp message s = choose (is_nil msgp) s (λ s. Done tt s
 
 -- a list of the value, or the number of the error
 abbrev pub caught : Levels → Value → Outcome Value → Outcome Value
-caught levels msgp (Done v s) = then_do (made_pair v nil s) (λ list s. Done list (note_value s))
+caught levels msgp (Done v s) = then_do (made_pair v nil_value_of_state s) (λ list s. Done list (note_value s))
 caught levels msgp (Failed n m s) = then_do (print_unless_nil levels msgp m s) (λ done s. Done (Int n) (note_error n s))
 caught levels msgp other = other
 
@@ -154,7 +154,7 @@ target_definition i None s = Undefined
 target_definition i (Some d) s = elim d.kind [ Expr ↦ target_function (Some i) d.function (function_at s d.function) | Fexpr ↦ WrongType | Macro ↦ WrongType ]
 
 abbrev pub target_pair : Option (Value × Value) → Target
-target_pair (Some (Id l, rest)) = if l == lambda_id then Lambda rest else WrongType
+target_pair (Some (Id l, rest)) = if l == lambda_number then Lambda rest else WrongType
 target_pair other = WrongType
 
 abbrev pub target_of : Value → State → Target
@@ -189,7 +189,7 @@ module _ (rec : Rec) where
   abbrev pub form_evaluated : Levels → ℕ → Function → State → Outcome Value
   form_evaluated levels f (HeldFunction held) s =
       restored (length s.bindings) (rec.ask (In (record { levels = levels; chain = longest_chain; kept = held.kept; holder = f }) Inside held.body) (with_mark None s))
-  form_evaluated levels f other s = Done nil s
+  form_evaluated levels f other s = Done nil_value_of_state s
 
   abbrev pub evaluated : Levels → Value → State → Outcome Value
   evaluated levels u s = turn s (λ s. then_do (hold_form levels u s) (λ f s. form_evaluated levels f (function_at s (pointer_to f)) s))
@@ -204,19 +204,19 @@ module _ (rec : Rec) where
   -- the held form of a LAMBDA list is no body that turns: its mark names no function
   abbrev pub list_applied : Levels → ℕ → Function → List Value → State → Outcome Value
   list_applied levels f (HeldFunction held) vs s = counted (length held.parameters == length vs) (pointer_value (pointer_to f)) s (λ s. held_applied None levels f None held vs s)
-  list_applied levels f other vs s = Done nil s
+  list_applied levels f other vs s = Done nil_value_of_state s
 
   -- APPLY: first the tests of f, then the walk of l, its levels, and the holding of a LAMBDA list
   abbrev pub applied_to : Levels → Target → List Value → State → Outcome Value
   applied_to levels (Function_ name f) vs s = rec.ask (Call_ name levels f vs) s
-  applied_to levels (Lambda rest) vs s = then_do (hold_lambda Expr levels (pair_at s rest) (reading rest s)) (λ f s. list_applied levels f (function_at s (pointer_to f)) vs s)
-  applied_to levels other vs s = Done nil s
+  applied_to levels (Lambda rest) vs s = then_do (hold_lambda Expr levels (pair_at s rest) (reading_object rest s)) (λ f s. list_applied levels f (function_at s (pointer_to f)) vs s)
+  applied_to levels other vs s = Done nil_value_of_state s
 
   abbrev pub apply_target : Levels → Target → Value → Value → State → Outcome Value
   apply_target levels Undefined f l s = fail undefined f s
   apply_target levels WrongType f l s = fail wrong_type f s
   apply_target levels target f l s =
-      then_do (elements_of l s) (λ walked s.
+      then_do (elements_walked l s) (λ walked s.
       with_arguments (proper walked.end (Some walked.result)) l s (λ vs s.
       deeper (length vs / 8) levels s (λ levels. applied_to levels target vs s)))
 
@@ -268,7 +268,7 @@ module _ (rec : Rec) where
 
   abbrev pub expanded_body : Here → Position → ℕ → Function → State → Outcome Value
   expanded_body here position f (HeldFunction held) s = rec.ask (In (record here { holder = f }) position held.body) s
-  expanded_body here position f other s = Done nil s
+  expanded_body here position f other s = Done nil_value_of_state s
 
   abbrev pub macro_called : ℕ → Here → Position → Tree → State → Outcome Value
   macro_called i here position form s = then_do (expansion_of i here form s) (λ f s. expanded_body here position f (function_at s (pointer_to f)) s)
@@ -301,25 +301,25 @@ module _ (rec : Rec) where
   abbrev pub define_function : Special → Levels → Tree → State → Outcome Value
   define_function form levels (Pair (Atom (Id i)) (Pair parameters forms)) s =
       own_name i s (λ s. function_defined form i (hold_part (kind_of_definition form) levels parameters forms s))
-  define_function form levels args s = Done nil s
+  define_function form levels args s = Done nil_value_of_state s
 
   -- ---- lists of values
 
   abbrev pub going : Position → Tree → State → Outcome Value
   going position (Pair (Atom (Id l)) end) s = misplaced_at position (Id l) s (λ s. Went l s)
-  going position args s = Done nil s
+  going position args s = Done nil_value_of_state s
 
   abbrev pub quoted : Tree → State → Outcome Value
   quoted (Pair (Quoted v) end) s = Done v s
-  quoted args s = Done nil s
+  quoted args s = Done nil_value_of_state s
 
   abbrev pub function_named : Tree → State → Outcome Value
   function_named (Pair (Atom v) end) s = Done v s
-  function_named args s = Done nil s
+  function_named args s = Done nil_value_of_state s
 
   abbrev pub atom_in : Tree → Value
   atom_in (Atom v) = v
-  atom_in t = nil
+  atom_in t = nil_value_of_state
 
   abbrev pub identifiers_in : Tree → List ℕ
   identifiers_in t = elim (tree_identifiers t) [ None ↦ [] | Some xs ↦ xs ]
@@ -332,19 +332,19 @@ module _ (rec : Rec) where
     eval here position (Quoted v) s = Done v s
     eval here position (Literal n e) s = deeper_here 1 here s (λ here. Done (Fun here.holder (suc n)) s)
     eval here position (Pair (Pair h lambda) args) s = elim (head_of (Pair h lambda) s) [
-      | Applied ↦ applied_lambda here (lambda_parameters lambda args) (count_of args) (λ here next s. arguments here [] next args s) lambda s
+      | Applied ↦ applied_lambda here (lambda_parameters lambda args) (element_count args) (λ here next s. arguments here [] next args s) lambda s
       | Bad culprit ↦ deeper_here 1 here s (λ here. bad_form culprit s)
-      | Form form ↦ Done nil s
-      | Call kind i ↦ Done nil s
+      | Form form ↦ Done nil_value_of_state s
+      | Call kind i ↦ Done nil_value_of_state s
     ]
     eval here position (Pair head args) s = elim (head_of head s) [
-      | Applied ↦ Done nil s
+      | Applied ↦ Done nil_value_of_state s
       | Bad culprit ↦ deeper_here 1 here s (λ here. bad_form culprit s)
       | Call kind i ↦ choose (is_list args) s
           (λ s. elim kind [
-            | Expr ↦ deeper_here (call_levels (count_of args)) here s (λ here. arguments here [] (λ vs s. called i here.levels vs s) args s)
-            | Fexpr ↦ deeper_here (call_levels (count_of args)) here s (λ here. fexpr_called i here args s)
-            | Macro ↦ in_chain here.chain i s (λ n s. deeper_here (call_levels (count_of args)) (record here { chain = n }) s (λ here. macro_called i here position (Pair head args) s))
+            | Expr ↦ deeper_here (call_levels (element_count args)) here s (λ here. arguments here [] (λ vs s. called i here.levels vs s) args s)
+            | Fexpr ↦ deeper_here (call_levels (element_count args)) here s (λ here. fexpr_called i here args s)
+            | Macro ↦ in_chain here.chain i s (λ n s. deeper_here (call_levels (element_count args)) (record here { chain = n }) s (λ here. macro_called i here position (Pair head args) s))
           ])
           (λ s. deeper_here 1 here s (λ here. bad_form (Id i) s))
       | Form form ↦ deeper_here 1 here s (λ here. choose (fits form args) s
@@ -352,7 +352,7 @@ module _ (rec : Rec) where
             | Quote ↦ quoted args s
             | names.Function ↦ function_named args s
             | Cond ↦ clauses here position args s
-            | Progn ↦ progn here position nil args s
+            | Progn ↦ progn here position nil_value_of_state args s
             | And ↦ conjunction here (truth true) args s
             | Or ↦ disjunction here args s
             | Setq ↦ setq here args s
@@ -380,8 +380,8 @@ module _ (rec : Rec) where
     pub applied_lambda : Here → Option (List ℕ) → ℕ → (Here → (List Value → State → Outcome Value) → State → Outcome Value) → Tree → State → Outcome Value
     applied_lambda here (Some xs) n given (Pair parameters forms) s =
         deeper_here (call_levels n) here s (λ here.
-        given here (λ vs s. binding here.levels here.kept xs vs s (λ levels s. progn (record here { levels = levels }) Inside nil forms s)) s)
-    applied_lambda here other n given lambda s = deeper_here 1 here s (λ here. bad_form (Id lambda_id) s)
+        given here (λ vs s. binding here.levels here.kept xs vs s (λ levels s. progn (record here { levels = levels }) Inside nil_value_of_state forms s)) s)
+    applied_lambda here other n given lambda s = deeper_here 1 here s (λ here. bad_form (Id lambda_number) s)
 
     -- forms in order, behind one whose value was v
     pub progn : Here → Position → Value → Tree → State → Outcome Value
@@ -390,51 +390,51 @@ module _ (rec : Rec) where
 
     pub clauses : Here → Position → Tree → State → Outcome Value
     clauses here position (Pair c rest) s = clause here position c (λ s. clauses here position rest s) s
-    clauses here position end s = Done nil s
+    clauses here position end s = Done nil_value_of_state s
 
     -- a clause of COND, and what comes where its test is NIL; without consequents its value is that of the test
     pub clause : Here → Position → Tree → (State → Outcome Value) → State → Outcome Value
     clause here position (Pair a consequents) next s =
         then_do (eval here Inside a s) (λ v s. choose (is_nil v) s next (λ s. progn here position v consequents s))
     clause here position (Literal n e) next s =
-        then_do (variable function_id s) (λ v s. choose (is_nil v) s next (λ s. eval here position e s))
+        then_do (variable function_number s) (λ v s. choose (is_nil v) s next (λ s. eval here position e s))
     clause here position other next s = next s
 
     pub conjunction : Here → Value → Tree → State → Outcome Value
     conjunction here v (Pair e rest) s =
-        then_do (eval here Inside e s) (λ w s. choose (is_nil w) s (λ s. Done nil s) (λ s. conjunction here w rest s))
+        then_do (eval here Inside e s) (λ w s. choose (is_nil w) s (λ s. Done nil_value_of_state s) (λ s. conjunction here w rest s))
     conjunction here v end s = Done v s
 
     pub disjunction : Here → Tree → State → Outcome Value
     disjunction here (Pair e rest) s =
         then_do (eval here Inside e s) (λ w s. choose (is_nil w) s (λ s. disjunction here rest s) (λ s. Done w s))
-    disjunction here end s = Done nil s
+    disjunction here end s = Done nil_value_of_state s
 
     pub setq : Here → Tree → State → Outcome Value
     setq here (Pair (Atom (Id x)) (Pair e end)) s = then_do (eval here Inside e s) (λ v s. assigned x v s)
-    setq here args s = Done nil s
+    setq here args s = Done nil_value_of_state s
 
     pub returning : Here → Position → Tree → State → Outcome Value
     returning here position (Pair e end) s =
-        misplaced_at position (Id return_id) s (λ s. then_do (eval here Inside e s) (λ v s. Returned v s))
-    returning here position args s = Done nil s
+        misplaced_at position (Id return_number) s (λ s. then_do (eval here Inside e s) (λ v s. Returned v s))
+    returning here position args s = Done nil_value_of_state s
 
     pub prog : Here → Tree → State → Outcome Value
     prog here (Pair variables body) s =
         binding here.levels here.kept (identifiers_in variables) [] s (λ levels s. statements (record here { levels = levels }) body body s)
-    prog here args s = Done nil s
+    prog here args s = Done nil_value_of_state s
 
     -- the statements of a PROG, of which the identifiers are labels
     pub statements : Here → Tree → Tree → State → Outcome Value
     statements here whole (Pair (Atom (Id l)) rest) s = statements here whole rest s
     statements here whole (Pair e rest) s = in_prog here whole (λ s. statements here whole rest s) (eval here Statement e s)
-    statements here whole end s = Done nil s
+    statements here whole end s = Done nil_value_of_state s
 
     -- (LIST a ..) is (CONS a (LIST ..)), and (LIST) is NIL
     pub listed : Here → Tree → State → Outcome Value
     listed here (Pair e rest) s =
         then_do (eval here Inside e s) (λ v s. deeper_here 1 here s (λ inner. then_do (listed inner rest s) (λ list s. made_pair v list s)))
-    listed here end s = Done nil s
+    listed here end s = Done nil_value_of_state s
 
     -- (PLUS a b ..) is (PLUS2 a (PLUS b ..)), and (PLUS a) is a; TIMES, MAX and MIN likewise
     pub combined : Special → Here → Tree → State → Outcome Value

@@ -5,9 +5,9 @@ use Rattle.rl_meaning.specs.Names.{Special, De, Df, Dm}
 use Rattle.rl_meaning.specs.State.{State, Code, Tree, Atom, Pair, Literal, Held, Pointer, Definition, Function, SpecialForm}
 use Rattle.rl_meaning.specs.CMacros.{Operand, Slot, Constant, Variable, Register, Entry, Alloc, Dealloc, Load, Store, SetVar, Move, Copy, Link, LinkE, Self, CallNative, Jump, JumpNil, JumpT, JumpEq, JumpNe, Label, GoTo, Bind, ProgBind, Free, Exit, Raise}
 use Rattle.rl_meaning.specs.Outcome.{Outcome, Done, then_do, choose, turn, Levels, deeper}
-use Rattle.rl_meaning.specs.Symbols.{nil, is_nil, same, symbol_at, cdr_at, list_elements}
+use Rattle.rl_meaning.specs.Symbols.{nil_value_of_state, is_nil, same, symbol_at, cdr_at, list_elements}
 use Rattle.rl_meaning.specs.Errors.{fail, wrong_count, wrong_type, badly_formed}
-use Rattle.rl_meaning.specs.Holding.{function_id, is_improper, hold_function, same_pointer, function_at, form_at}
+use Rattle.rl_meaning.specs.Holding.{function_number, is_improper, hold_function, same_pointer, function_at, form_at}
 use Rattle.rl_meaning.specs.Copying.{copied}
 use Rattle.rl_meaning.specs.Variables.{variable, assigned, with_mark, bind_all, binding_levels, with_oldest, restored}
 use Rattle.rl_meaning.specs.Definitions.{own_name}
@@ -20,14 +20,14 @@ abbrev pub all_registers : ℕ
 all_registers = 15
 
 abbrev pub register : Machine → ℕ → Value
-register m r = slice_index_or m.registers (r - 1) nil
+register m r = slice_index_or m.registers (r - 1) nil_value_of_state
 
 abbrev pub with_register : ℕ → Value → Machine → Machine
 with_register r v m = record m { registers = slice_set m.registers (r - 1) v }
 
 abbrev pub nils : ℕ → List Value
 nils zero = []
-nils (suc n) = nil ∷ nils n
+nils (suc n) = nil_value_of_state ∷ nils n
 
 -- these values in the first registers, and NIL in the others
 abbrev pub registers_of : List Value → List Value
@@ -49,7 +49,7 @@ abbrev pub deallocated : ℕ → Machine → Machine
 deallocated n m = record m { slots = take (length m.slots - n) m.slots }
 
 abbrev pub content : Machine → Operand → State → Outcome Value
-content m (Slot k) s = Done (slice_index_or m.slots (k - 1) nil) s
+content m (Slot k) s = Done (slice_index_or m.slots (k - 1) nil_value_of_state) s
 content m (Constant v) s = Done v s
 content m (Variable x) s = variable x s
 content m (Register r) s = Done (register m r) s
@@ -86,19 +86,19 @@ one_more None = None
 one_more (Some l) = Some (suc l)
 
 -- the frame ends before a call in last place
-abbrev pub ended : Frame → State → State
-ended f s = with_oldest f.depth s
+abbrev pub frame_ended : Frame → State → State
+frame_ended f s = with_oldest f.depth s
 
 abbrev pub at_entry : List Value → Levels → Machine
 at_entry vs levels = record { registers = registers_of vs; slots = []; bound = []; levels = levels }
 
 -- the name still has this function
-abbrev pub is_function : Option Pointer → Option Definition → Bool
-is_function (Some p) (Some d) = same_pointer p d.function
-is_function _ _ = false
+abbrev pub is_function_still : Option Pointer → Option Definition → Bool
+is_function_still (Some p) (Some d) = same_pointer p d.function
+is_function_still _ _ = false
 
 abbrev pub is_same : Frame → ℕ → State → Bool
-is_same f n s = is_function f.function (symbol_at s f.name).definition && length f.held.parameters == n
+is_same f n s = is_function_still f.function (symbol_at s f.name).definition && length f.held.parameters == n
 
 -- what stands behind a label, and behind the entry
 abbrev pub behind : ℕ → Code → Code
@@ -112,7 +112,7 @@ behind_entry (c ∷ rest) = rest
 
 -- a FUNCTION form as the list that it is
 abbrev pub as_list : Tree → Tree
-as_list (Literal n e) = Pair (Atom (Id function_id)) (Pair e (Atom nil))
+as_list (Literal n e) = Pair (Atom (Id function_number)) (Pair e (Atom nil_value_of_state))
 as_list t = t
 
 abbrev pub unless : {A : Type 0} → Bool → Option A → Option A
@@ -176,8 +176,8 @@ module _ (rec : Rec) where
     run f (Move r q ∷ rest) m s = run f rest (with_register r (register m q) m) s
     run f (Copy r c ∷ rest) m s = then_do (copied m.levels (form_at s c) s) (λ v s. run f rest (with_register r v m) s)
     run f (Link i n ∷ rest) m s = then_do (linked i m.levels (arguments n m) s) (λ v s. run f rest (after_link v m) s)
-    run f (LinkE i n k ∷ rest) m s = linked i f.outside (arguments n m) (ended f s)
-    run f (Self n k ∷ rest) m s = choose (is_same f n s) (ended f s) (λ s. again f (arguments n m) s) (λ s. linked f.name f.outside (arguments n m) s)
+    run f (LinkE i n k ∷ rest) m s = linked i f.outside (arguments n m) (frame_ended f s)
+    run f (Self n k ∷ rest) m s = choose (is_same f n s) (frame_ended f s) (λ s. again f (arguments n m) s) (λ s. linked f.name f.outside (arguments n m) s)
     run f (CallNative i n ∷ rest) m s = then_do (called rec i m.levels (arguments n m) s) (λ v s. run f rest (with_register 1 v m) s)
     run f (Jump l ∷ rest) m s = seek f l rest m s
     run f (JumpNil l ∷ rest) m s = choose (is_nil (register m 1)) s (λ s. seek f l rest m s) (λ s. run f rest m s)
@@ -191,17 +191,17 @@ module _ (rec : Rec) where
     run f (Free n ∷ rest) m s = run f rest (freed n m) (undone n s)
     run f (Exit ∷ rest) m s = Done (register m 1) s
     run f (Raise e ∷ rest) m s = fail e (register m 1) s
-    run f [] m s = Done nil s
+    run f [] m s = Done nil_value_of_state s
 
     -- a jump goes forward
     pub seek : Frame → ℕ → Code → Machine → State → Outcome Value
     seek f l (Label k ∷ rest) m s = choose (k == l) s (λ s. run f rest m s) (λ s. seek f l rest m s)
     seek f l (c ∷ rest) m s = seek f l rest m s
-    seek f l [] m s = Done nil s
+    seek f l [] m s = Done nil_value_of_state s
 
   -- a held function, on arguments, by its code
   abbrev pub run_code : Levels → Option Pointer → Held → Code → List Value → State → Outcome Value
   run_code levels f held (Entry i n ∷ rest) vs s =
       let frame : Frame = record { name = i; function = f; held = held; code = Entry i n ∷ rest; depth = length s.bindings; outside = one_more levels } in
       restored (length s.bindings) (run frame rest (at_entry vs levels) (with_mark f s))
-  run_code levels f held other vs s = Done nil s
+  run_code levels f held other vs s = Done nil_value_of_state s

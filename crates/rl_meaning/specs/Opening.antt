@@ -10,10 +10,10 @@ use Rattle.rl_tree.specs.declared.held.VarKind.TheVariants.{Plain, Global}
 use Rattle.rl_meaning.specs.Names.{Special, special_named, native_named}
 use Rattle.rl_meaning.specs.State.{State, Symbol, Definition, Function, SpecialForm, NativeFunction}
 use Rattle.rl_meaning.specs.Outcome.{Outcome, Done, Failed, Went, Returned, Stopped, then_do}
-use Rattle.rl_meaning.specs.Symbols.{nil, message_id, is_constant, symbol_at, with_symbol, new_symbol, car_at, cdr_at}
+use Rattle.rl_meaning.specs.Symbols.{nil_value_of_state, message_id, is_constant, symbol_at, with_symbol, new_symbol, car_at, cdr_at}
 use Rattle.rl_meaning.specs.Holding.{hold_function, pointer_to}
 use Rattle.rl_meaning.specs.Definitions.{define}
-use Rattle.rl_meaning.specs.Input.{Reading, Form, read_bytes}
+use Rattle.rl_meaning.specs.Input.{FormReading, Form, read_bytes}
 
 -- ---- the system's functions
 
@@ -31,7 +31,7 @@ system_kind f = Expr
 
 -- T, NIL, $EOF$ and $EOL$ have themselves as value, and EMSG!* is a GLOBAL variable with the value NIL
 abbrev pub top_at_opening : ℕ → Option Value
-top_at_opening i = if is_constant i then Some (Id i) else (if i == message_id then Some nil else None)
+top_at_opening i = if is_constant i then Some (Id i) else (if i == message_id then Some nil_value_of_state else None)
 
 abbrev pub kind_at_opening : ℕ → VarKind
 kind_at_opening i = if i == message_id then Global else Plain
@@ -42,7 +42,7 @@ symbol_at_opening i name definition = record {
   interned = true;
   system = is_some definition;
   top = top_at_opening i;
-  properties = nil;
+  properties = nil_value_of_state;
   definition = definition;
   kind = kind_at_opening i;
 }
@@ -112,7 +112,7 @@ define_text v s =
     let rest = cdr_at s v in
     then_do (hold_function Expr None (car_at s (cdr_at s rest)) (cdr_at s (cdr_at s rest)) s) (λ f s. Done tt (define_named (car_at s rest) f s))
 
-abbrev pub define_reading : Reading → State → Outcome (Unit {0})
+abbrev pub define_reading : FormReading → State → Outcome (Unit {0})
 define_reading (Form v rest) s = define_text v s
 define_reading other s = Done tt s
 

@@ -7,7 +7,7 @@ use Rattle.rl_meaning.specs.CMacros.{Operand, Constant, Load, Copy, JumpEq, Jump
 use Rattle.rl_meaning.specs.State.{State, Code, Coded, Dependency, Whole, Held, Pointer, HeldFunction, Tree, Quoted, Kept, Entry, Recorded}
 use Rattle.rl_meaning.specs.Outcome.{Outcome, Stopped, Stop, Levels}
 use Rattle.rl_meaning.specs.Symbols.{same, is_constant}
-use Rattle.rl_meaning.specs.Constants.{is_among, objects_of, constants_in, constants_of, changed_at}
+use Rattle.rl_meaning.specs.Constants.{is_among, objects_of, constants_in, constants_of, last_change_of}
 use Rattle.rl_meaning.specs.Holding.{kept_kind, function_at, form_at}
 use Rattle.rl_meaning.specs.Reach.{Reached, reach_of}
 use Rattle.rl_meaning.specs.Standing.{all_stand}
@@ -35,7 +35,7 @@ is_later f (Some n) = nat_lt f n
 
 -- it holds what it held, or was changed after the function was held
 abbrev pub AsItStood : State → Stood → Type 0
-AsItStood s c = (slice_get s.store c.object ≡ Some c.was) ⊎ (is_later c.holder (changed_at c.object s.watched.changes) ≡ true)
+AsItStood s c = (slice_get s.store c.object ≡ Some c.was) ⊎ (is_later c.holder (last_change_of c.object s.watched.changes) ≡ true)
 
 abbrev pub AllAsTheyStood : State → List Stood → Type 0
 AllAsTheyStood s [] = Unit {0}

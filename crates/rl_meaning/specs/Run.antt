@@ -5,11 +5,11 @@ use Rattle.rl_tree.specs.Name.{Name}
 use Rattle.rl_tree.specs.Printing.{with_atom}
 use Rattle.rl_meaning.specs.State.{State, Function, HeldFunction, Files}
 use Rattle.rl_meaning.specs.Outcome.{Outcome, Done, Failed, Went, Returned, Stopped, Stop, Missing, then_do, Levels}
-use Rattle.rl_meaning.specs.Symbols.{nil}
+use Rattle.rl_meaning.specs.Symbols.{nil_value_of_state}
 use Rattle.rl_meaning.specs.Errors.{error_text, unreadable}
 use Rattle.rl_meaning.specs.Holding.{hold_form, pointer_to, function_at}
 use Rattle.rl_meaning.specs.Printing.{page_of, with_page, print_mark, print_end_of_line, fresh_line, print_error}
-use Rattle.rl_meaning.specs.Input.{Reading, Form, End, Unreadable, read_bytes}
+use Rattle.rl_meaning.specs.Input.{FormReading, Form, End, Unreadable, read_bytes}
 use Rattle.rl_meaning.specs.Evaluation.{longest_chain}
 use Rattle.rl_meaning.specs.Jobs.{evaluate}
 use Rattle.rl_meaning.specs.Opening.{opened_state}
@@ -22,20 +22,20 @@ pub record Limits : Type 0 where
   pub verdicts : Levels
 
 -- the source was read to its end, or the run stopped
-pub data Ending : Type 0 where
-  Finished : Ending
-  Stops : Stop → Ending
+pub data RunEnding : Type 0 where
+  Finished : RunEnding
+  Stops : Stop → RunEnding
 
 -- how a run ended, and the state then
 pub record Ran : Type 0 where
-  pub ending : Ending
+  pub ending : RunEnding
   pub state : State
 
 -- ---- a statement
 
 abbrev pub held_evaluated : Levels → ℕ → Function → State → Outcome Value
 held_evaluated levels f (HeldFunction held) s = evaluate (record { levels = levels; chain = longest_chain; kept = held.kept; holder = f }) held.body s
-held_evaluated levels f other s = Done nil s
+held_evaluated levels f other s = Done nil_value_of_state s
 
 abbrev pub statement : Levels → Value → State → Outcome Value
 statement levels v s = then_do (hold_form levels v s) (λ f s. held_evaluated levels f (function_at s (pointer_to f)) s)
@@ -65,15 +65,15 @@ behind_line (b ∷ bs) = if b == 10 then bs else behind_line bs
 
 -- ---- all statements
 
-abbrev pub goes_on : {A : Type 0} → Outcome A → (A → State → Ran) → Ran
-goes_on (Done a s) next = next a s
-goes_on (Failed n m s) next = record { ending = Finished; state = s }
-goes_on (Went l s) next = record { ending = Finished; state = s }
-goes_on (Returned v s) next = record { ending = Finished; state = s }
-goes_on (Stopped why s) next = record { ending = Stops why; state = s }
+abbrev pub run_goes_on : {A : Type 0} → Outcome A → (A → State → Ran) → Ran
+run_goes_on (Done a s) next = next a s
+run_goes_on (Failed n m s) next = record { ending = Finished; state = s }
+run_goes_on (Went l s) next = record { ending = Finished; state = s }
+run_goes_on (Returned v s) next = record { ending = Finished; state = s }
+run_goes_on (Stopped why s) next = record { ending = Stops why; state = s }
 
-abbrev pub read_and_run : Levels → ℕ → (List ℕ → State → Ran) → Reading → State → Ran
-read_and_run levels size further (Form v rest) s = goes_on (after_statement levels (statement levels v s)) (λ done s. further rest s)
+abbrev pub read_and_run : Levels → ℕ → (List ℕ → State → Ran) → FormReading → State → Ran
+read_and_run levels size further (Form v rest) s = run_goes_on (after_statement levels (statement levels v s)) (λ done s. further rest s)
 read_and_run levels size further End s = record { ending = Finished; state = s }
 read_and_run levels size further (Unreadable k from) s = further (behind_line from) (print_unreadable (size - length from) s)
 
@@ -81,7 +81,7 @@ read_and_run levels size further (Unreadable k from) s = further (behind_line fr
 abbrev pub run_within : ℕ → Levels → ℕ → List ℕ → State → Ran
 run_within zero levels size bytes s = record { ending = Finished; state = s }
 run_within (suc n) levels size bytes s =
-    goes_on (read_bytes false levels bytes s) (λ reading s. read_and_run levels size (λ rest s. run_within n levels size rest s) reading s)
+    run_goes_on (read_bytes false levels bytes s) (λ reading s. read_and_run levels size (λ rest s. run_within n levels size rest s) reading s)
 
 abbrev pub run_bytes : Levels → List ℕ → State → Ran
 run_bytes levels bytes s = run_within (suc (length bytes)) levels (length bytes) bytes s

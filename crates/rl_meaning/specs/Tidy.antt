@@ -77,17 +77,17 @@ pub data Spot : Type 0 where
   InSlot : ℕ → Spot
 
 -- what is in a spot at the beginning of its block, a constant, or what was put there later
-pub data Class : Type 0 where
-  Initial : Spot → Class
-  Holds : Value → Class
-  Fresh : ℕ → Class
+pub data SpotClass : Type 0 where
+  Initial : Spot → SpotClass
+  Holds : Value → SpotClass
+  Fresh : ℕ → SpotClass
 
 abbrev pub same_spot : Spot → Spot → Bool
 same_spot (InRegister q) (InRegister r) = q == r
 same_spot (InSlot k) (InSlot j) = k == j
 same_spot _ _ = false
 
-abbrev pub same_class : Class → Class → Bool
+abbrev pub same_class : SpotClass → SpotClass → Bool
 same_class (Initial p) (Initial q) = same_spot p q
 same_class (Holds v) (Holds w) = same v w
 same_class (Fresh n) (Fresh m) = n == m
@@ -95,17 +95,17 @@ same_class _ _ = false
 
 -- the class of each spot, and a number for the next class
 pub record Known : Type 0 where
-  pub classes : Spot → Class
+  pub classes : Spot → SpotClass
   pub next : ℕ
 
 abbrev pub at_beginning : Known
 at_beginning = record { classes = Initial; next = 0 }
 
-abbrev pub put : Spot → Class → Known → Known
-put p c k = record k { classes = λ q. if same_spot p q then c else k.classes q }
+abbrev pub put_in_spot : Spot → SpotClass → Known → Known
+put_in_spot p c k = record k { classes = λ q. if same_spot p q then c else k.classes q }
 
 abbrev pub put_fresh : Spot → Known → Known
-put_fresh p k = record (put p (Fresh k.next) k) { next = suc k.next }
+put_fresh p k = record (put_in_spot p (Fresh k.next) k) { next = suc k.next }
 
 -- n new slots behind the first m
 abbrev pub put_slots : ℕ → ℕ → Known → Known
@@ -113,33 +113,33 @@ put_slots m zero k = k
 put_slots m (suc n) k = put_slots (suc m) n (put_fresh (InSlot (suc m)) k)
 
 -- what an operand is known to be
-abbrev pub class_of : Known → Operand → Option Class
-class_of k (Slot j) = Some (k.classes (InSlot j))
-class_of k (Constant v) = Some (Holds v)
-class_of k (Variable x) = None
-class_of k (Register r) = Some (k.classes (InRegister r))
+abbrev pub class_of_operand : Known → Operand → Option SpotClass
+class_of_operand k (Slot j) = Some (k.classes (InSlot j))
+class_of_operand k (Constant v) = Some (Holds v)
+class_of_operand k (Variable x) = None
+class_of_operand k (Register r) = Some (k.classes (InRegister r))
 
-abbrev pub put_known : Spot → Option Class → Known → Known
-put_known p (Some c) k = put p c k
+abbrev pub put_known : Spot → Option SpotClass → Known → Known
+put_known p (Some c) k = put_in_spot p c k
 put_known p None k = put_fresh p k
 
 -- behind a c-macro of a block, with so many slots before it
 abbrev pub known_behind : CMacro → ℕ → Known → Known
-known_behind (Load r o) m k = put_known (InRegister r) (class_of k o) k
-known_behind (Store r j) m k = put (InSlot j) (k.classes (InRegister r)) k
-known_behind (Move r q) m k = put (InRegister r) (k.classes (InRegister q)) k
+known_behind (Load r o) m k = put_known (InRegister r) (class_of_operand k o) k
+known_behind (Store r j) m k = put_in_spot (InSlot j) (k.classes (InRegister r)) k
+known_behind (Move r q) m k = put_in_spot (InRegister r) (k.classes (InRegister q)) k
 known_behind (Copy r v) m k = put_fresh (InRegister r) k
 known_behind (CallNative i n) m k = put_fresh (InRegister 1) k
 known_behind (Alloc n) m k = put_slots m n k
 known_behind c m k = k
 
 -- it puts what is there already
-abbrev pub is_there : Known → Spot → Option Class → Bool
-is_there k p (Some c) = same_class (k.classes p) c
-is_there k p None = false
+abbrev pub is_put_already : Known → Spot → Option SpotClass → Bool
+is_put_already k p (Some c) = same_class (k.classes p) c
+is_put_already k p None = false
 
 abbrev pub is_idle : CMacro → Known → Bool
-is_idle (Load r o) k = is_there k (InRegister r) (class_of k o)
+is_idle (Load r o) k = is_put_already k (InRegister r) (class_of_operand k o)
 is_idle (Store r j) k = same_class (k.classes (InSlot j)) (k.classes (InRegister r))
 is_idle c k = false
 

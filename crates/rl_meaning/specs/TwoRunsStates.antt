@@ -21,27 +21,27 @@ pub record SameFunctions (n : Names) (s t : List Function) : Type 0 where
 -- ---- bindings
 
 -- how the entries of the right run lie beside those of the left, the newest first: a binding of both; a mark of both; a local binding that the left run lacks, with its variable and its value on the right; or a mark that it lacks, of a function that went on by a call in last place
-pub data Place : Type 0 where
-  Both : Place
-  BothMark : Place
-  Hidden : ℕ → Value → Place
-  HiddenMark : Option Pointer → Place
+pub data EntryPlace : Type 0 where
+  Both : EntryPlace
+  BothMark : EntryPlace
+  Hidden : ℕ → Value → EntryPlace
+  HiddenMark : Option Pointer → EntryPlace
 
-pub data Aligned (n : Names) : List Place → List Entry → List Entry → Type 0 where
+pub data Aligned (n : Names) : List EntryPlace → List Entry → List Entry → Type 0 where
   bottom : Aligned n [] [] []
-  both : (x : ℕ) (scope : Scope) (v w : Value) (ps : List Place) (xs ys : List Entry) → SameValue n v w → Aligned n ps xs ys → Aligned n (Both ∷ ps) (Binding x scope v ∷ xs) (Binding x scope w ∷ ys)
-  both_mark : (f g : Option Pointer) (ps : List Place) (xs ys : List Entry) → Maybe (SamePointer n) f g → Aligned n ps xs ys → Aligned n (BothMark ∷ ps) (Mark f ∷ xs) (Mark g ∷ ys)
-  hidden : (x : ℕ) (v : Value) (ps : List Place) (xs ys : List Entry) → Aligned n ps xs ys → Aligned n (Hidden x v ∷ ps) xs (Binding x Local v ∷ ys)
-  hidden_mark : (g : Option Pointer) (ps : List Place) (xs ys : List Entry) → Aligned n ps xs ys → Aligned n (HiddenMark g ∷ ps) xs (Mark g ∷ ys)
+  both : (x : ℕ) (scope : Scope) (v w : Value) (ps : List EntryPlace) (xs ys : List Entry) → SameValue n v w → Aligned n ps xs ys → Aligned n (Both ∷ ps) (Binding x scope v ∷ xs) (Binding x scope w ∷ ys)
+  both_mark : (f g : Option Pointer) (ps : List EntryPlace) (xs ys : List Entry) → Maybe (SamePointer n) f g → Aligned n ps xs ys → Aligned n (BothMark ∷ ps) (Mark f ∷ xs) (Mark g ∷ ys)
+  hidden : (x : ℕ) (v : Value) (ps : List EntryPlace) (xs ys : List Entry) → Aligned n ps xs ys → Aligned n (Hidden x v ∷ ps) xs (Binding x Local v ∷ ys)
+  hidden_mark : (g : Option Pointer) (ps : List EntryPlace) (xs ys : List Entry) → Aligned n ps xs ys → Aligned n (HiddenMark g ∷ ps) xs (Mark g ∷ ys)
 
 -- all entries are of both
-abbrev pub all_both : List Entry → List Place
+abbrev pub all_both : List Entry → List EntryPlace
 all_both [] = []
 all_both (Binding x scope v ∷ es) = Both ∷ all_both es
 all_both (Mark f ∷ es) = BothMark ∷ all_both es
 
 -- above the newest mark of either run no binding is lacking: so it is where a form is walked on both sides
-abbrev pub Shown : List Place → Type 0
+abbrev pub Shown : List EntryPlace → Type 0
 Shown [] = Unit {0}
 Shown (Both ∷ ps) = Shown ps
 Shown (BothMark ∷ ps) = Unit {0}
@@ -94,7 +94,7 @@ pub record SameCompilation (n : Names) (c d : Compilation) : Type 0 where
 
 -- ---- states
 
-pub record Like (bounds : Bounds) (n : Names) (ps : List Place) (s t : State) : Type 0 where
+pub record Like (bounds : Bounds) (n : Names) (ps : List EntryPlace) (s t : State) : Type 0 where
   pub store : SameStore n s.store t.store
   pub functions : SameFunctions n s.functions t.functions
   pub symbols : Each (SameSymbol n) s.symbols t.symbols

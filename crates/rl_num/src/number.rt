@@ -2,7 +2,7 @@
 ghost use Rattle.std.specs.Prelude.{◌≡◌, ◌≤◌, ℕ, IsTrue, IfOk, IfErr, OnErr, take, slice_index};
 ghost use Rattle.std.specs.Fmt.{signed_decimal};
 ghost use Rattle.rl_cells.specs.Cell.{is_live};
-ghost use Rattle.rl_num.specs.Number.{IsFull, IsMade, integer_of, is_integer};
+ghost use Rattle.rl_num.specs.Number.{IsFull, IsMadeInteger, integer_of, is_integer_value};
 ghost use Rattle.rl_num.specs.declared.number.NumFault.TheVariants as fault;
 
 use itoa::Buffer;
@@ -30,7 +30,7 @@ pub enum NumFault {
 
 /// The integer that a value is.
 pub fn value(c: &Cells, a: Val) -> i128
-    requires { IsTrue (is_integer c.now.cells a) }
+    requires { IsTrue (is_integer_value c.now.cells a) }
     ensures { result ≡ integer_of c.now.cells a }
 {
     match a.tag() {
@@ -42,11 +42,11 @@ pub fn value(c: &Cells, a: Val) -> i128
 /// The value of an integer. A small one makes nothing; one outside 60 bits takes a cell. `Full`, and everything is as before,
 /// exactly where it wants a cell and none is left.
 pub fn make(c: &mut Cells, n: i128) -> Result<Val, NumFault>
-    ensures ok { IfOk result (λ v. IsMade c.old c.new n v) }
+    ensures ok { IfOk result (λ v. IsMadeInteger c.old c.new n v) }
     ensures no_room { OnErr result (IsFull c.old n) }
     ensures fault { IfErr result (λ f. f ≡ fault.Full) }
     ensures err { OnErr result (c.new ≡ c.old) }
-    ensures integer { IfOk result (λ v. IsTrue (is_integer c.new.cells v)) }
+    ensures integer { IfOk result (λ v. IsTrue (is_integer_value c.new.cells v)) }
     ensures value { IfOk result (λ v. integer_of c.new.cells v ≡ n) }
     ensures live { IfOk result (λ v. IsTrue (is_live c.new.cells v)) }
 {
@@ -62,7 +62,7 @@ pub fn make(c: &mut Cells, n: i128) -> Result<Val, NumFault>
 /// Writes the decimal text of an integer, with `-` where it is negative, at the front of `buf`, and leaves the bytes behind
 /// it. The answer is its length.
 pub fn decimal(c: &Cells, a: Val, buf: &mut [u8; 40]) -> usize
-    requires { IsTrue (is_integer c.now.cells a) }
+    requires { IsTrue (is_integer_value c.now.cells a) }
     ensures text { take result buf.new ≡ signed_decimal (integer_of c.now.cells a) }
     ensures fits { result ≤ 40 }
     ensures rest { (i : ℕ) → result ≤ i → slice_index buf.new i ≡ slice_index buf.old i }

@@ -4,7 +4,7 @@ use Rattle.std.specs.Prelude.{◌&&◌, ◌==◌, nat_lt, slice_get}
 use Rattle.std.proofs.lemmas.List.{append-nil}
 use Rattle.rl_tree.specs.Value.{Value, Int, Id, Str, Ref, Fun, Object, Pair, Vector}
 use Rattle.rl_tree.specs.Printing.{Page}
-use Rattle.rl_tree.specs.Printing.{Ending, Whole, NoTurn, TooDeep, Progress, Setting, Printer, Job, Element, Listed, with_text, marked, with_atom_of, goes_on, and_then, with_turn_of, with_turn, with_level, places_printed, vector_printed, object_printed, value_printed, dotted_atom, rest_object, rest_printed, job_printed}
+use Rattle.rl_tree.specs.Printing.{Ending, Whole, NoTurn, TooDeep, Progress, Setting, Printer, PrintingJob, Element, Listed, with_text, marked, with_atom_of, goes_on, and_then, with_turn_of, with_turn, with_level, places_printed, vector_printed, object_printed, value_printed, dotted_atom, rest_object, rest_printed, job_printed}
 
 -- the second is further on
 pub record IsAfter (p q : Progress) : Type 0 where
@@ -60,7 +60,7 @@ with_level_after true (suc l) p next h = h l
 
 -- a printer goes on
 abbrev pub GoesOn : Printer → Type 0
-GoesOn print = (job : Job) (l : ℕ) (q : Progress) → IsAfter q (print job l q)
+GoesOn print = (job : PrintingJob) (l : ℕ) (q : Progress) → IsAfter q (print job l q)
 
 blank_after : (first : Bool) (p : Progress) → IsAfter p (if first then p else marked (32 ∷ []) p)
 blank_after true p = after_refl p

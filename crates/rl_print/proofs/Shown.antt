@@ -7,7 +7,7 @@ use Rattle.std.proofs.lemmas.List.Sums.{fold-append}
 use Rattle.rl_tags.specs.Tagged.{Tagged}
 use Rattle.rl_cells.specs.Cell.{Cell}
 use Rattle.rl_syms.specs.Contents.{value_of}
-use Rattle.rl_syms.specs.Table.{name_at}
+use Rattle.rl_syms.specs.Table.{name_in_cells}
 use Rattle.rl_tree.specs.Atoms as atoms
 use Rattle.rl_tree.specs.Atoms.{atom_text}
 use Rattle.rl_tree.specs.Printing.{Page}
@@ -15,16 +15,16 @@ use Rattle.rl_tree.specs.Printing.{Progress, Whole, column_with, marked, with_at
 use Rattle.rl_world.specs.Waiting.{Follows, IsCutOff}
 use Rattle.rl_world.specs.declared.world.World.{World}
 use Rattle.rl_print.specs.AtomText.{line_break}
-use Rattle.rl_print.specs.Walk.{Shows, ShowsFront, progress_in, setting_in, shown}
+use Rattle.rl_print.specs.Walk.{Shows, ShowsFront, progress_in_world, setting_in_world, shown}
 use Rattle.rl_print.specs.declared.walk.Piece.TheVariants as piece
 use Rattle.rl_print.proofs.After.{after_trans, atom_after, marked_after}
-use Rattle.rl_world.specs.Counts.{turns_left}
+use Rattle.rl_world.specs.Counts.{count_turns_left}
 
 -- only what waits and the column have changed
 abbrev pub Writes : World → World → Type 0
 Writes old new = new ≡ record old { output = record old.output { waiting = new.output.waiting; column = new.output.column } }
 
-progress_written : (old new : World) (text : List ℕ) (column : ℕ) → Writes old new → new.output.column ≡ column → record { page = record { text = text; column = column }; turns = turns_left old.counts; ending = Whole } ≡ progress_in new text
+progress_written : (old new : World) (text : List ℕ) (column : ℕ) → Writes old new → new.output.column ≡ column → record { page = record { text = text; column = column }; turns = count_turns_left old.counts; ending = Whole } ≡ progress_in_world new text
 progress_written old new text column e c =
     let counts : new.counts ≡ old.counts = ap (λ (w : World). w.counts) e in
     rw (counts, c) refl
@@ -63,11 +63,11 @@ atom_apart n page bytes = broken_apart (nat_lt 0 page.column && nat_lt n (page.c
 
 -- the page of an atom alone
 abbrev pub atom_page : World → atoms.Style → Tagged → Page
-atom_page w style v = with_atom w.output.line_length (record { text = []; column = w.output.column }) (atom_text style (name_at w.cells.cells) (value_of w.cells.cells v))
+atom_page w style v = with_atom w.output.line_length (record { text = []; column = w.output.column }) (atom_text style (name_in_cells w.cells.cells) (value_of w.cells.cells v))
 
-atom_shown : (style : atoms.Style) (old new : World) (v : Tagged) (text : List ℕ) → Writes old new → new.output.column ≡ (atom_page old style v).column → with_atom_of (setting_in style old) (value_of old.cells.cells v) (progress_in old text) ≡ progress_in new (text ++ (atom_page old style v).text)
+atom_shown : (style : atoms.Style) (old new : World) (v : Tagged) (text : List ℕ) → Writes old new → new.output.column ≡ (atom_page old style v).column → with_atom_of (setting_in_world style old) (value_of old.cells.cells v) (progress_in_world old text) ≡ progress_in_world new (text ++ (atom_page old style v).text)
 atom_shown style old new v text e column =
-    ap (λ (page : Page). record (progress_in old text) { page = page }) (atom_apart old.output.line_length (record { text = text; column = old.output.column }) (atom_text style (name_at old.cells.cells) (value_of old.cells.cells v)))
+    ap (λ (page : Page). record (progress_in_world old text) { page = page }) (atom_apart old.output.line_length (record { text = text; column = old.output.column }) (atom_text style (name_in_cells old.cells.cells) (value_of old.cells.cells v)))
     ∙ progress_written old new (text ++ (atom_page old style v).text) (atom_page old style v).column e column
 
 pub atom_shows : (before now : Option (List ℕ)) (style : atoms.Style) (old new : World) (v : Tagged) → Writes old new → Follows before old.output.waiting now new.output.waiting (atom_page old style v).text → new.output.column ≡ (atom_page old style v).column → Shows before now style old new (piece.Atom v)
@@ -77,8 +77,8 @@ atom_shows before now style old new v e follows column = record {
   means = λ text. atom_shown style old new v text e column;
 }
 
-atom_text_is : (style : atoms.Style) (old : World) (v : Tagged) (text : List ℕ) → (with_atom_of (setting_in style old) (value_of old.cells.cells v) (progress_in old text)).page.text ≡ text ++ (atom_page old style v).text
-atom_text_is style old v text = ap (λ (page : Page). page.text) (atom_apart old.output.line_length (record { text = text; column = old.output.column }) (atom_text style (name_at old.cells.cells) (value_of old.cells.cells v)))
+atom_text_is : (style : atoms.Style) (old : World) (v : Tagged) (text : List ℕ) → (with_atom_of (setting_in_world style old) (value_of old.cells.cells v) (progress_in_world old text)).page.text ≡ text ++ (atom_page old style v).text
+atom_text_is style old v text = ap (λ (page : Page). page.text) (atom_apart old.output.line_length (record { text = text; column = old.output.column }) (atom_text style (name_in_cells old.cells.cells) (value_of old.cells.cells v)))
 
 pub atom_front : (before now : Option (List ℕ)) (style : atoms.Style) (old : World) (v : Tagged) → IsCutOff before now (old.output.waiting ++ (atom_page old style v).text) → ShowsFront before now style old (piece.Atom v)
 atom_front before now style old v cut = record {
@@ -167,19 +167,19 @@ dotted_shows before one two now style old mid late new v dot close ed ec wm m wl
       bytes = m.bytes ++ (a.bytes ++ z.bytes);
       follows = follows_more before one now old.output.waiting mid.output.waiting new.output.waiting m.bytes (a.bytes ++ z.bytes) m.follows (follows_more one two now mid.output.waiting late.output.waiting new.output.waiting a.bytes z.bytes a.follows z.follows);
       means = λ text.
-          let first : marked (32 ∷ 46 ∷ 32 ∷ []) (progress_in old text) ≡ progress_in mid (text ++ m.bytes) = ap (λ b. marked b (progress_in old text)) (sym ed) ∙ m.means text in
-          let atom : with_atom_of (setting_in style old) (value_of old.cells.cells v) (progress_in mid (text ++ m.bytes)) ≡ progress_in late ((text ++ m.bytes) ++ a.bytes) = ap (λ (w : World). with_atom_of (setting_in style w) (value_of w.cells.cells v) (progress_in mid (text ++ m.bytes))) (sym wm) ∙ a.means (text ++ m.bytes) in
-          let last : marked (41 ∷ []) (progress_in late ((text ++ m.bytes) ++ a.bytes)) ≡ progress_in new (((text ++ m.bytes) ++ a.bytes) ++ z.bytes) = ap (λ b. marked b (progress_in late ((text ++ m.bytes) ++ a.bytes))) (sym ec) ∙ z.means ((text ++ m.bytes) ++ a.bytes) in
-          ap (λ p. marked (41 ∷ []) (with_atom_of (setting_in style old) (value_of old.cells.cells v) p)) first
-          ∙ (ap (marked (41 ∷ [])) atom ∙ (last ∙ ap (progress_in new) (append_assoc (text ++ m.bytes) a.bytes z.bytes ∙ append_assoc text m.bytes (a.bytes ++ z.bytes))));
+          let first : marked (32 ∷ 46 ∷ 32 ∷ []) (progress_in_world old text) ≡ progress_in_world mid (text ++ m.bytes) = ap (λ b. marked b (progress_in_world old text)) (sym ed) ∙ m.means text in
+          let atom : with_atom_of (setting_in_world style old) (value_of old.cells.cells v) (progress_in_world mid (text ++ m.bytes)) ≡ progress_in_world late ((text ++ m.bytes) ++ a.bytes) = ap (λ (w : World). with_atom_of (setting_in_world style w) (value_of w.cells.cells v) (progress_in_world mid (text ++ m.bytes))) (sym wm) ∙ a.means (text ++ m.bytes) in
+          let last : marked (41 ∷ []) (progress_in_world late ((text ++ m.bytes) ++ a.bytes)) ≡ progress_in_world new (((text ++ m.bytes) ++ a.bytes) ++ z.bytes) = ap (λ b. marked b (progress_in_world late ((text ++ m.bytes) ++ a.bytes))) (sym ec) ∙ z.means ((text ++ m.bytes) ++ a.bytes) in
+          ap (λ p. marked (41 ∷ []) (with_atom_of (setting_in_world style old) (value_of old.cells.cells v) p)) first
+          ∙ (ap (marked (41 ∷ [])) atom ∙ (last ∙ ap (progress_in_world new) (append_assoc (text ++ m.bytes) a.bytes z.bytes ∙ append_assoc text m.bytes (a.bytes ++ z.bytes))));
     }
 
 -- what is behind the dot only adds to the text
-dotted_after_mark : (style : atoms.Style) (old : World) (v : Tagged) (text : List ℕ) → (rest : List ℕ) × ((shown (setting_in style old) old.cells.cells (piece.Dotted v) (progress_in old text)).page.text ≡ (text ++ 32 ∷ 46 ∷ 32 ∷ []) ++ rest)
+dotted_after_mark : (style : atoms.Style) (old : World) (v : Tagged) (text : List ℕ) → (rest : List ℕ) × ((shown (setting_in_world style old) old.cells.cells (piece.Dotted v) (progress_in_world old text)).page.text ≡ (text ++ 32 ∷ 46 ∷ 32 ∷ []) ++ rest)
 dotted_after_mark style old v text =
-    let p = marked (32 ∷ 46 ∷ 32 ∷ []) (progress_in old text) in
-    let q = with_atom_of (setting_in style old) (value_of old.cells.cells v) p in
-    let a = after_trans p q (marked (41 ∷ []) q) (atom_after (setting_in style old) (value_of old.cells.cells v) p) (marked_after (41 ∷ []) q) in
+    let p = marked (32 ∷ 46 ∷ 32 ∷ []) (progress_in_world old text) in
+    let q = with_atom_of (setting_in_world style old) (value_of old.cells.cells v) p in
+    let a = after_trans p q (marked (41 ∷ []) q) (atom_after (setting_in_world style old) (value_of old.cells.cells v) p) (marked_after (41 ∷ []) q) in
     (a.more, a.text)
 
 pub dot_front : (before now : Option (List ℕ)) (style : atoms.Style) (old : World) (v : Tagged) (dot : List ℕ) → dot ≡ 32 ∷ 46 ∷ 32 ∷ [] → IsCutOff before now (old.output.waiting ++ dot) → ShowsFront before now style old (piece.Dotted v)
@@ -191,11 +191,11 @@ dot_front before now style old v dot e cut = record {
 
 -- the atom behind the dot, in the world in which the dot is printed
 dotted_text : (before one : Option (List ℕ)) (style : atoms.Style) (old mid : World) (v : Tagged) (dot : Bor (List ℕ)) (text : List ℕ) → dot.now ≡ 32 ∷ 46 ∷ 32 ∷ [] → Writes old mid → (m : Shows before one style old mid (piece.Mark dot))
-    → (shown (setting_in style old) old.cells.cells (piece.Dotted v) (progress_in old text)).page.text ≡ (shown (setting_in style mid) mid.cells.cells (piece.Atom v) (progress_in mid (text ++ m.bytes))).page.text ++ 41 ∷ []
+    → (shown (setting_in_world style old) old.cells.cells (piece.Dotted v) (progress_in_world old text)).page.text ≡ (shown (setting_in_world style mid) mid.cells.cells (piece.Atom v) (progress_in_world mid (text ++ m.bytes))).page.text ++ 41 ∷ []
 dotted_text before one style old mid v dot text ed wm m =
-    let first : marked (32 ∷ 46 ∷ 32 ∷ []) (progress_in old text) ≡ progress_in mid (text ++ m.bytes) = ap (λ b. marked b (progress_in old text)) (sym ed) ∙ m.means text in
-    ap (λ (p : Progress). (with_atom_of (setting_in style old) (value_of old.cells.cells v) p).page.text ++ 41 ∷ []) first
-    ∙ ap (λ (w : World). (with_atom_of (setting_in style w) (value_of w.cells.cells v) (progress_in mid (text ++ m.bytes))).page.text ++ 41 ∷ []) (sym wm)
+    let first : marked (32 ∷ 46 ∷ 32 ∷ []) (progress_in_world old text) ≡ progress_in_world mid (text ++ m.bytes) = ap (λ b. marked b (progress_in_world old text)) (sym ed) ∙ m.means text in
+    ap (λ (p : Progress). (with_atom_of (setting_in_world style old) (value_of old.cells.cells v) p).page.text ++ 41 ∷ []) first
+    ∙ ap (λ (w : World). (with_atom_of (setting_in_world style w) (value_of w.cells.cells v) (progress_in_world mid (text ++ m.bytes))).page.text ++ 41 ∷ []) (sym wm)
 
 pub atom_behind_front : (before one now : Option (List ℕ)) (style : atoms.Style) (old mid : World) (v : Tagged) (dot : Bor (List ℕ)) → dot.now ≡ 32 ∷ 46 ∷ 32 ∷ [] → Writes old mid → Shows before one style old mid (piece.Mark dot) → ShowsFront one now style mid (piece.Atom v) → ShowsFront before now style old (piece.Dotted v)
 atom_behind_front before one now style old mid v dot ed wm m a = record {
@@ -212,7 +212,7 @@ close_front before one two now style old mid late v dot close ed ec wm m a cut =
   bytes = m.bytes ++ (a.bytes ++ close);
   cut = cut_more before one now old.output.waiting mid.output.waiting m.bytes (a.bytes ++ close) m.follows (cut_more one two now mid.output.waiting late.output.waiting a.bytes close a.follows cut);
   more = λ text.
-      let atom : (shown (setting_in style mid) mid.cells.cells (piece.Atom v) (progress_in mid (text ++ m.bytes))).page.text ≡ (text ++ m.bytes) ++ a.bytes = ap (λ (p : Progress). p.page.text) (a.means (text ++ m.bytes)) in
+      let atom : (shown (setting_in_world style mid) mid.cells.cells (piece.Atom v) (progress_in_world mid (text ++ m.bytes))).page.text ≡ (text ++ m.bytes) ++ a.bytes = ap (λ (p : Progress). p.page.text) (a.means (text ++ m.bytes)) in
       let whole : ((text ++ m.bytes) ++ a.bytes) ++ close ≡ text ++ (m.bytes ++ (a.bytes ++ close)) = append_assoc (text ++ m.bytes) a.bytes close ∙ append_assoc text m.bytes (a.bytes ++ close) in
       ([], dotted_text before one style old mid v dot text ed wm m ∙ (ap (λ t. t ++ 41 ∷ []) atom ∙ (ap (λ t. ((text ++ m.bytes) ++ a.bytes) ++ t) (sym ec) ∙ (whole ∙ sym (append-nil (text ++ (m.bytes ++ (a.bytes ++ close))))))));
 }
@@ -258,7 +258,7 @@ broken_page true column bytes = refl
 broken_page false column bytes = refl
 
 -- on the page of an atom are the break before it and its text
-atom_written : (style : atoms.Style) (old : World) (v : Tagged) (broken : Bool) (bytes : List ℕ) → bytes ≡ atom_text style (name_at old.cells.cells) (value_of old.cells.cells v) → broken ≡ (nat_lt 0 old.output.column && nat_lt old.output.line_length (old.output.column + length bytes))
+atom_written : (style : atoms.Style) (old : World) (v : Tagged) (broken : Bool) (bytes : List ℕ) → bytes ≡ atom_text style (name_in_cells old.cells.cells) (value_of old.cells.cells v) → broken ≡ (nat_lt 0 old.output.column && nat_lt old.output.line_length (old.output.column + length bytes))
     → atom_page old style v ≡ record { text = line_break broken ++ bytes; column = fold column_with (fold column_with old.output.column (line_break broken)) bytes }
 atom_written style old v broken bytes is e =
     ap (λ bs. with_atom old.output.line_length (record { text = []; column = old.output.column }) bs) (sym is)
@@ -268,7 +268,7 @@ same_left : (left : List Cell → List ℕ) (old mid : World) → Writes old mid
 same_left left old mid e = ap (λ (w : World). left w.cells.cells) e
 
 abbrev pub IsTextOf : atoms.Style → Tagged → (List Cell → List ℕ) → Type 0
-IsTextOf style v left = (cells : List Cell) → left cells ≡ atom_text style (name_at cells) (value_of cells v)
+IsTextOf style v left = (cells : List Cell) → left cells ≡ atom_text style (name_in_cells cells) (value_of cells v)
 
 abbrev pub IsBroken : World → Bool → List ℕ → Type 0
 IsBroken w broken bytes = broken ≡ (nat_lt 0 w.output.column && nat_lt w.output.line_length (w.output.column + length bytes))

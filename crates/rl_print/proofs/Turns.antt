@@ -2,13 +2,13 @@
 use Rattle.std.proofs.Common.{◌≡◌, ℕ, zero, suc, ◌<◌, ◌≤◌, Bool, true, false, if◌then◌else◌, List, [], ◌∷◌, Option, Some, None, refl, ap, ◌∙◌, arith}
 use Rattle.std.specs.Prelude.{slice_get}
 use Rattle.rl_tree.specs.Value.{Value, Int, Id, Str, Ref, Fun, Object, Pair, Vector}
-use Rattle.rl_tree.specs.Printing.{Ending, Whole, NoTurn, TooDeep, Progress, Setting, Printer, Job, Element, Listed, marked, goes_on, and_then, with_turn_of, with_turn, with_level, places_printed, object_printed, value_printed, rest_object, rest_printed, job_printed, printed}
-use Rattle.rl_print.specs.Walk.{whole}
+use Rattle.rl_tree.specs.Printing.{Ending, Whole, NoTurn, TooDeep, Progress, Setting, Printer, PrintingJob, Element, Listed, marked, goes_on, and_then, with_turn_of, with_turn, with_level, places_printed, object_printed, value_printed, rest_object, rest_printed, job_printed, printed}
+use Rattle.rl_print.specs.Walk.{whole_printer}
 use Rattle.rl_print.proofs.After.{GoesOn, job_after, value_after}
 
 -- two printers do the same where fewer than n turns are left
 abbrev pub Agree : Printer → Printer → ℕ → Type 0
-Agree f g n = (job : Job) (l : ℕ) (q : Progress) → q.turns < n → f job l q ≡ g job l q
+Agree f g n = (job : PrintingJob) (l : ℕ) (q : Progress) → q.turns < n → f job l q ≡ g job l q
 
 with_turn_same : (p : Progress) (f g : Progress → Progress) → ((t : ℕ) → t < p.turns → f (record p { turns = t }) ≡ g (record p { turns = t })) → with_turn p f ≡ with_turn p g
 with_turn_same p f g h = go p.turns refl
@@ -69,7 +69,7 @@ rest_same s f g n a h (Int z) l p m = refl
 rest_same s f g n a h (Str bytes) l p m = refl
 rest_same s f g n a h (Fun k place) l p m = refl
 
-pub job_same : (s : Setting) (n m : ℕ) (job : Job) (l : ℕ) (q : Progress) → q.turns < n → q.turns < m → job_printed s n job l q ≡ job_printed s m job l q
+pub job_same : (s : Setting) (n m : ℕ) (job : PrintingJob) (l : ℕ) (q : Progress) → q.turns < n → q.turns < m → job_printed s n job l q ≡ job_printed s m job l q
 job_same s zero m job l q h k = absurd (omega arith)
 job_same s (suc n) zero job l q h k = absurd (omega arith)
 job_same s (suc n) (suc m) (Element v) l q h k =
@@ -85,28 +85,28 @@ job_same s (suc n) (suc m) (Listed a d) l q h k =
 
 -- ---- printing, whatever the turns
 
-pub whole_after : (s : Setting) → GoesOn (whole s)
-unfolding whole
+pub whole_after : (s : Setting) → GoesOn (whole_printer s)
+unfolding whole_printer
 whole_after s job l q = job_after s (suc q.turns) job l q
 
-agrees : (s : Setting) (n : ℕ) → Agree (job_printed s n) (whole s) n
-unfolding whole
+agrees : (s : Setting) (n : ℕ) → Agree (job_printed s n) (whole_printer s) n
+unfolding whole_printer
 agrees s n job l q h = job_same s n (suc q.turns) job l q h (omega arith)
 
-pub whole_element : (s : Setting) (v : Value) (l : ℕ) (p : Progress) → whole s (Element v) l p ≡ value_printed s (whole s) true v l p
-unfolding whole
-whole_element s v l p = value_same s (job_printed s p.turns) (whole s) p.turns (agrees s p.turns) (whole_after s) true v l p (omega arith)
+pub whole_element : (s : Setting) (v : Value) (l : ℕ) (p : Progress) → whole_printer s (Element v) l p ≡ value_printed s (whole_printer s) true v l p
+unfolding whole_printer
+whole_element s v l p = value_same s (job_printed s p.turns) (whole_printer s) p.turns (agrees s p.turns) (whole_after s) true v l p (omega arith)
 
-pub whole_listed : (s : Setting) (a d : Value) (l : ℕ) (p : Progress) → whole s (Listed a d) l p ≡ and_then (value_printed s (whole s) true a l p) (rest_printed s (whole s) d l)
-unfolding whole
+pub whole_listed : (s : Setting) (a d : Value) (l : ℕ) (p : Progress) → whole_printer s (Listed a d) l p ≡ and_then (value_printed s (whole_printer s) true a l p) (rest_printed s (whole_printer s) d l)
+unfolding whole_printer
 whole_listed s a d l p =
     let x = value_printed s (job_printed s p.turns) true a l p in
-    let y = value_printed s (whole s) true a l p in
-    let after = value_after s (whole s) (whole_after s) true a l p in
-    and_then_same x y (rest_printed s (job_printed s p.turns) d l) (rest_printed s (whole s) d l)
-    (value_same s (job_printed s p.turns) (whole s) p.turns (agrees s p.turns) (whole_after s) true a l p (omega arith))
-    (rest_same s (job_printed s p.turns) (whole s) p.turns (agrees s p.turns) (whole_after s) d l y after.turns)
+    let y = value_printed s (whole_printer s) true a l p in
+    let after = value_after s (whole_printer s) (whole_after s) true a l p in
+    and_then_same x y (rest_printed s (job_printed s p.turns) d l) (rest_printed s (whole_printer s) d l)
+    (value_same s (job_printed s p.turns) (whole_printer s) p.turns (agrees s p.turns) (whole_after s) true a l p (omega arith))
+    (rest_same s (job_printed s p.turns) (whole_printer s) p.turns (agrees s p.turns) (whole_after s) d l y after.turns)
 
-pub printed_whole : (s : Setting) (v : Value) (l : ℕ) (p : Progress) → printed s v l p ≡ value_printed s (whole s) false v l p
-unfolding whole
-printed_whole s v l p = value_same s (job_printed s p.turns) (whole s) p.turns (agrees s p.turns) (whole_after s) false v l p (omega arith)
+pub printed_whole : (s : Setting) (v : Value) (l : ℕ) (p : Progress) → printed s v l p ≡ value_printed s (whole_printer s) false v l p
+unfolding whole_printer
+printed_whole s v l p = value_same s (job_printed s p.turns) (whole_printer s) p.turns (agrees s p.turns) (whole_after s) false v l p (omega arith)

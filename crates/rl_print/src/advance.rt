@@ -7,12 +7,12 @@ ghost use Rattle.rl_tree.specs.Printing.{Ending, NoTurn, Progress, TooDeep};
 ghost use Rattle.rl_world.specs.Counts.{ticked};
 ghost use Rattle.rl_print.specs.AtomText.{is_atom, style_of};
 ghost use Rattle.rl_print.specs.Counted.{IsStop, IsTicked};
-ghost use Rattle.rl_print.specs.Walk.{IsCursor, IsKept, IsNext, IsPiece, IsReady, IsState, all_printed, continued, kept_place, levels_left, meaning, place_in, progress_in, setting_in, shown, state_weight, stopped, waiting_places, Advances, Begins, Ends, Fails, IsWorldOf};
+ghost use Rattle.rl_print.specs.Walk.{IsCursor, IsKeptByPrinting, IsNext, IsPiece, IsReadyToPrint, IsState, all_printed, continued, kept_place, levels_left, walk_meaning, walk_place_in, progress_in_world, setting_in_world, shown, state_weight, stopped, waiting_places, Advances, BeginsPrinting, EndsPrinting, Fails, IsWorldOf};
 ghost use Rattle.rl_world.specs.declared.stop.Stop.TheVariants as stop;
 ghost use Rattle.rl_print.specs.declared.walk.Cursor.TheVariants as cursor;
 ghost use Rattle.rl_print.specs.declared.walk.State.TheVariants as state;
 ghost use Rattle.rl_world.specs.Walks.{IsSteady};
-ghost use Rattle.rl_world.specs.Counts.{turns_left};
+ghost use Rattle.rl_world.specs.Counts.{count_turns_left};
 
 use crate::atom::Style;
 use crate::walk::{Cursor, Piece, State};
@@ -22,10 +22,10 @@ use rl_world::{Stop, World};
 
 /// Takes a turn.
 fn turn(w: &mut World) -> Result<(), Stop>
-    ensures taken { OnOk result (turns_left w.old.counts ≡ turns_left w.new.counts + 1) }
+    ensures taken { OnOk result (count_turns_left w.old.counts ≡ count_turns_left w.new.counts + 1) }
     ensures ticked { IsTicked w.old.counts w.new.counts }
     ensures world { w.new ≡ record w.old { counts = w.new.counts } }
-    ensures none { IfErr result (λ s. turns_left w.old.counts ≡ 0) }
+    ensures none { IfErr result (λ s. count_turns_left w.old.counts ≡ 0) }
     ensures stop { IfErr result (λ s. IsStop w.old.counts NoTurn s) }
     ensures err { IfErr result (λ s. w.new ≡ w.old) }
 {
@@ -34,12 +34,12 @@ fn turn(w: &mut World) -> Result<(), Stop>
 
 /// Enters a level and keeps what waits behind an element.
 fn push(w: &mut World, _base: u64, c: Cursor) -> Result<(), Stop>
-    requires ready { IsReady w.old _base }
+    requires ready { IsReadyToPrint w.old _base }
     requires cursor { IsCursor w.old.cells.cells c }
-    ensures places { OnOk result (waiting_places w.new _base ≡ place_in w.old.cells.cells c ∷ waiting_places w.old _base) }
+    ensures places { OnOk result (waiting_places w.new _base ≡ walk_place_in w.old.cells.cells c ∷ waiting_places w.old _base) }
     ensures levels { OnOk result (levels_left w.old ≡ levels_left w.new + 1) }
     ensures kept { OnOk result (length w.new.levels.walk ≡ length w.old.levels.walk + 1) }
-    ensures ready { IsReady w.new _base }
+    ensures ready { IsReadyToPrint w.new _base }
     ensures steady { IsSteady _base w.old.levels w.new.levels }
     ensures world { w.new ≡ record w.old { levels = w.new.levels } }
     ensures none { IfErr result (λ s. levels_left w.old ≡ 0) }
@@ -55,8 +55,8 @@ fn push(w: &mut World, _base: u64, c: Cursor) -> Result<(), Stop>
 
 /// The three words that keep what waits.
 fn words_of(c: Cursor) -> (u64, u64, u64)
-    ensures place { (cells : List Cell) → kept_place cells result ≡ place_in cells c }
-    ensures kept { (cells : List Cell) → IsCursor cells c → IsKept cells result }
+    ensures place { (cells : List Cell) → kept_place cells result ≡ walk_place_in cells c }
+    ensures kept { (cells : List Cell) → IsCursor cells c → IsKeptByPrinting cells result }
 {
     match c {
         Cursor::Rest(d) => (0, d.word(), 0),
@@ -68,8 +68,8 @@ fn words_of(c: Cursor) -> (u64, u64, u64)
 fn cursor_of(kind: u64, word: u64, i: u64) -> Cursor
     requires tagged { word % 16 ≤ 6 }
     requires kind { kind ≤ 2 }
-    ensures place { (cells : List Cell) → place_in cells result ≡ kept_place cells (kind, word, i) }
-    ensures cursor { (cells : List Cell) → IsKept cells (kind, word, i) → IsCursor cells result }
+    ensures place { (cells : List Cell) → walk_place_in cells result ≡ kept_place cells (kind, word, i) }
+    ensures cursor { (cells : List Cell) → IsKeptByPrinting cells (kind, word, i) → IsCursor cells result }
 {
     let v = Val::read(word).unwrap();
     match kind {
@@ -81,11 +81,11 @@ fn cursor_of(kind: u64, word: u64, i: u64) -> Cursor
 
 /// What waits comes next, and its level is left; or nothing waits.
 fn pop(w: &mut World, base: u64) -> Option<State>
-    requires ready { IsReady w.old base }
+    requires ready { IsReadyToPrint w.old base }
     ensures next { IsNext w.new base result }
-    ensures means { (style : atoms.Style) (p : Progress) → continued style w.new base result p ≡ all_printed (setting_in style w.old) (waiting_places w.old base) (levels_left w.old + 1) p }
+    ensures means { (style : atoms.Style) (p : Progress) → continued style w.new base result p ≡ all_printed (setting_in_world style w.old) (waiting_places w.old base) (levels_left w.old + 1) p }
     ensures fewer { 4 * length w.new.levels.walk + state_weight result ≤ 4 * length w.old.levels.walk }
-    ensures ready { IsReady w.new base }
+    ensures ready { IsReadyToPrint w.new base }
     ensures steady { IsSteady base w.old.levels w.new.levels }
     ensures world { w.new ≡ record w.old { levels = w.new.levels } }
 {
@@ -101,11 +101,11 @@ pub(crate) type Step = (Piece<'static>, Option<State>);
 
 /// An element that is a pair: `(`, and its CAR, behind which the rest waits.
 fn pair_element(w: &mut World, v: Val, outer: Cursor, base: u64) -> Result<Step, Stop>
-    requires ready { IsReady w.old base }
+    requires ready { IsReadyToPrint w.old base }
     requires pair { IsTrue (is_pair w.old.cells.cells v) }
     requires outer { IsCursor w.old.cells.cells outer }
     ensures ok { IfOk result (λ r. Advances base w.old w.new (Some (state.Element v outer)) r.0 r.1) }
-    ensures err { IfErr result (λ s. Ends base w.old w.new (Some (state.Element v outer)) s) }
+    ensures err { IfErr result (λ s. EndsPrinting base w.old w.new (Some (state.Element v outer)) s) }
     ensures world { IsWorldOf base w.old w.new }
 {
     meaning_of_reading();
@@ -125,11 +125,11 @@ fn pair_element(w: &mut World, v: Val, outer: Cursor, base: u64) -> Result<Step,
 
 /// An element that is a vector: `[`, and its first place.
 fn vector_element(w: &mut World, v: Val, outer: Cursor, base: u64) -> Result<Step, Stop>
-    requires ready { IsReady w.old base }
+    requires ready { IsReadyToPrint w.old base }
     requires vector { IsTrue (is_vector w.old.cells.cells v) }
     requires outer { IsCursor w.old.cells.cells outer }
     ensures ok { IfOk result (λ r. Advances base w.old w.new (Some (state.Element v outer)) r.0 r.1) }
-    ensures err { IfErr result (λ s. Ends base w.old w.new (Some (state.Element v outer)) s) }
+    ensures err { IfErr result (λ s. EndsPrinting base w.old w.new (Some (state.Element v outer)) s) }
     ensures world { IsWorldOf base w.old w.new }
 {
     meaning_of_reading();
@@ -144,11 +144,11 @@ fn vector_element(w: &mut World, v: Val, outer: Cursor, base: u64) -> Result<Ste
 
 /// An element: an atom, or a descent into a pair or a vector.
 fn element(w: &mut World, v: Val, outer: Cursor, base: u64) -> Result<Step, Stop>
-    requires ready { IsReady w.old base }
+    requires ready { IsReadyToPrint w.old base }
     requires live { IsTrue (is_live w.old.cells.cells v) }
     requires outer { IsCursor w.old.cells.cells outer }
     ensures ok { IfOk result (λ r. Advances base w.old w.new (Some (state.Element v outer)) r.0 r.1) }
-    ensures err { IfErr result (λ s. Ends base w.old w.new (Some (state.Element v outer)) s) }
+    ensures err { IfErr result (λ s. EndsPrinting base w.old w.new (Some (state.Element v outer)) s) }
     ensures world { IsWorldOf base w.old w.new }
 {
     match v.tag() {
@@ -160,10 +160,10 @@ fn element(w: &mut World, v: Val, outer: Cursor, base: u64) -> Result<Step, Stop
 
 /// The rest of a list that is a pair: a blank, and its CAR, behind which the rest waits.
 fn pair_rest(w: &mut World, d: Val, base: u64) -> Result<Step, Stop>
-    requires ready { IsReady w.old base }
+    requires ready { IsReadyToPrint w.old base }
     requires pair { IsTrue (is_pair w.old.cells.cells d) }
     ensures ok { IfOk result (λ r. Advances base w.old w.new (Some (state.Next (cursor.Rest d))) r.0 r.1) }
-    ensures err { IfErr result (λ s. Ends base w.old w.new (Some (state.Next (cursor.Rest d))) s) }
+    ensures err { IfErr result (λ s. EndsPrinting base w.old w.new (Some (state.Next (cursor.Rest d))) s) }
     ensures world { IsWorldOf base w.old w.new }
 {
     let _ = base;
@@ -181,10 +181,10 @@ fn pair_rest(w: &mut World, d: Val, base: u64) -> Result<Step, Stop>
 
 /// The rest of a list: its end, an element more, or what stands behind a dot.
 fn rest(w: &mut World, d: Val, base: u64) -> Result<Step, Stop>
-    requires ready { IsReady w.old base }
+    requires ready { IsReadyToPrint w.old base }
     requires live { IsTrue (is_live w.old.cells.cells d) }
     ensures ok { IfOk result (λ r. Advances base w.old w.new (Some (state.Next (cursor.Rest d))) r.0 r.1) }
-    ensures err { IfErr result (λ s. Ends base w.old w.new (Some (state.Next (cursor.Rest d))) s) }
+    ensures err { IfErr result (λ s. EndsPrinting base w.old w.new (Some (state.Next (cursor.Rest d))) s) }
     ensures world { IsWorldOf base w.old w.new }
 {
     meaning_of_reading();
@@ -203,10 +203,10 @@ fn rest(w: &mut World, d: Val, base: u64) -> Result<Step, Stop>
 
 /// The places of a vector from one on: its end, or a place and those behind it.
 fn places(w: &mut World, v: Val, i: u64, dotted: bool, base: u64) -> Result<Step, Stop>
-    requires ready { IsReady w.old base }
+    requires ready { IsReadyToPrint w.old base }
     requires place { IsCursor w.old.cells.cells (cursor.Places v i dotted) }
     ensures ok { IfOk result (λ r. Advances base w.old w.new (Some (state.Next (cursor.Places v i dotted))) r.0 r.1) }
-    ensures err { IfErr result (λ s. Ends base w.old w.new (Some (state.Next (cursor.Places v i dotted))) s) }
+    ensures err { IfErr result (λ s. EndsPrinting base w.old w.new (Some (state.Next (cursor.Places v i dotted))) s) }
     ensures world { IsWorldOf base w.old w.new }
 {
     if i == u64::from(w.cells.vector_len(v)) {
@@ -238,10 +238,10 @@ fn mark_before(i: u64) -> &'static [u8]
 
 /// One step of the walk.
 pub(crate) fn advance(w: &mut World, at: State, base: u64) -> Result<Step, Stop>
-    requires ready { IsReady w.old base }
+    requires ready { IsReadyToPrint w.old base }
     requires state { IsState w.old.cells.cells at }
     ensures ok { IfOk result (λ r. Advances base w.old w.new (Some at) r.0 r.1) }
-    ensures err { IfErr result (λ s. Ends base w.old w.new (Some at) s) }
+    ensures err { IfErr result (λ s. EndsPrinting base w.old w.new (Some at) s) }
     ensures world { IsWorldOf base w.old w.new }
 {
     match at {
@@ -252,10 +252,10 @@ pub(crate) fn advance(w: &mut World, at: State, base: u64) -> Result<Step, Stop>
 
 /// What waits: the rest of a list, or the places of a vector.
 fn next(w: &mut World, c: Cursor, base: u64) -> Result<Step, Stop>
-    requires ready { IsReady w.old base }
+    requires ready { IsReadyToPrint w.old base }
     requires cursor { IsCursor w.old.cells.cells c }
     ensures ok { IfOk result (λ r. Advances base w.old w.new (Some (state.Next c)) r.0 r.1) }
-    ensures err { IfErr result (λ s. Ends base w.old w.new (Some (state.Next c)) s) }
+    ensures err { IfErr result (λ s. EndsPrinting base w.old w.new (Some (state.Next c)) s) }
     ensures world { IsWorldOf base w.old w.new }
 {
     match c {
@@ -269,7 +269,7 @@ pub(crate) fn begin(w: &mut World, v: Val, base: u64) -> Result<Step, Stop>
     requires table { IsTable w.old.cells.cells w.old.syms.head }
     requires live { IsTrue (is_live w.old.cells.cells v) }
     requires base { base ≡ length w.old.levels.walk }
-    ensures ok { IfOk result (λ r. Begins base w.old w.new v r.0 r.1) }
+    ensures ok { IfOk result (λ r. BeginsPrinting base w.old w.new v r.0 r.1) }
     ensures err { IfErr result (λ s. Fails w.old w.new v s) }
     ensures world { IsWorldOf base w.old w.new }
 {
@@ -289,7 +289,7 @@ fn begin_pair(w: &mut World, v: Val, base: u64) -> Result<Step, Stop>
     requires table { IsTable w.old.cells.cells w.old.syms.head }
     requires pair { IsTrue (is_pair w.old.cells.cells v) }
     requires base { base ≡ length w.old.levels.walk }
-    ensures ok { IfOk result (λ r. Begins base w.old w.new v r.0 r.1) }
+    ensures ok { IfOk result (λ r. BeginsPrinting base w.old w.new v r.0 r.1) }
     ensures err { IfErr result (λ s. Fails w.old w.new v s) }
     ensures world { IsWorldOf base w.old w.new }
 {

@@ -2,9 +2,9 @@
 ghost use Rattle.std.specs.Prelude.{◌≡◌, ℕ, ◌+◌, ◌<◌, ◌^◌, ◌==◌, false, List, [], ◌∷◌, ◌++◌, slice_get, None, Some, IsTrue, OnSome, MatchOption, codes};
 ghost use Rattle.std.specs.Fmt.{signed_decimal};
 ghost use Rattle.rl_cells.specs.Cell.{Cell, bytes_of, is_str};
-ghost use Rattle.rl_num.specs.Number.{integer_of, is_integer};
+ghost use Rattle.rl_num.specs.Number.{integer_of, is_integer_value};
 ghost use Rattle.rl_syms.specs.Contents.{value_of};
-ghost use Rattle.rl_syms.specs.Table.{IsTable, name_at};
+ghost use Rattle.rl_syms.specs.Table.{IsTable, name_in_cells};
 ghost use Rattle.rl_tree.specs.Atoms.{atom_text, doubled, escaped, is_bare};
 ghost use Rattle.rl_print.specs.AtomText.{is_atom, pending_text, plain_text, quoted_from, style_of, text_left};
 
@@ -34,14 +34,14 @@ pub struct AtomText {
 impl AtomText {
     /// The text by PRIN1.
     pub fn of(a: Val) -> AtomText
-        ensures text { (cells : List Cell) → text_left cells result ≡ atom_text (style_of Style.Prin1) (name_at cells) (value_of cells a) }
+        ensures text { (cells : List Cell) → text_left cells result ≡ atom_text (style_of Style.Prin1) (name_in_cells cells) (value_of cells a) }
         ensures atom { result.atom ≡ a }
     {
         AtomText::styled(a, Style::Prin1)
     }
 
     pub(crate) fn styled(a: Val, style: Style) -> AtomText
-        ensures text { (cells : List Cell) → text_left cells result ≡ atom_text (style_of style) (name_at cells) (value_of cells a) }
+        ensures text { (cells : List Cell) → text_left cells result ≡ atom_text (style_of style) (name_in_cells cells) (value_of cells a) }
         ensures atom { result.atom ≡ a }
     {
         let is_quoted = style == Style::Prin1 && a.tag() == Tag::Str;
@@ -182,7 +182,7 @@ fn function_byte_at(at: u64) -> Option<u8>
 
 /// The byte of an integer's decimal text at a place.
 fn digit_at(c: &Cells, a: Val, at: u64) -> Option<u8>
-    requires { IsTrue (is_integer c.now.cells a) }
+    requires { IsTrue (is_integer_value c.now.cells a) }
     ensures byte { result ≡ slice_get (signed_decimal (integer_of c.now.cells a)) at }
     ensures within { OnSome result (at < 2 ^ 32) }
 {

@@ -6,7 +6,7 @@ ghost use Rattle.rl_syms.specs.Table.{IsTable};
 ghost use Rattle.rl_tree.specs.Atoms.{Prin1, Prin2};
 ghost use Rattle.rl_world.specs.declared.stop.Stop.TheVariants as stop;
 ghost use Rattle.rl_print.specs.AtomText.{style_of};
-ghost use Rattle.rl_print.specs.Walk.{Cuts, Goes, Halts, IsPrinted, IsPrinting, IsReady, IsState, meaning, weight, whole_printed};
+ghost use Rattle.rl_print.specs.Walk.{CutsPrinting, Goes, HaltsPrinting, IsPrinted, IsPrinting, IsReadyToPrint, IsState, walk_meaning, walk_weight, whole_printed};
 
 use crate::advance::{advance, begin};
 use crate::atom::Style;
@@ -33,8 +33,8 @@ pub fn print1<I: Source, O: Sink, N: Sink, F: Files>(
     requires table { IsTable w.old.cells.cells w.old.syms.head }
     requires live { IsTrue (is_live w.old.cells.cells v) }
     ensures ok { OnOk result (IsPrinted (O.contents io.old.out.now) (O.contents io.new.out.now) Prin1 w.old w.new v) }
-    ensures halts { IfErr result (λ s. s ≢ stop.Write → Halts (O.contents io.old.out.now) (O.contents io.new.out.now) w.old w.new (whole_printed Prin1 w.old v) s) }
-    ensures cut { IfErr result (λ s. s ≡ stop.Write → Cuts (O.contents io.old.out.now) (O.contents io.new.out.now) w.old.output.waiting (whole_printed Prin1 w.old v)) }
+    ensures halts { IfErr result (λ s. s ≢ stop.Write → HaltsPrinting (O.contents io.old.out.now) (O.contents io.new.out.now) w.old w.new (whole_printed Prin1 w.old v) s) }
+    ensures cut { IfErr result (λ s. s ≡ stop.Write → CutsPrinting (O.contents io.old.out.now) (O.contents io.new.out.now) w.old.output.waiting (whole_printed Prin1 w.old v)) }
     ensures dropped { IfErr result (λ s. s ≡ stop.Write → w.new.output.waiting ≡ []) }
     ensures failed { IfErr result (λ s. s ≡ stop.Write → Rose (O.faults io.old.out.now) (O.faults io.new.out.now)) }
     ensures steady { result ≢ Err stop.Write → O.faults io.new.out.now ≡ O.faults io.old.out.now }
@@ -57,8 +57,8 @@ pub fn print2<I: Source, O: Sink, N: Sink, F: Files>(
     requires table { IsTable w.old.cells.cells w.old.syms.head }
     requires live { IsTrue (is_live w.old.cells.cells v) }
     ensures ok { OnOk result (IsPrinted (O.contents io.old.out.now) (O.contents io.new.out.now) Prin2 w.old w.new v) }
-    ensures halts { IfErr result (λ s. s ≢ stop.Write → Halts (O.contents io.old.out.now) (O.contents io.new.out.now) w.old w.new (whole_printed Prin2 w.old v) s) }
-    ensures cut { IfErr result (λ s. s ≡ stop.Write → Cuts (O.contents io.old.out.now) (O.contents io.new.out.now) w.old.output.waiting (whole_printed Prin2 w.old v)) }
+    ensures halts { IfErr result (λ s. s ≢ stop.Write → HaltsPrinting (O.contents io.old.out.now) (O.contents io.new.out.now) w.old w.new (whole_printed Prin2 w.old v) s) }
+    ensures cut { IfErr result (λ s. s ≡ stop.Write → CutsPrinting (O.contents io.old.out.now) (O.contents io.new.out.now) w.old.output.waiting (whole_printed Prin2 w.old v)) }
     ensures dropped { IfErr result (λ s. s ≡ stop.Write → w.new.output.waiting ≡ []) }
     ensures failed { IfErr result (λ s. s ≡ stop.Write → Rose (O.faults io.old.out.now) (O.faults io.new.out.now)) }
     ensures steady { result ≢ Err stop.Write → O.faults io.new.out.now ≡ O.faults io.old.out.now }
@@ -77,12 +77,12 @@ fn step<I: Source, O: Sink, N: Sink, F: Files>(
     style: Style,
     io: &mut Io<'_, I, O, N, F>,
 ) -> Result<Option<State>, Stop>
-    requires ready { IsReady w.old base }
+    requires ready { IsReadyToPrint w.old base }
     requires state { IsState w.old.cells.cells at }
-    ensures ok { IfOk result (λ next. Goes (O.contents io.old.out.now) (O.contents io.new.out.now) base (style_of style) w.old w.new (meaning (style_of style) w.old base (Some at)) next) }
-    ensures less { IfOk result (λ next. weight w.new next < weight w.old (Some at)) }
-    ensures halts { IfErr result (λ s. s ≢ stop.Write → Halts (O.contents io.old.out.now) (O.contents io.new.out.now) w.old w.new (meaning (style_of style) w.old base (Some at)) s) }
-    ensures cut { IfErr result (λ s. s ≡ stop.Write → Cuts (O.contents io.old.out.now) (O.contents io.new.out.now) w.old.output.waiting (meaning (style_of style) w.old base (Some at))) }
+    ensures ok { IfOk result (λ next. Goes (O.contents io.old.out.now) (O.contents io.new.out.now) base (style_of style) w.old w.new (walk_meaning (style_of style) w.old base (Some at)) next) }
+    ensures less { IfOk result (λ next. walk_weight w.new next < walk_weight w.old (Some at)) }
+    ensures halts { IfErr result (λ s. s ≢ stop.Write → HaltsPrinting (O.contents io.old.out.now) (O.contents io.new.out.now) w.old w.new (walk_meaning (style_of style) w.old base (Some at)) s) }
+    ensures cut { IfErr result (λ s. s ≡ stop.Write → CutsPrinting (O.contents io.old.out.now) (O.contents io.new.out.now) w.old.output.waiting (walk_meaning (style_of style) w.old base (Some at))) }
     ensures dropped { IfErr result (λ s. s ≡ stop.Write → w.new.output.waiting ≡ []) }
     ensures failed { IfErr result (λ s. s ≡ stop.Write → Rose (O.faults io.old.out.now) (O.faults io.new.out.now)) }
     ensures steady { result ≢ Err stop.Write → O.faults io.new.out.now ≡ O.faults io.old.out.now }
@@ -112,8 +112,8 @@ fn start<I: Source, O: Sink, N: Sink, F: Files>(
     requires live { IsTrue (is_live w.old.cells.cells v) }
     requires base { base ≡ length w.old.levels.walk }
     ensures ok { IfOk result (λ next. Goes (O.contents io.old.out.now) (O.contents io.new.out.now) base (style_of style) w.old w.new (whole_printed (style_of style) w.old v) next) }
-    ensures halts { IfErr result (λ s. s ≢ stop.Write → Halts (O.contents io.old.out.now) (O.contents io.new.out.now) w.old w.new (whole_printed (style_of style) w.old v) s) }
-    ensures cut { IfErr result (λ s. s ≡ stop.Write → Cuts (O.contents io.old.out.now) (O.contents io.new.out.now) w.old.output.waiting (whole_printed (style_of style) w.old v)) }
+    ensures halts { IfErr result (λ s. s ≢ stop.Write → HaltsPrinting (O.contents io.old.out.now) (O.contents io.new.out.now) w.old w.new (whole_printed (style_of style) w.old v) s) }
+    ensures cut { IfErr result (λ s. s ≡ stop.Write → CutsPrinting (O.contents io.old.out.now) (O.contents io.new.out.now) w.old.output.waiting (whole_printed (style_of style) w.old v)) }
     ensures dropped { IfErr result (λ s. s ≡ stop.Write → w.new.output.waiting ≡ []) }
     ensures failed { IfErr result (λ s. s ≡ stop.Write → Rose (O.faults io.old.out.now) (O.faults io.new.out.now)) }
     ensures steady { result ≢ Err stop.Write → O.faults io.new.out.now ≡ O.faults io.old.out.now }
@@ -141,8 +141,8 @@ fn print<I: Source, O: Sink, N: Sink, F: Files>(
     requires table { IsTable w.old.cells.cells w.old.syms.head }
     requires live { IsTrue (is_live w.old.cells.cells v) }
     ensures ok { OnOk result (IsPrinted (O.contents io.old.out.now) (O.contents io.new.out.now) (style_of style) w.old w.new v) }
-    ensures halts { IfErr result (λ s. s ≢ stop.Write → Halts (O.contents io.old.out.now) (O.contents io.new.out.now) w.old w.new (whole_printed (style_of style) w.old v) s) }
-    ensures cut { IfErr result (λ s. s ≡ stop.Write → Cuts (O.contents io.old.out.now) (O.contents io.new.out.now) w.old.output.waiting (whole_printed (style_of style) w.old v)) }
+    ensures halts { IfErr result (λ s. s ≢ stop.Write → HaltsPrinting (O.contents io.old.out.now) (O.contents io.new.out.now) w.old w.new (whole_printed (style_of style) w.old v) s) }
+    ensures cut { IfErr result (λ s. s ≡ stop.Write → CutsPrinting (O.contents io.old.out.now) (O.contents io.new.out.now) w.old.output.waiting (whole_printed (style_of style) w.old v)) }
     ensures dropped { IfErr result (λ s. s ≡ stop.Write → w.new.output.waiting ≡ []) }
     ensures failed { IfErr result (λ s. s ≡ stop.Write → Rose (O.faults io.old.out.now) (O.faults io.new.out.now)) }
     ensures steady { result ≢ Err stop.Write → O.faults io.new.out.now ≡ O.faults io.old.out.now }

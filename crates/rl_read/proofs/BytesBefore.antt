@@ -2,24 +2,24 @@
 use Rattle.std.proofs.Common.{◌≡◌, ◌≢◌, ℕ, Bool, List, true, false, refl, ap, ◌∙◌}
 use Rattle.std.proofs.lemmas.Bool.{ne_eqb}
 use Rattle.rl_tree.specs.Bytes.{is_digit, is_name_byte}
-use Rattle.rl_text.specs.Reader.{Frame}
+use Rattle.rl_text.specs.Reader.{ReaderFrame}
 use Rattle.rl_text.specs.Reader as reader
 use Rattle.rl_text.specs.Word as word
-use Rattle.rl_read.specs.Stock.{Stock, Chain, in_stock}
+use Rattle.rl_read.specs.Stock.{Stock, PairChain, in_stock}
 use Rattle.rl_read.specs.Steps.{is_digits_mode, is_text_mode, mode_of, word_atom}
 use Rattle.rl_read.specs.declared.word.Mode.{Mode}
 use Rattle.rl_read.specs.declared.word.Mode.TheVariants as mode
 
 -- where an atom before a byte has ended inside something, the byte stands in a gap there
-pub inside_before : (t : Bool) (b : ℕ) (a : word.Atom) (fs inner : List (Frame Chain)) (k made : Stock) → reader.atom_ended (in_stock t) a fs k ≡ reader.Inside inner made → reader.atom_before (in_stock t) a b fs k ≡ reader.at_gap (in_stock t) b inner made
+pub inside_before : (t : Bool) (b : ℕ) (a : word.Atom) (fs inner : List (ReaderFrame PairChain)) (k made : Stock) → reader.atom_ended (in_stock t) a fs k ≡ reader.Inside inner made → reader.atom_before (in_stock t) a b fs k ≡ reader.at_gap (in_stock t) b inner made
 inside_before t b a fs inner k made e = ap (λ x. reader.goes_before (in_stock t) b x) e
 
 -- a name ends before a byte that neither goes on with it nor is `!`
-pub name_before : (t : Bool) (b : ℕ) (bytes : List ℕ) (fs : List (Frame Chain)) (k : Stock) → is_name_byte b ≡ false → b ≢ 33 → reader.step (in_stock t) (reader.InName bytes) b fs k ≡ reader.atom_before (in_stock t) (word.Identifier bytes) b fs k
+pub name_before : (t : Bool) (b : ℕ) (bytes : List ℕ) (fs : List (ReaderFrame PairChain)) (k : Stock) → is_name_byte b ≡ false → b ≢ 33 → reader.reader_step (in_stock t) (reader.InName bytes) b fs k ≡ reader.atom_before (in_stock t) (word.Identifier bytes) b fs k
 name_before t b bytes fs k other plain = rw (other, ne_eqb b 33 plain) refl
 
 -- a sign and a number end before a byte that is no digit
-pub digits_before : (t : Bool) (m : Mode) (b : ℕ) (bytes : List ℕ) (fs : List (Frame Chain)) (k : Stock) → is_digits_mode m ≡ true → is_digit b ≡ false → reader.step (in_stock t) (mode_of m bytes) b fs k ≡ reader.atom_before (in_stock t) (word_atom m bytes) b fs k
+pub digits_before : (t : Bool) (m : Mode) (b : ℕ) (bytes : List ℕ) (fs : List (ReaderFrame PairChain)) (k : Stock) → is_digits_mode m ≡ true → is_digit b ≡ false → reader.reader_step (in_stock t) (mode_of m bytes) b fs k ≡ reader.atom_before (in_stock t) (word_atom m bytes) b fs k
 digits_before t mode.Gap b bytes fs k is other = cc
 digits_before t mode.Comment b bytes fs k is other = cc
 digits_before t mode.Name b bytes fs k is other = cc
@@ -52,5 +52,5 @@ quote_else mode.Text is not = absurd (not refl)
 quote_else mode.Quote is not = refl
 
 -- a string ends before a byte that is no `"`
-pub text_before : (t : Bool) (m : Mode) (b : ℕ) (bytes : List ℕ) (fs : List (Frame Chain)) (k : Stock) → m ≡ mode.Quote → b ≢ 34 → reader.step (in_stock t) (mode_of m bytes) b fs k ≡ reader.atom_before (in_stock t) (word.String bytes) b fs k
-text_before t m b bytes fs k is other = ap (λ (m : Mode). reader.step (in_stock t) (mode_of m bytes) b fs k) is ∙ rw (ne_eqb b 34 other) refl
+pub text_before : (t : Bool) (m : Mode) (b : ℕ) (bytes : List ℕ) (fs : List (ReaderFrame PairChain)) (k : Stock) → m ≡ mode.Quote → b ≢ 34 → reader.reader_step (in_stock t) (mode_of m bytes) b fs k ≡ reader.atom_before (in_stock t) (word.String bytes) b fs k
+text_before t m b bytes fs k is other = ap (λ (m : Mode). reader.reader_step (in_stock t) (mode_of m bytes) b fs k) is ∙ rw (ne_eqb b 34 other) refl

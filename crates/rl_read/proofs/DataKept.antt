@@ -7,7 +7,7 @@ use Rattle.rl_tags.specs.Tagged.{Tagged, Number, IdAt, StrAt, PairAt, VectorAt}
 use Rattle.rl_cells.specs.Cell.{Cell, More, PairCell, cell_at, is_id_cell, is_str_cell, is_pair_cell, is_vector_cell, is_live, is_pair, car_in, cdr_in, car_of, cdr_of, bytes_in, vector_in, placed}
 use Rattle.rl_cells.specs.Laws.{IsAdded}
 use Rattle.rl_syms.specs.Laws.{IsKept, LeaveBlocks}
-use Rattle.rl_syms.specs.Table.{IsTable, IsNamed, name_at}
+use Rattle.rl_syms.specs.Table.{IsTable, IsNamed, name_in_cells}
 use Rattle.rl_text.specs.Datum.{Datum, Id, Str, Pair, Vector, elements}
 use Rattle.rl_read.specs.Data.{IsDatumWithin, datum_within, IsDatum, datum_of}
 
@@ -42,7 +42,7 @@ all_kept P Q f g each (x ∷ xs) h =
 datum_kept : (n m : ℕ) (old : List Cell) (before : Option Tagged) (new : List Cell) (after : Option Tagged) → Stays old before new after → n ≤ m → (v : Tagged) → IsDatumWithin n old before v → IsDatumWithin m new after v × (datum_within m new v ≡ datum_within n old v)
 datum_kept n m old before new after s l (Number z) h = (tt, refl)
 datum_kept n m old before new after s l (IdAt k) h =
-    let named : IsNamed new after (name_at old k) (IdAt k) = s.names (name_at old k) (IdAt k) (record { interned = (refl, h.1); name_is = refl }) in
+    let named : IsNamed new after (name_in_cells old k) (IdAt k) = s.names (name_in_cells old k) (IdAt k) (record { interned = (refl, h.1); name_is = refl }) in
     ((ap is_id_cell (stays_at old before new after s is_id_cell refl k h.0) ∙ h.0, named.interned.1), ap Id named.name_is)
 datum_kept n m old before new after s l (StrAt k) h =
     let same = stays_at old before new after s is_str_cell refl k h in

@@ -3,19 +3,19 @@ use Rattle.std.proofs.Common.{◌≡◌, ◌≢◌, ℕ, suc, ◌+◌, ◌-◌, 
 use Rattle.std.specs.Prelude.{Option, Some, None, min, Result, Err}
 use Rattle.rl_tags.specs.Tagged.{Tagged}
 use Rattle.rl_text.specs.Maker.{Has, Wants}
-use Rattle.rl_text.specs.Reader.{Frame, Gap, Mode, Step, Goes, Done, Refuses, Halts, NoneLeft, Read, Refused, Stopped, after_step, after_turn, at_end, read_by, read_from, step}
-use Rattle.rl_world.specs.Counts.{Counts}
+use Rattle.rl_text.specs.Reader.{ReaderFrame, Gap, Mode, ReaderStep, Goes, Done, Refuses, Halts, NoneLeft, Read, Refused, Stopped, after_step, after_turn, at_end, read_by, read_from, reader_step}
+use Rattle.rl_world.specs.Counts.{WorldCounts}
 use Rattle.rl_io.specs.Told.{WhereTold}
 use Rattle.rl_world.specs.Input.{Gives, Input}
-use Rattle.rl_world.specs.Levels.{Levels}
+use Rattle.rl_world.specs.Levels.{WorldLevels}
 use Rattle.rl_world.specs.declared.world.World.{World}
 use Rattle.rl_world.specs.declared.stop.Stop.{Stop}
-use Rattle.rl_read.specs.Frames.{IsKept, IsReady, frames_in, frames_of, frames_kept}
+use Rattle.rl_read.specs.Frames.{IsKeptByReading, IsReadyToRead, frames_in, frames_of, frames_kept}
 use Rattle.rl_world.specs.Walks.{kept_above}
 use Rattle.rl_world.specs.declared.stop.Stop.TheVariants as stop
 use Rattle.rl_read.specs.Given.{IsGiven, WantsTurn, is_counted, is_fault}
-use Rattle.rl_read.specs.Reads.{Answer, IsGoing, IsRefusal, IsRefusedText, IsStopped, IsStoppedText}
-use Rattle.rl_read.specs.Stock.{Stock, Chain, in_stock, stock_of, turned, turned_at}
+use Rattle.rl_read.specs.Reads.{ReadAnswer, IsGoing, IsRefusal, IsRefusedText, IsStopped, IsStoppedText}
+use Rattle.rl_read.specs.Stock.{Stock, PairChain, in_stock, stock_of, turned, turned_at}
 use Rattle.rl_read.specs.declared.frames.Group.{Group}
 use Rattle.rl_read.specs.declared.frames.Group.TheVariants as group
 use Rattle.rl_read.specs.declared.read.ReadFault.{ReadFault}
@@ -35,20 +35,20 @@ pub passed_levels : (old new : World) → IsPassed old new → new.levels ≡ ol
 passed_levels old new e = ap (λ (w : World). w.levels) e
 
 pub passed_frames : (base : ℕ) (old new : World) (g : Group) → IsPassed old new → frames_in base new g ≡ frames_in base old g
-passed_frames base old new g e = ap (λ (l : Levels). frames_of g (frames_kept (kept_above base l))) (passed_levels old new e)
+passed_frames base old new g e = ap (λ (l : WorldLevels). frames_of g (frames_kept (kept_above base l))) (passed_levels old new e)
 
 pub passed_stock : (old new : World) → IsPassed old new → stock_of new ≡ record (stock_of old) { counts = new.counts }
 passed_stock old new e = ap (λ (w : World). stock_of w) e
 
-pub passed_ready : (base : ℕ) (old new : World) (g : Group) → IsPassed old new → IsReady base old g → IsReady base new g
-passed_ready base old new g e r = subst (λ (w : World). IsReady base w g) (sym e) (record { table = r.table; above = r.above; kept = r.kept; group_is = r.group_is; root = r.root })
+pub passed_ready : (base : ℕ) (old new : World) (g : Group) → IsPassed old new → IsReadyToRead base old g → IsReadyToRead base new g
+passed_ready base old new g e r = subst (λ (w : World). IsReadyToRead base w g) (sym e) (record { table = r.table; above = r.above; kept = r.kept; group_is = r.group_is; root = r.root })
 
 -- the counts are as they were
 pub passed_same : (old new : World) → IsPassed old new → new.counts ≡ old.counts → stock_of new ≡ stock_of old
-passed_same old new e same = passed_stock old new e ∙ ap (λ (c : Counts). record (stock_of old) { counts = c }) same
+passed_same old new e same = passed_stock old new e ∙ ap (λ (c : WorldCounts). record (stock_of old) { counts = c }) same
 
 pub turn_given : (turns : Bool) (old new : World) (b : ℕ) → IsGiven turns old new (Some b) → IsPassed old new → turned turns (stock_of old) ≡ Has tt (stock_of new)
-turn_given true old new b g e = ap (λ s. turned_at s (stock_of old)) g.some ∙ sym (ap (λ k. Has tt k) (passed_stock old new e ∙ ap (λ (c : Counts). record (stock_of old) { counts = c }) g.counted))
+turn_given true old new b g e = ap (λ s. turned_at s (stock_of old)) g.some ∙ sym (ap (λ k. Has tt k) (passed_stock old new e ∙ ap (λ (c : WorldCounts). record (stock_of old) { counts = c }) g.counted))
 turn_given false old new b g e = sym (ap (λ k. Has tt k) (passed_same old new e g))
 
 -- the end takes no turn
@@ -61,22 +61,22 @@ pub end_same : (turns : Bool) (base : ℕ) (old new : World) (m : Mode) (g : Gro
 end_same turns base old new m g e same = ap₂ (λ fs k. at_end (in_stock turns) m fs k) (sym (passed_frames base old new g e)) (sym same)
 
 -- and a byte
-pub step_same : (turns : Bool) (base : ℕ) (old new : World) (m : Mode) (b : ℕ) (g : Group) → IsPassed old new → step (in_stock turns) m b (frames_in base old g) (stock_of new) ≡ step (in_stock turns) m b (frames_in base new g) (stock_of new)
-step_same turns base old new m b g e = ap (λ fs. step (in_stock turns) m b fs (stock_of new)) (sym (passed_frames base old new g e))
+pub step_same : (turns : Bool) (base : ℕ) (old new : World) (m : Mode) (b : ℕ) (g : Group) → IsPassed old new → reader_step (in_stock turns) m b (frames_in base old g) (stock_of new) ≡ reader_step (in_stock turns) m b (frames_in base new g) (stock_of new)
+step_same turns base old new m b g e = ap (λ fs. reader_step (in_stock turns) m b fs (stock_of new)) (sym (passed_frames base old new g e))
 
 -- ---- a byte was read
 
-module _ (turns : Bool) (start : World) (m : Mode) (fs : List (Frame Chain)) (k : Stock) (given : ℕ) (before mid : List ℕ) (going : IsGoing turns start m fs k given before mid) where
+module _ (turns : Bool) (start : World) (m : Mode) (fs : List (ReaderFrame PairChain)) (k : Stock) (given : ℕ) (before mid : List ℕ) (going : IsGoing turns start m fs k given before mid) where
   -- it is read with the stock behind its turn
-  byte_read : (b : ℕ) (now : List ℕ) (taken : Stock) (x : Step Stock Tagged Chain Stop) → mid ≡ b ∷ now → turned turns k ≡ Has tt taken → step (in_stock turns) m b fs taken ≡ x
+  byte_read : (b : ℕ) (now : List ℕ) (taken : Stock) (x : ReaderStep Stock Tagged PairChain Stop) → mid ≡ b ∷ now → turned turns k ≡ Has tt taken → reader_step (in_stock turns) m b fs taken ≡ x
       → read_by (in_stock turns) (stock_of start) before ≡ after_step b now x (λ m fs k. read_from (in_stock turns) m fs k now)
   byte_read b now taken x e turn is =
       going.same
       ∙ ap (λ bytes. read_from (in_stock turns) m fs k bytes) e
-      ∙ ap (λ t. after_turn now t (λ k. after_step b now (step (in_stock turns) m b fs k) (λ m fs k. read_from (in_stock turns) m fs k now))) turn
+      ∙ ap (λ t. after_turn now t (λ k. after_step b now (reader_step (in_stock turns) m b fs k) (λ m fs k. read_from (in_stock turns) m fs k now))) turn
       ∙ ap (λ x. after_step b now x (λ m fs k. read_from (in_stock turns) m fs k now)) is
 
-  going_on : (b : ℕ) (now : List ℕ) (taken : Stock) (next : Mode) (more : List (Frame Chain)) (made : Stock) (count : ℕ) → mid ≡ b ∷ now → turned turns k ≡ Has tt taken → step (in_stock turns) m b fs taken ≡ Goes next more made → count ≡ min (given + 1) (2 ^ 64 - 1)
+  going_on : (b : ℕ) (now : List ℕ) (taken : Stock) (next : Mode) (more : List (ReaderFrame PairChain)) (made : Stock) (count : ℕ) → mid ≡ b ∷ now → turned turns k ≡ Has tt taken → reader_step (in_stock turns) m b fs taken ≡ Goes next more made → count ≡ min (given + 1) (2 ^ 64 - 1)
       → IsGoing turns start next more made count before now
   going_on b now taken next more made count e turn is count_is =
       let long : length mid ≡ suc (length now) = ap length e in
@@ -86,13 +86,13 @@ module _ (turns : Bool) (start : World) (m : Mode) (fs : List (Frame Chain)) (k 
         shorter = omega (arith, going.shorter, long);
       }
 
-  done_with : (b : ℕ) (now : List ℕ) (taken : Stock) (v : Tagged) (made : Stock) → mid ≡ b ∷ now → turned turns k ≡ Has tt taken → step (in_stock turns) m b fs taken ≡ Done v true made → read_by (in_stock turns) (stock_of start) before ≡ Read v made now
+  done_with : (b : ℕ) (now : List ℕ) (taken : Stock) (v : Tagged) (made : Stock) → mid ≡ b ∷ now → turned turns k ≡ Has tt taken → reader_step (in_stock turns) m b fs taken ≡ Done v true made → read_by (in_stock turns) (stock_of start) before ≡ Read v made now
   done_with b now taken v made e turn is = byte_read b now taken (Done v true made) e turn is
 
-  done_before : (b : ℕ) (now : List ℕ) (taken : Stock) (v : Tagged) (made : Stock) → mid ≡ b ∷ now → turned turns k ≡ Has tt taken → step (in_stock turns) m b fs taken ≡ Done v false made → read_by (in_stock turns) (stock_of start) before ≡ Read v made (b ∷ now)
+  done_before : (b : ℕ) (now : List ℕ) (taken : Stock) (v : Tagged) (made : Stock) → mid ≡ b ∷ now → turned turns k ≡ Has tt taken → reader_step (in_stock turns) m b fs taken ≡ Done v false made → read_by (in_stock turns) (stock_of start) before ≡ Read v made (b ∷ now)
   done_before b now taken v made e turn is = byte_read b now taken (Done v false made) e turn is
 
-  refused_at : (b : ℕ) (now : List ℕ) (taken made : Stock) (new : World) → mid ≡ b ∷ now → turned turns k ≡ Has tt taken → step (in_stock turns) m b fs taken ≡ Refuses made → record made { left = (stock_of new).left } ≡ stock_of new → IsRefusedText turns start new before now given
+  refused_at : (b : ℕ) (now : List ℕ) (taken made : Stock) (new : World) → mid ≡ b ∷ now → turned turns k ≡ Has tt taken → reader_step (in_stock turns) m b fs taken ≡ Refuses made → record made { left = (stock_of new).left } ≡ stock_of new → IsRefusedText turns start new before now given
   refused_at b now taken made new e turn is stays =
       let long : length mid ≡ suc (length now) = ap length e in
       record {
@@ -104,7 +104,7 @@ module _ (turns : Bool) (start : World) (m : Mode) (fs : List (Frame Chain)) (k 
         given = refl;
       }
 
-  halted_at : (b : ℕ) (now : List ℕ) (taken made : Stock) (s : Stop) → mid ≡ b ∷ now → turned turns k ≡ Has tt taken → step (in_stock turns) m b fs taken ≡ Halts s made → IsStoppedText turns start before now s
+  halted_at : (b : ℕ) (now : List ℕ) (taken made : Stock) (s : Stop) → mid ≡ b ∷ now → turned turns k ≡ Has tt taken → reader_step (in_stock turns) m b fs taken ≡ Halts s made → IsStoppedText turns start before now s
   halted_at b now taken made s e turn is = record { made = made; stopped = byte_read b now taken (Halts s made) e turn is }
 
   -- no turn was left
@@ -113,18 +113,18 @@ module _ (turns : Bool) (start : World) (m : Mode) (fs : List (Frame Chain)) (k 
     made = k;
     stopped = going.same
         ∙ ap (λ bytes. read_from (in_stock turns) m fs k bytes) e
-        ∙ ap (λ t. after_turn now t (λ k. after_step b now (step (in_stock turns) m b fs k) (λ m fs k. read_from (in_stock turns) m fs k now))) wants;
+        ∙ ap (λ t. after_turn now t (λ k. after_step b now (reader_step (in_stock turns) m b fs k) (λ m fs k. read_from (in_stock turns) m fs k now))) wants;
   }
 
   -- ---- the end
 
-  end_read : (now : List ℕ) (answer : Answer) → Gives mid now None → at_end (in_stock turns) m fs k ≡ answer → read_by (in_stock turns) (stock_of start) before ≡ answer
+  end_read : (now : List ℕ) (answer : ReadAnswer) → Gives mid now None → at_end (in_stock turns) m fs k ≡ answer → read_by (in_stock turns) (stock_of start) before ≡ answer
   end_read now answer e is = going.same ∙ ap (λ bytes. read_from (in_stock turns) m fs k bytes) e.0 ∙ is
 
   end_whole : (now : List ℕ) (v : Tagged) (made : Stock) → Gives mid now None → at_end (in_stock turns) m fs k ≡ Read v made [] → read_by (in_stock turns) (stock_of start) before ≡ Read v made now
   end_whole now v made e is = end_read now (Read v made []) e is ∙ ap (λ bytes. Read v made bytes) (sym e.1)
 
-  end_refused : (now : List ℕ) (new : World) (answer : Bool → Answer) (count : ℕ) → Gives mid now None → at_end (in_stock turns) m fs k ≡ answer turns → IsRefusal new answer [] → count ≡ given → IsRefusedText turns start new before now count
+  end_refused : (now : List ℕ) (new : World) (answer : Bool → ReadAnswer) (count : ℕ) → Gives mid now None → at_end (in_stock turns) m fs k ≡ answer turns → IsRefusal new answer [] → count ≡ given → IsRefusedText turns start new before now count
   end_refused now new answer count e is r count_is = record {
     from = [];
     made = r.made;
@@ -134,7 +134,7 @@ module _ (turns : Bool) (start : World) (m : Mode) (fs : List (Frame Chain)) (k 
     given = e.1;
   }
 
-  end_stopped : (now : List ℕ) (answer : Bool → Answer) (s : Stop) → Gives mid now None → at_end (in_stock turns) m fs k ≡ answer turns → IsStopped answer s [] → IsStoppedText turns start before now s
+  end_stopped : (now : List ℕ) (answer : Bool → ReadAnswer) (s : Stop) → Gives mid now None → at_end (in_stock turns) m fs k ≡ answer turns → IsStopped answer s [] → IsStoppedText turns start before now s
   end_stopped now answer s e is r = record {
     made = r.made;
     stopped = end_read now (Stopped s r.made []) e (is ∙ r.stopped turns) ∙ ap (λ bytes. Stopped s r.made bytes) (sym e.1);
@@ -162,24 +162,24 @@ module _ (turns turns_now : Bool) (same : turns_now ≡ turns) (start old new : 
     told_byte P f = subst (λ (i : Input). WhereTold a (left i) P) (sym input)
         (told_through a mid (left new.input) (λ before now. IsGoing turns start m (frames_in base old group) (stock_of old) count before now) (λ before now. Gives before now (Some b)) P f going (subst (λ (o : Option ℕ). WhereTold mid (left new.input) (λ before now. Gives before now o)) is gives))
 
-    pub told_on : (next : Mode) (more : List (Frame Chain)) (made : Stock) (after : ℕ) → step (in_stock turns) m b (frames_in base new group) (stock_of new) ≡ Goes next more made → after ≡ min (count + 1) (2 ^ 64 - 1) → WhereTold a (left i) (λ before now. IsGoing turns start next more made after before now)
+    pub told_on : (next : Mode) (more : List (ReaderFrame PairChain)) (made : Stock) (after : ℕ) → reader_step (in_stock turns) m b (frames_in base new group) (stock_of new) ≡ Goes next more made → after ≡ min (count + 1) (2 ^ 64 - 1) → WhereTold a (left i) (λ before now. IsGoing turns start next more made after before now)
     told_on next more made after steps after_is = told_byte (λ before now. IsGoing turns start next more made after before now) (λ before mid now goes e. going_on turns start m (frames_in base old group) (stock_of old) count before mid goes b now (stock_of new) next more made after e taken (step_same turns base old new m b group passed ∙ steps) after_is)
 
-    pub told_done : (v : Tagged) (made : Stock) → step (in_stock turns) m b (frames_in base new group) (stock_of new) ≡ Done v true made → WhereTold a (left i) (λ before now. read_by (in_stock turns) (stock_of start) before ≡ Read v made now)
+    pub told_done : (v : Tagged) (made : Stock) → reader_step (in_stock turns) m b (frames_in base new group) (stock_of new) ≡ Done v true made → WhereTold a (left i) (λ before now. read_by (in_stock turns) (stock_of start) before ≡ Read v made now)
     told_done v made steps = told_byte (λ before now. read_by (in_stock turns) (stock_of start) before ≡ Read v made now) (λ before mid now goes e. done_with turns start m (frames_in base old group) (stock_of old) count before mid goes b now (stock_of new) v made e taken (step_same turns base old new m b group passed ∙ steps))
 
     -- the byte is put back
-    pub told_before : (v : Tagged) (made : Stock) (c : Option (List ℕ)) → step (in_stock turns) m b (frames_in base new group) (stock_of new) ≡ Done v false made → WhereTold (left i) c (λ before now. now ≡ b ∷ before) → WhereTold a c (λ before now. read_by (in_stock turns) (stock_of start) before ≡ Read v made now)
+    pub told_before : (v : Tagged) (made : Stock) (c : Option (List ℕ)) → reader_step (in_stock turns) m b (frames_in base new group) (stock_of new) ≡ Done v false made → WhereTold (left i) c (λ before now. now ≡ b ∷ before) → WhereTold a c (λ before now. read_by (in_stock turns) (stock_of start) before ≡ Read v made now)
     told_before v made c steps back =
         told_through a (left i) c (λ before now. read_by (in_stock turns) (stock_of start) before ≡ Read v made (b ∷ now)) (λ before now. now ≡ b ∷ before) (λ before now. read_by (in_stock turns) (stock_of start) before ≡ Read v made now)
         (λ x y z e d. e ∙ ap (λ bytes. Read v made bytes) (sym d))
         (told_byte (λ before now. read_by (in_stock turns) (stock_of start) before ≡ Read v made (b ∷ now)) (λ before mid now goes e. done_before turns start m (frames_in base old group) (stock_of old) count before mid goes b now (stock_of new) v made e taken (step_same turns base old new m b group passed ∙ steps)))
         back
 
-    pub told_refused : (made : Stock) (last : World) → step (in_stock turns) m b (frames_in base new group) (stock_of new) ≡ Refuses made → record made { left = (stock_of last).left } ≡ stock_of last → WhereTold a (left i) (λ before now. IsRefusedText turns start last before now count)
+    pub told_refused : (made : Stock) (last : World) → reader_step (in_stock turns) m b (frames_in base new group) (stock_of new) ≡ Refuses made → record made { left = (stock_of last).left } ≡ stock_of last → WhereTold a (left i) (λ before now. IsRefusedText turns start last before now count)
     told_refused made last steps stays = told_byte (λ before now. IsRefusedText turns start last before now count) (λ before mid now goes e. refused_at turns start m (frames_in base old group) (stock_of old) count before mid goes b now (stock_of new) made last e taken (step_same turns base old new m b group passed ∙ steps) stays)
 
-    pub told_halted : (made : Stock) (s : Stop) → step (in_stock turns) m b (frames_in base new group) (stock_of new) ≡ Halts s made → WhereTold a (left i) (λ before now. IsStoppedText turns start before now s)
+    pub told_halted : (made : Stock) (s : Stop) → reader_step (in_stock turns) m b (frames_in base new group) (stock_of new) ≡ Halts s made → WhereTold a (left i) (λ before now. IsStoppedText turns start before now s)
     told_halted made s steps = told_byte (λ before now. IsStoppedText turns start before now s) (λ before mid now goes e. halted_at turns start m (frames_in base old group) (stock_of old) count before mid goes b now (stock_of new) made s e taken (step_same turns base old new m b group passed ∙ steps))
 
   module _ (is : o ≡ None) (i : Input) (input : i ≡ new.input) where
@@ -208,7 +208,7 @@ wants_turn : (turns : Bool) (mid now : Option (List ℕ)) (old new : World) (s :
 wants_turn true mid now old new s w = (ap (λ x. turned_at x (stock_of old)) w.stop_is, w.given)
 wants_turn false mid now old new s w = absurd w
 
-pub told_wants : (turns turns_now : Bool) → turns_now ≡ turns → (start old new : World) (m : Mode) (fs : List (Frame Chain)) (count : ℕ) (a mid now : Option (List ℕ)) (s : Stop) → WhereTold a mid (λ before now. IsGoing turns start m fs (stock_of old) count before now) → WantsTurn turns_now mid now old new s ⊎ (is_fault s ≡ true) → is_fault s ≡ false
+pub told_wants : (turns turns_now : Bool) → turns_now ≡ turns → (start old new : World) (m : Mode) (fs : List (ReaderFrame PairChain)) (count : ℕ) (a mid now : Option (List ℕ)) (s : Stop) → WhereTold a mid (λ before now. IsGoing turns start m fs (stock_of old) count before now) → WantsTurn turns_now mid now old new s ⊎ (is_fault s ≡ true) → is_fault s ≡ false
     → WhereTold a now (λ before now. IsStoppedText turns start before now s)
 told_wants turns turns_now same start old new m fs count a mid now s going why not = elim why [
   | inl w ↦
@@ -238,11 +238,11 @@ not_a_write s counted e = let clash : is_counted stop.Write ≡ true = subst (λ
 pub kept_first : (base : ℕ) (w : World) → base ≡ length w.levels.walk → kept_above base w.levels ≡ []
 kept_first base w e = let nothing : length w.levels.walk - base ≡ 0 = omega (arith, e) in ap (λ n. take n w.levels.walk) nothing
 
-pub ready_first : (base : ℕ) (w : World) → base ≡ length w.levels.walk → IsTable w.cells.cells w.syms.head → IsReady base w group.Root
+pub ready_first : (base : ℕ) (w : World) → base ≡ length w.levels.walk → IsTable w.cells.cells w.syms.head → IsReadyToRead base w group.Root
 ready_first base w e table = record {
   table = table;
   above = omega (arith, e);
-  kept = subst (λ (ts : List (ℕ × ℕ × ℕ)). AllByRecursion (IsKept w.cells.cells) ts) (sym (kept_first base w e)) tt;
+  kept = subst (λ (ts : List (ℕ × ℕ × ℕ)). AllByRecursion (IsKeptByReading w.cells.cells) ts) (sym (kept_first base w e)) tt;
   group_is = tt;
   root = λ r. sym e;
 }

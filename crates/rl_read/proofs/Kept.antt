@@ -5,13 +5,13 @@ use Rattle.rl_cells.specs.Cell.{Cell}
 use Rattle.rl_syms.specs.Table.{IsTable}
 use Rattle.rl_tags.specs.Tagged.{Tagged}
 use Rattle.rl_text.specs.Maker.{Maker}
-use Rattle.rl_text.specs.Reader.{Frame, is_inner, left}
-use Rattle.rl_world.specs.Levels.{Levels}
+use Rattle.rl_text.specs.Reader.{ReaderFrame, is_inner, left}
+use Rattle.rl_world.specs.Levels.{WorldLevels}
 use Rattle.rl_world.specs.declared.world.World.{World}
 use Rattle.rl_world.specs.declared.stop.Stop.{Stop}
 use Rattle.rl_read.specs.Stock.{Stock, in_stock, level_left, stock_of}
 use Rattle.rl_read.specs.Stock as stock
-use Rattle.rl_read.specs.Frames.{IsGroup, IsKept, IsReady, behind_it, group_weight, frames_in, frames_kept, frames_of, group_in, is_inner_group}
+use Rattle.rl_read.specs.Frames.{IsGroup, IsKeptByReading, IsReadyToRead, behind_it, group_weight, frames_in, frames_kept, frames_of, group_in, is_inner_group}
 use Rattle.rl_read.specs.declared.frames.Chain.{Chain}
 use Rattle.rl_read.specs.declared.frames.Phase.TheVariants as phase
 use Rattle.rl_read.specs.declared.frames.Group.{Group}
@@ -19,22 +19,22 @@ use Rattle.rl_read.specs.declared.frames.Group.TheVariants as group
 use Rattle.rl_world.specs.Walks.{above_pushed, kept_above}
 
 -- levels alone have changed, whatever they are now
-pub levels_alone : (old new : World) (l : Levels) → new ≡ record old { levels = l } → new ≡ record old { levels = new.levels }
+pub levels_alone : (old new : World) (l : WorldLevels) → new ≡ record old { levels = l } → new ≡ record old { levels = new.levels }
 levels_alone old new l e = e ∙ ap (λ (w : World). record old { levels = w.levels }) (sym e)
 
 -- and where they have changed once more
-pub levels_again : (a b c : World) (l : Levels) → b ≡ record a { levels = b.levels } → c ≡ record b { levels = l } → c ≡ record a { levels = c.levels }
+pub levels_again : (a b c : World) (l : WorldLevels) → b ≡ record a { levels = b.levels } → c ≡ record b { levels = l } → c ≡ record a { levels = c.levels }
 levels_again a b c l e d = levels_alone b c l d ∙ ap (λ (w : World). record w { levels = c.levels }) e
 
 -- ---- one more is kept
 
 -- more than the base were kept
-pub left_more : (base : ℕ) (old new : Levels) (t : ℕ × ℕ × ℕ) → base ≤ length old.walk → length old.walk ≢ base → old.walk ≡ t ∷ new.walk → base ≤ length new.walk
+pub left_more : (base : ℕ) (old new : WorldLevels) (t : ℕ × ℕ × ℕ) → base ≤ length old.walk → length old.walk ≢ base → old.walk ≡ t ∷ new.walk → base ≤ length new.walk
 left_more base old new t above other popped =
     let long : length old.walk ≡ suc (length new.walk) = ap length popped in omega (arith, above, other, long)
 
 -- it was the first of what was kept
-pub kept_first : (base : ℕ) (cells : List Cell) (old new : Levels) (t : ℕ × ℕ × ℕ) → old.walk ≡ t ∷ new.walk → base ≤ length new.walk → AllByRecursion (IsKept cells) (kept_above base old) → IsKept cells t × AllByRecursion (IsKept cells) (kept_above base new)
+pub kept_first : (base : ℕ) (cells : List Cell) (old new : WorldLevels) (t : ℕ × ℕ × ℕ) → old.walk ≡ t ∷ new.walk → base ≤ length new.walk → AllByRecursion (IsKeptByReading cells) (kept_above base old) → IsKeptByReading cells t × AllByRecursion (IsKeptByReading cells) (kept_above base new)
 kept_first base cells old new t popped l kept = rw (above_pushed base new old t popped l) at kept
 
 -- what has begun is what was kept
@@ -44,7 +44,7 @@ frames_popped base old new t g popped l is = rw is (sym (ap frames_kept (above_p
 -- ---- levels
 
 -- what is in such a group takes a level
-pub inner_frames : (g : Group) (fs : List (Frame stock.Chain)) → is_inner_group g ≡ true → is_inner (frames_of g fs) ≡ true
+pub inner_frames : (g : Group) (fs : List (ReaderFrame stock.PairChain)) → is_inner_group g ≡ true → is_inner (frames_of g fs) ≡ true
 inner_frames group.Root fs h = absurd cc
 inner_frames group.Quote fs h = refl
 inner_frames (group.Vector c) fs h = refl
@@ -65,7 +65,7 @@ not_root (group.QuoteBehind c owed) h e = cc
 not_root (group.VectorBehind v c owed) h e = cc
 
 -- it leaves a level
-pub inner_left : (m : Maker Stock Tagged stock.Chain Stop) (fs : List (Frame stock.Chain)) (k : Stock) → is_inner fs ≡ true → left m fs k ≡ m.leave k
+pub inner_left : (m : Maker Stock Tagged stock.PairChain Stop) (fs : List (ReaderFrame stock.PairChain)) (k : Stock) → is_inner fs ≡ true → left m fs k ≡ m.leave k
 inner_left m fs k h = rw h refl
 
 -- nothing is kept
@@ -88,7 +88,7 @@ popped_left base old new t popped l inner made turns =
 -- ---- what is ready
 
 -- all is ready for what was kept
-pub ready_popped : (base : ℕ) (old new : World) (t : ℕ × ℕ × ℕ) (g : Group) → IsTable old.cells.cells old.syms.head → AllByRecursion (IsKept old.cells.cells) (kept_above base old.levels) → new ≡ record old { levels = new.levels } → old.levels.walk ≡ t ∷ new.levels.walk → base ≤ length new.levels.walk → g ≡ group_in t → IsReady base new g
+pub ready_popped : (base : ℕ) (old new : World) (t : ℕ × ℕ × ℕ) (g : Group) → IsTable old.cells.cells old.syms.head → AllByRecursion (IsKeptByReading old.cells.cells) (kept_above base old.levels) → new ≡ record old { levels = new.levels } → old.levels.walk ≡ t ∷ new.levels.walk → base ≤ length new.levels.walk → g ≡ group_in t → IsReadyToRead base new g
 ready_popped base old new t g table kept world popped l is =
     let cells : new.cells ≡ old.cells = ap (λ (w : World). w.cells) world in
     let syms : new.syms ≡ old.syms = ap (λ (w : World). w.syms) world in
@@ -102,7 +102,7 @@ ready_popped base old new t g table kept world popped l is =
     }
 
 -- what is around is kept, and all is ready for what begins
-pub ready_pushed : (base : ℕ) (old new : World) (t : ℕ × ℕ × ℕ) (g h : Group) → IsReady base old g → new ≡ record old { levels = new.levels } → new.levels.walk ≡ t ∷ old.levels.walk → group_in t ≡ g → is_inner_group g ≡ true → IsKept old.cells.cells t → IsGroup new.cells.cells h → h ≢ group.Root → IsReady base new h
+pub ready_pushed : (base : ℕ) (old new : World) (t : ℕ × ℕ × ℕ) (g h : Group) → IsReadyToRead base old g → new ≡ record old { levels = new.levels } → new.levels.walk ≡ t ∷ old.levels.walk → group_in t ≡ g → is_inner_group g ≡ true → IsKeptByReading old.cells.cells t → IsGroup new.cells.cells h → h ≢ group.Root → IsReadyToRead base new h
 ready_pushed base old new t g h r world walk is inner kept group_is inside =
     let cells : new.cells ≡ old.cells = ap (λ (w : World). w.cells) world in
     let syms : new.syms ≡ old.syms = ap (λ (w : World). w.syms) world in
@@ -118,14 +118,14 @@ ready_pushed base old new t g h r world walk is inner kept group_is inside =
 -- ---- nothing is around it
 
 -- a group with nothing around it is alone
-pub root_frames : (base : ℕ) (w : World) (g : Group) → IsReady base w g → g ≡ group.Root → frames_in base w g ≡ []
+pub root_frames : (base : ℕ) (w : World) (g : Group) → IsReadyToRead base w g → g ≡ group.Root → frames_in base w g ≡ []
 root_frames base w g r e =
     let none : length w.levels.walk - base ≡ 0 = omega (arith, r.root e) in rw (e, none) refl
 
 -- ---- what is around a group
 
 -- around a group that is not behind a dot stands what is kept
-pub around_kept : (g : Group) (fs : List (Frame stock.Chain)) → ((c : Chain) (owed : ℕ) → g ≡ group.QuoteBehind c owed → ⊥) → ((v c : Chain) (owed : ℕ) → g ≡ group.VectorBehind v c owed → ⊥) → behind_it g fs ≡ fs
+pub around_kept : (g : Group) (fs : List (ReaderFrame stock.PairChain)) → ((c : Chain) (owed : ℕ) → g ≡ group.QuoteBehind c owed → ⊥) → ((v c : Chain) (owed : ℕ) → g ≡ group.VectorBehind v c owed → ⊥) → behind_it g fs ≡ fs
 around_kept group.Root fs q v = refl
 around_kept group.Quote fs q v = refl
 around_kept (group.Vector c) fs q v = refl

@@ -1,19 +1,19 @@
 -- A new name in a world: none had it, and those that were there stay.
 use Rattle.std.proofs.Common.{◌≡◌, ℕ, ◌≤◌, ◌⊎◌, inl, inr, List, length, Option, None, true, ap, arith, length-append}
 use Rattle.rl_tags.specs.Tagged.{Tagged}
-use Rattle.rl_cells.specs.Cell.{Store, is_live, used_of}
+use Rattle.rl_cells.specs.Cell.{CellStore, is_live, used_of}
 use Rattle.rl_syms.specs.Made.{Enters, Finds, id_cost, with_id}
 use Rattle.rl_syms.specs.Table.{IsFree, IsNamed, nil_value}
 use Rattle.rl_syms.specs.declared.table.Syms.{Syms}
 use Rattle.rl_text.specs.Maker.{Has}
-use Rattle.rl_world.specs.Counts.{Counts, room_stop, roomed}
+use Rattle.rl_world.specs.Counts.{WorldCounts, room_stop, roomed}
 use Rattle.rl_world.specs.declared.world.World.{World}
 use Rattle.rl_read.specs.Frames.{IsMaking}
 use Rattle.rl_read.specs.Stock.{identifier_at, stock_of}
 use Rattle.rl_read.proofs.MadeStocks.{identifier_had}
 
 -- what no identifier has is not found
-pub entered : (old new : Store) (before after : Option Tagged) (name : List ℕ) (v : Tagged) → IsFree old.cells before name → Finds old new before after name v ⊎ Enters old new before after name v → Enters old new before after name v
+pub entered : (old new : CellStore) (before after : Option Tagged) (name : List ℕ) (v : Tagged) → IsFree old.cells before name → Finds old new before after name v ⊎ Enters old new before after name v → Enters old new before after name v
 entered old new before after name v free (inl f) = absurd (free.other _ f.named.interned.1 f.named.name_is)
 entered old new before after name v free (inr e) = e
 
@@ -22,11 +22,11 @@ syms_are : (old new : Syms) → new.made ≡ old.made → new ≡ record old { h
 syms_are old new e = ap (λ (n : ℕ). record new { made = n }) e
 
 -- the cells are more
-pub longer_with_id : (s : Store) (name : List ℕ) (plist : Tagged) (next : Option Tagged) → length s.cells ≤ length (with_id s name plist next).cells
+pub longer_with_id : (s : CellStore) (name : List ℕ) (plist : Tagged) (next : Option Tagged) → length s.cells ≤ length (with_id s name plist next).cells
 longer_with_id s name plist next = simp length-append (omega arith)
 
 -- names, cells and counts alone have changed, and what was there stays
-pub making_entered : (w : World) (cells : Store) (syms : Syms) (counts : Counts) (name : List ℕ) (v : Tagged) → Enters w.cells cells w.syms.head syms.head name v → syms.made ≡ w.syms.made
+pub making_entered : (w : World) (cells : CellStore) (syms : Syms) (counts : WorldCounts) (name : List ℕ) (v : Tagged) → Enters w.cells cells w.syms.head syms.head name v → syms.made ≡ w.syms.made
     → ((v : Tagged) → is_live w.cells.cells v ≡ true → is_live cells.cells v ≡ true)
     → ((bytes : List ℕ) (id : Tagged) → IsNamed w.cells.cells w.syms.head bytes id → IsNamed cells.cells syms.head bytes id)
     → IsMaking w (record w { cells = cells; syms = syms; counts = counts })
@@ -38,7 +38,7 @@ making_entered w cells syms counts name v e made live names = record {
 }
 
 -- it is the new identifier of the stock
-pub identifier_entered : (w : World) (cells : Store) (syms : Syms) (name : List ℕ) (v : Tagged) → Enters w.cells cells w.syms.head syms.head name v → room_stop w.counts (used_of w.cells) (id_cost name) ≡ None
+pub identifier_entered : (w : World) (cells : CellStore) (syms : Syms) (name : List ℕ) (v : Tagged) → Enters w.cells cells w.syms.head syms.head name v → room_stop w.counts (used_of w.cells) (id_cost name) ≡ None
     → identifier_at None name (stock_of w) ≡ Has v (stock_of (record w { cells = cells; syms = syms; counts = roomed w.counts (id_cost name) }))
 identifier_entered w cells syms name v e stop =
     rw (e.cells, e.head, e.place) (identifier_had name (stock_of w) stop e.room)

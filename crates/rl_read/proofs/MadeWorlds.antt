@@ -1,11 +1,11 @@
 -- A world in which pairs, strings and vectors are made or changed keeps its names.
 use Rattle.std.proofs.Common.{◌≡◌, ℕ, ◌≤◌, List, length, None, true, refl, arith, length-append, length-set, slice_set}
 use Rattle.rl_tags.specs.Tagged.{Tagged, Number, IdAt, StrAt, PairAt, VectorAt, BigAt, FunAt}
-use Rattle.rl_cells.specs.Cell.{Cell, Store, PairCell, VectorCell, changed_at, grown, is_live, is_pair, is_vector, vector_of}
+use Rattle.rl_cells.specs.Cell.{Cell, CellStore, PairCell, VectorCell, changed_at, grown, is_live, is_pair, is_vector, vector_of}
 use Rattle.rl_syms.specs.Frame.{KeepsBlocks, block_in}
 use Rattle.rl_syms.specs.Laws.{IsKept, LeaveBlocks}
 use Rattle.rl_syms.specs.Table.{IsTable}
-use Rattle.rl_world.specs.Counts.{Counts}
+use Rattle.rl_world.specs.Counts.{WorldCounts}
 use Rattle.rl_world.specs.declared.world.World.{World}
 use Rattle.rl_read.specs.Frames.{IsMaking}
 
@@ -20,7 +20,7 @@ length_changed cells (BigAt k) c = length-set cells k c
 length_changed cells (FunAt k) c = length-set cells k c
 
 -- cells that keep the blocks keep the names
-pub making_blocks : IsKept → (w : World) (cells : Store) (counts : Counts) → KeepsBlocks w.cells.cells cells.cells → length w.cells.cells ≤ length cells.cells → IsTable w.cells.cells w.syms.head → IsMaking w (record w { cells = cells; counts = counts })
+pub making_blocks : IsKept → (w : World) (cells : CellStore) (counts : WorldCounts) → KeepsBlocks w.cells.cells cells.cells → length w.cells.cells ≤ length cells.cells → IsTable w.cells.cells w.syms.head → IsMaking w (record w { cells = cells; counts = counts })
 making_blocks kept w cells counts blocks longer table = record {
   world = refl;
   live = blocks.live;
@@ -29,7 +29,7 @@ making_blocks kept w cells counts blocks longer table = record {
 }
 
 -- a new object that is no block
-pub making_grown : IsKept → LeaveBlocks → (w : World) (c : Cell) (counts : Counts) → block_in c ≡ None → IsTable w.cells.cells w.syms.head → IsMaking w (record w { cells = grown w.cells c; counts = counts })
+pub making_grown : IsKept → LeaveBlocks → (w : World) (c : Cell) (counts : WorldCounts) → block_in c ≡ None → IsTable w.cells.cells w.syms.head → IsMaking w (record w { cells = grown w.cells c; counts = counts })
 making_grown kept leave w c counts none table =
     making_blocks kept w (grown w.cells c) counts (leave.made w.cells.cells c none) (simp length-append (omega arith)) table
 

@@ -4,9 +4,9 @@ use Rattle.std.specs.List.{AllByRecursion}
 use Rattle.rl_tags.specs.Tagged.{Tagged, PairAt}
 use Rattle.rl_cells.specs.Cell.{Cell, is_live, is_pair}
 use Rattle.rl_syms.specs.Table.{IsTable}
-use Rattle.rl_world.specs.Levels.{Levels}
+use Rattle.rl_world.specs.Levels.{WorldLevels}
 use Rattle.rl_world.specs.declared.world.World.{World}
-use Rattle.rl_read.specs.Frames.{IsChain, IsGroup, IsKept, IsMaking, IsReading, IsReady, group_in}
+use Rattle.rl_read.specs.Frames.{IsChain, IsGroup, IsKeptByReading, IsMaking, IsReading, IsReadyToRead, group_in}
 use Rattle.rl_read.specs.declared.frames.Chain.{Chain}
 use Rattle.rl_read.specs.declared.frames.Chain.TheVariants as chain
 use Rattle.rl_read.specs.declared.frames.Group.{Group}
@@ -46,12 +46,12 @@ group_stays old new (group.List c owed p) live l h = (chain_stays old new c live
 group_stays old new (group.QuoteBehind c owed) live l h = (chain_stays old new c live h.0, omega (arith, h.1))
 group_stays old new (group.VectorBehind v c owed) live l h = (chain_stays old new v live h.0, chain_stays old new c live h.1, omega (arith, h.2))
 
-pub kept_stays : (old new : List Cell) (ts : List (ℕ × ℕ × ℕ)) → ((v : Tagged) → is_live old v ≡ true → is_live new v ≡ true) → length old ≤ length new → AllByRecursion (IsKept old) ts → AllByRecursion (IsKept new) ts
+pub kept_stays : (old new : List Cell) (ts : List (ℕ × ℕ × ℕ)) → ((v : Tagged) → is_live old v ≡ true → is_live new v ≡ true) → length old ≤ length new → AllByRecursion (IsKeptByReading old) ts → AllByRecursion (IsKeptByReading new) ts
 kept_stays old new [] live l h = tt
 kept_stays old new (t ∷ ts) live l h = (record { group_is = group_stays old new (group_in t) live l h.0.group_is; inner = h.0.inner; owed = h.0.owed }, kept_stays old new ts live l h.1)
 
 -- objects were made, and this has begun
-pub ready_made : (base : ℕ) (old new : World) (g h : Group) → IsReady base old g → IsMaking old new → IsTable new.cells.cells new.syms.head → IsGroup new.cells.cells h → (h ≡ group.Root → length old.levels.walk ≡ base) → IsReady base new h
+pub ready_made : (base : ℕ) (old new : World) (g h : Group) → IsReadyToRead base old g → IsMaking old new → IsTable new.cells.cells new.syms.head → IsGroup new.cells.cells h → (h ≡ group.Root → length old.levels.walk ≡ base) → IsReadyToRead base new h
 ready_made base old new g h r m table is root =
     let levels = making_levels old new m in
     record {
@@ -63,7 +63,7 @@ ready_made base old new g h r m table is root =
     }
 
 -- and the same has begun
-pub ready_stays : (base : ℕ) (old new : World) (g : Group) → IsReady base old g → IsMaking old new → IsTable new.cells.cells new.syms.head → IsReady base new g
+pub ready_stays : (base : ℕ) (old new : World) (g : Group) → IsReadyToRead base old g → IsMaking old new → IsTable new.cells.cells new.syms.head → IsReadyToRead base new g
 ready_stays base old new g r m table = ready_made base old new g g r m table (group_stays old.cells.cells new.cells.cells g m.live m.longer r.group_is) r.root
 
 -- ---- reading
@@ -75,8 +75,8 @@ pub reading_of_making : (base : ℕ) (a b : World) → IsMaking a b → IsReadin
 reading_of_making base a b m =
     let levels = making_levels a b m in
     record {
-      making = subst (λ (l : Levels). IsMaking (record a { levels = l }) b) (sym levels) m;
-      steady = subst (λ (l : Levels). IsSteady base a.levels l) (sym levels) (steady_refl base a.levels);
+      making = subst (λ (l : WorldLevels). IsMaking (record a { levels = l }) b) (sym levels) m;
+      steady = subst (λ (l : WorldLevels). IsSteady base a.levels l) (sym levels) (steady_refl base a.levels);
     }
 
 -- levels alone have changed

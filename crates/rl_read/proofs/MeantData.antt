@@ -7,7 +7,7 @@ use Rattle.rl_cells.specs.Cell.{Cell, cell_at, car_in, cdr_in, vector_in}
 use Rattle.rl_tree.specs.Name.{nil_name}
 use Rattle.rl_syms.specs.Contents.{number_at, value_of, store_of}
 use Rattle.rl_syms.specs.Laws.{IsRead}
-use Rattle.rl_syms.specs.Table.{Among, IsTable, IsNamed, ids_from, name_at, nil_value}
+use Rattle.rl_syms.specs.Table.{Among, IsTable, IsNamed, ids_from, name_in_cells, nil_value}
 use Rattle.rl_text.specs.Datum.{Datum, elements}
 use Rattle.rl_text.specs.Stored.{IsStored, AreStored, IsIdentifier}
 use Rattle.rl_read.specs.Data.{IsDatumWithin, datum_within}
@@ -19,20 +19,20 @@ record IsNamedTable (cells : List Cell) (head : Option Tagged) : Type 0 where
 
 -- the value means this datum
 abbrev Means : List Cell → Tagged → Datum → Type 0
-Means cells v d = IsStored (store_of cells) (name_at cells) (index_of nil_id) (value_of cells v) d
+Means cells v d = IsStored (store_of cells) (name_in_cells cells) (index_of nil_id) (value_of cells v) d
 
 -- an interned identifier is NIL where its name is NIL's
-name_means : (cells : List Cell) (head : Option Tagged) (k : ℕ) → IsNamedTable cells head → Among k (ids_from cells head) → IsIdentifier (name_at cells) (index_of nil_id) (value_of cells (IdAt k)) (name_at cells k)
+name_means : (cells : List Cell) (head : Option Tagged) (k : ℕ) → IsNamedTable cells head → Among k (ids_from cells head) → IsIdentifier (name_in_cells cells) (index_of nil_id) (value_of cells (IdAt k)) (name_in_cells cells k)
 name_means cells head k named among = record {
   number = k;
   is = refl;
   named = refl;
-  nil_alone = (λ e. ap (name_at cells) e ∙ named.nil.name_is, λ e. named.table.chained.distinct k (index_of nil_value) among named.nil.interned.1 (e ∙ sym named.nil.name_is));
+  nil_alone = (λ e. ap (name_in_cells cells) e ∙ named.nil.name_is, λ e. named.table.chained.distinct k (index_of nil_value) among named.nil.interned.1 (e ∙ sym named.nil.name_is));
 }
 
 -- what holds of each value of a vector
 elements_mean : (cells : List Cell) (n : ℕ) (head : Option Tagged) → ((v : Tagged) → IsDatumWithin n cells head v → Means cells v (datum_within n cells v)) → (xs : List Tagged) → AllByRecursion (IsDatumWithin n cells head) xs
-    → AreStored (store_of cells) (name_at cells) (index_of nil_id) (map (value_of cells) xs) (elements (map (datum_within n cells) xs))
+    → AreStored (store_of cells) (name_in_cells cells) (index_of nil_id) (map (value_of cells) xs) (elements (map (datum_within n cells) xs))
 elements_mean cells n head each [] are = tt
 elements_mean cells n head each (x ∷ xs) are = (each x are.0, elements_mean cells n head each xs are.1)
 

@@ -7,7 +7,7 @@ use Rattle.rl_syms.specs.Laws.{IsKept, LeaveBlocks}
 use Rattle.rl_syms.specs.Table.{nil_value}
 use Rattle.rl_text.specs.Datum.{Datum, elements, listed, nil}
 use Rattle.rl_text.specs.Reading.{Items, listed_items}
-use Rattle.rl_read.specs.Stock.{Chain, elements_from, first_of}
+use Rattle.rl_read.specs.Stock.{PairChain, elements_from, first_of_chain}
 use Rattle.rl_read.proofs.Standing.{Heap, IsHeap, IsPairIn, Stands, AreStanding, Keeps, keeps_fewer, pair_in_kept, pair_inside, stands_kept, stands_wider}
 
 -- ---- pairs that lead to the one at q
@@ -52,12 +52,12 @@ pub record IsChainIn (lo hi : ℕ) (w : Heap) (first last : Tagged) (es : List D
   pub cell : cell_at w.cells place ≡ PairCell car nil_value
   pub stands : Stands lo place w car element
 
-abbrev pub IsOpen : ℕ → ℕ → Heap → Chain → Items → Type 0
+abbrev pub IsOpen : ℕ → ℕ → Heap → PairChain → Items → Type 0
 IsOpen lo hi w None l = (l.elements ≡ []) × (l.tail ≡ nil)
 IsOpen lo hi w (Some c) l = IsChainIn lo hi w c.0 c.1 l.elements × (l.tail ≡ nil)
 
 -- it has elements
-abbrev pub HasPairs : Chain → Type 0
+abbrev pub HasPairs : PairChain → Type 0
 HasPairs None = ⊥
 HasPairs (Some c) = Unit {0}
 
@@ -78,12 +78,12 @@ chain_in_kept lo hi old new first last es k h =
       stands = stands_kept lo h.place old new front h.car h.element h.stands;
     }
 
-pub open_kept : (lo hi : ℕ) (old new : Heap) (c : Chain) (l : Items) → Keeps lo hi old new → IsOpen lo hi old c l → IsOpen lo hi new c l
+pub open_kept : (lo hi : ℕ) (old new : Heap) (c : PairChain) (l : Items) → Keeps lo hi old new → IsOpen lo hi old c l → IsOpen lo hi new c l
 open_kept lo hi old new None l k h = h
 open_kept lo hi old new (Some c) l k h = (chain_in_kept lo hi old new c.0 c.1 l.elements k h.0, h.1)
 
 -- whole as it is, it is the list of its elements
-pub open_list : (lo hi : ℕ) (w : Heap) (c : Chain) (l : Items) → IsHeap w → IsOpen lo hi w c l → Stands lo hi w (first_of c) (listed_items l)
+pub open_list : (lo hi : ℕ) (w : Heap) (c : PairChain) (l : Items) → IsHeap w → IsOpen lo hi w c l → Stands lo hi w (first_of_chain c) (listed_items l)
 open_list lo hi w None l n h = rw (h.0, h.1) n.nil
 open_list lo hi w (Some c) l n h =
     rw (h.0.all, h.1) (leads_list lo h.0.place hi w c.0 h.0.car nil_value h.0.front h.0.element nil h.0.above h.0.below h.0.cell h.0.stands n.nil h.0.leads)
@@ -103,7 +103,7 @@ leads_elements lo q hi (suc m) w v x (d ∷ ds) e b c s h few =
     let fewer : length (elements_from m w.cells h.1) < m = omega (arith, rw (h.2.is, h.2.cell) at few) in
     rw (h.2.is, h.2.cell) (stands_wider lo q lo hi w (omega arith) b h.0 d h.3, leads_elements lo q hi m w h.1 x ds e b c s h.4 fewer)
 
-pub open_elements : (lo hi m : ℕ) (w : Heap) (c : Chain) (l : Items) → IsOpen lo hi w c l → length (elements_from m w.cells (first_of c)) < m → AreStanding lo hi w (elements_from m w.cells (first_of c)) (elements l.elements)
+pub open_elements : (lo hi m : ℕ) (w : Heap) (c : PairChain) (l : Items) → IsOpen lo hi w c l → length (elements_from m w.cells (first_of_chain c)) < m → AreStanding lo hi w (elements_from m w.cells (first_of_chain c)) (elements l.elements)
 open_elements lo hi m w None l h few = rw (h.0, nil_elements m w.cells) tt
 open_elements lo hi m w (Some c) l h few =
     rw h.0.all (leads_elements lo h.0.place hi m w c.0 h.0.car h.0.front h.0.element (omega (arith, h.0.below)) h.0.cell h.0.stands h.0.leads few)

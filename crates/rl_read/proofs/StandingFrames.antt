@@ -2,9 +2,9 @@
 use Rattle.std.proofs.Common.{◌≡◌, ℕ, zero, suc, ◌+◌, ◌≤◌, Bool, true, false, if◌then◌else◌, List, [], ◌∷◌, ◌++◌, length, None, Some, refl, sym, ap, subst, arith}
 use Rattle.rl_tags.specs.Tagged.{Tagged}
 use Rattle.rl_text.specs.Datum.{Datum, Vector, quoted, elements, listed, nil}
-use Rattle.rl_text.specs.Reader.{Phase, Begun, Going, Dotted, Shut, Frame, Listing, Vectoring, Quoting, is_inner, admits, left}
+use Rattle.rl_text.specs.Reader.{Phase, Begun, Going, Dotted, Shut, ReaderFrame, Listing, Vectoring, Quoting, is_inner, admits, left}
 use Rattle.rl_text.specs.Reading.{Items, listed_items}
-use Rattle.rl_read.specs.Stock.{Stock, Chain, first_of, in_stock, level_left}
+use Rattle.rl_read.specs.Stock.{Stock, PairChain, first_of_chain, in_stock, level_left}
 use Rattle.rl_read.proofs.DataKept.{Stays}
 use Rattle.rl_read.proofs.Standing.{Heap, IsHeap, Stands, Keeps, keeps_fewer, stands_kept, stands_wider, stays_on, size, sizes}
 use Rattle.rl_read.proofs.StandingChains.{IsOpen, HasPairs, open_kept, open_list}
@@ -14,31 +14,31 @@ use Rattle.rl_read.proofs.StandingLists.{IsLonger}
 -- ---- frames
 
 -- what stands behind a dot is of a list that has elements
-abbrev pub IsOwed : ℕ → Chain → Type 0
+abbrev pub IsOwed : ℕ → PairChain → Type 0
 IsOwed zero c = Unit {0}
 IsOwed (suc n) c = HasPairs c
 
-abbrev pub IsListing : Phase → ℕ → ℕ → ℕ → Heap → Chain → Items → Type 0
+abbrev pub IsListing : Phase → ℕ → ℕ → ℕ → Heap → PairChain → Items → Type 0
 IsListing Begun n lo hi w c l = IsOpen lo hi w c l × IsOwed n c
 IsListing Going n lo hi w c l = IsOpen lo hi w c l × HasPairs c
 IsListing Dotted n lo hi w c l = IsOpen lo hi w c l × HasPairs c
-IsListing Shut n lo hi w c l = Stands lo hi w (first_of c) (listed_items l)
+IsListing Shut n lo hi w c l = Stands lo hi w (first_of_chain c) (listed_items l)
 
 -- each stands where the one around it ends
-abbrev pub Around : ℕ → ℕ → Heap → List (Frame Chain) → List (Frame Items) → Type 0
+abbrev pub Around : ℕ → ℕ → Heap → List (ReaderFrame PairChain) → List (ReaderFrame Items) → Type 0
 Around base hi w [] [] = base ≤ hi
 Around base hi w (Quoting ∷ fs) (Quoting ∷ gs) = (admits fs ≡ true) × Around base hi w fs gs
 Around base hi w (Vectoring c ∷ fs) (Vectoring l ∷ gs) = (lo : ℕ) × (lo ≤ hi) × (admits fs ≡ true) × IsOpen lo hi w c l × Around base lo w fs gs
 Around base hi w (Listing c m p ∷ fs) (Listing l n q ∷ gs) = (lo : ℕ) × (lo ≤ hi) × (admits fs ≡ true) × (m ≡ n) × (p ≡ q) × IsListing p m lo hi w c l × Around base lo w fs gs
 Around base hi w _ _ = ⊥
 
-listing_kept : (p : Phase) (n lo hi : ℕ) (old new : Heap) (c : Chain) (l : Items) → Keeps lo hi old new → IsListing p n lo hi old c l → IsListing p n lo hi new c l
+listing_kept : (p : Phase) (n lo hi : ℕ) (old new : Heap) (c : PairChain) (l : Items) → Keeps lo hi old new → IsListing p n lo hi old c l → IsListing p n lo hi new c l
 listing_kept Begun n lo hi old new c l k h = (open_kept lo hi old new c l k h.0, h.1)
 listing_kept Going n lo hi old new c l k h = (open_kept lo hi old new c l k h.0, h.1)
 listing_kept Dotted n lo hi old new c l k h = (open_kept lo hi old new c l k h.0, h.1)
-listing_kept Shut n lo hi old new c l k h = stands_kept lo hi old new k (first_of c) (listed_items l) h
+listing_kept Shut n lo hi old new c l k h = stands_kept lo hi old new k (first_of_chain c) (listed_items l) h
 
-pub around_kept : (base hi : ℕ) (old new : Heap) (fs : List (Frame Chain)) (gs : List (Frame Items)) → Keeps 0 hi old new → Around base hi old fs gs → Around base hi new fs gs
+pub around_kept : (base hi : ℕ) (old new : Heap) (fs : List (ReaderFrame PairChain)) (gs : List (ReaderFrame Items)) → Keeps 0 hi old new → Around base hi old fs gs → Around base hi new fs gs
 around_kept base hi old new [] [] k h = h
 around_kept base hi old new (Quoting ∷ fs) (Quoting ∷ gs) k h = (h.0, around_kept base hi old new fs gs k h.1)
 around_kept base hi old new (Vectoring c ∷ fs) (Vectoring l ∷ gs) k h =
@@ -48,20 +48,20 @@ around_kept base hi old new (Listing c m p ∷ fs) (Listing l n q ∷ gs) k h =
 around_kept base hi old new _ _ k h = absurd h
 
 -- nothing stands before the base
-around_above : (base hi : ℕ) (w : Heap) (fs : List (Frame Chain)) (gs : List (Frame Items)) → Around base hi w fs gs → base ≤ hi
+around_above : (base hi : ℕ) (w : Heap) (fs : List (ReaderFrame PairChain)) (gs : List (ReaderFrame Items)) → Around base hi w fs gs → base ≤ hi
 around_above base hi w [] [] h = h
 around_above base hi w (Quoting ∷ fs) (Quoting ∷ gs) h = around_above base hi w fs gs h.1
 around_above base hi w (Vectoring c ∷ fs) (Vectoring l ∷ gs) h = omega (arith, h.1, around_above base h.0 w fs gs h.4)
 around_above base hi w (Listing c m p ∷ fs) (Listing l n q ∷ gs) h = omega (arith, h.1, around_above base h.0 w fs gs h.6)
 around_above base hi w _ _ h = absurd h
 
-phase_admits : {K L : Type 0} (k : K) (l : L) (m n : ℕ) (p : Phase) (fs : List (Frame K)) (gs : List (Frame L)) → admits (Listing k m p ∷ fs) ≡ admits (Listing l n p ∷ gs)
+phase_admits : {K L : Type 0} (k : K) (l : L) (m n : ℕ) (p : Phase) (fs : List (ReaderFrame K)) (gs : List (ReaderFrame L)) → admits (Listing k m p ∷ fs) ≡ admits (Listing l n p ∷ gs)
 phase_admits k l m n Begun fs gs = refl
 phase_admits k l m n Going fs gs = refl
 phase_admits k l m n Dotted fs gs = refl
 phase_admits k l m n Shut fs gs = refl
 
-pub admits_same : (base hi : ℕ) (w : Heap) (fs : List (Frame Chain)) (gs : List (Frame Items)) → Around base hi w fs gs → admits fs ≡ admits gs
+pub admits_same : (base hi : ℕ) (w : Heap) (fs : List (ReaderFrame PairChain)) (gs : List (ReaderFrame Items)) → Around base hi w fs gs → admits fs ≡ admits gs
 admits_same base hi w [] [] h = refl
 admits_same base hi w (Quoting ∷ fs) (Quoting ∷ gs) h = refl
 admits_same base hi w (Vectoring c ∷ fs) (Vectoring l ∷ gs) h = refl
@@ -70,7 +70,7 @@ admits_same base hi w _ _ h = absurd h
 
 -- ---- sizes
 
-abbrev pub frame_sizes : List (Frame Items) → ℕ
+abbrev pub frame_sizes : List (ReaderFrame Items) → ℕ
 frame_sizes [] = 0
 frame_sizes (Quoting ∷ gs) = frame_sizes gs
 frame_sizes (Vectoring l ∷ gs) = size (listed_items l) + frame_sizes gs
@@ -91,7 +91,7 @@ size_elements (e ∷ es) = omega (arith, size_elements es)
 -- ---- where reading stands
 
 -- what has begun stands in the cells, which have room for all its pairs and vectors; what there was at first stays
-pub record Holds (first now : Heap) (fs : List (Frame Chain)) (gs : List (Frame Items)) : Type 0 where
+pub record Holds (first now : Heap) (fs : List (ReaderFrame PairChain)) (gs : List (ReaderFrame Items)) : Type 0 where
   pub heap : IsHeap now
   pub longer : length first.cells ≤ length now.cells
   pub stays : Stays first.cells first.head now.cells now.head
@@ -99,7 +99,7 @@ pub record Holds (first now : Heap) (fs : List (Frame Chain)) (gs : List (Frame 
   pub few : frame_sizes gs ≤ length now.cells
 
 -- a value has ended inside of it
-pub record IsPending (first now : Heap) (v : Tagged) (d : Datum) (fs : List (Frame Chain)) (gs : List (Frame Items)) : Type 0 where
+pub record IsPending (first now : Heap) (v : Tagged) (d : Datum) (fs : List (ReaderFrame PairChain)) (gs : List (ReaderFrame Items)) : Type 0 where
   pub heap : IsHeap now
   pub longer : length first.cells ≤ length now.cells
   pub stays : Stays first.cells first.head now.cells now.head
@@ -123,13 +123,13 @@ left_heap_at : (b : Bool) (k : Stock) → heap_of (if b then level_left k else k
 left_heap_at true k = refl
 left_heap_at false k = refl
 
-pub pending_left : (t : Bool) (first : Heap) (k : Stock) (v : Tagged) (d : Datum) (fs : List (Frame Chain)) (gs : List (Frame Items)) → IsPending first (heap_of k) v d fs gs → IsPending first (heap_of (left (in_stock t) fs k)) v d fs gs
+pub pending_left : (t : Bool) (first : Heap) (k : Stock) (v : Tagged) (d : Datum) (fs : List (ReaderFrame PairChain)) (gs : List (ReaderFrame Items)) → IsPending first (heap_of k) v d fs gs → IsPending first (heap_of (left (in_stock t) fs k)) v d fs gs
 pending_left t first k v d fs gs p = subst (λ (w : Heap). IsPending first w v d fs gs) (sym (left_heap_at (is_inner fs) k)) p
 
 -- ---- what is made where reading stands
 
 -- a value of no more pairs and vectors than there are new cells
-pending_made : (first old new : Heap) (fs : List (Frame Chain)) (gs : List (Frame Items)) (lo more : ℕ) (v : Tagged) (d : Datum) → length first.cells ≤ length old.cells → Stays first.cells first.head old.cells old.head → lo ≤ length old.cells → Around (length first.cells) lo old fs gs → admits fs ≡ true
+pending_made : (first old new : Heap) (fs : List (ReaderFrame PairChain)) (gs : List (ReaderFrame Items)) (lo more : ℕ) (v : Tagged) (d : Datum) → length first.cells ≤ length old.cells → Stays first.cells first.head old.cells old.head → lo ≤ length old.cells → Around (length first.cells) lo old fs gs → admits fs ≡ true
     → size d + frame_sizes gs ≤ length old.cells + more → IsValue lo old more d v new → IsPending first new v d fs gs
 pending_made first old new fs gs lo more v d longer stays l around admitted few e =
     let above = around_above (length first.cells) lo old fs gs around in
@@ -146,11 +146,11 @@ pending_made first old new fs gs lo more v d longer stays l around admitted few 
     }
 
 -- an atom
-pub atom_pending : (first old new : Heap) (fs : List (Frame Chain)) (gs : List (Frame Items)) (v : Tagged) (d : Datum) → Holds first old fs gs → admits fs ≡ true → size d ≡ 0 → IsValue (length old.cells) old 0 d v new → IsPending first new v d fs gs
+pub atom_pending : (first old new : Heap) (fs : List (ReaderFrame PairChain)) (gs : List (ReaderFrame Items)) (v : Tagged) (d : Datum) → Holds first old fs gs → admits fs ≡ true → size d ≡ 0 → IsValue (length old.cells) old 0 d v new → IsPending first new v d fs gs
 atom_pending first old new fs gs v d h admitted none e = pending_made first old new fs gs (length old.cells) 0 v d h.longer h.stays (omega arith) h.around admitted (omega (arith, h.few)) e
 
 -- a quote
-pub quote_pending : (first old new : Heap) (fs : List (Frame Chain)) (gs : List (Frame Items)) (v q : Tagged) (d : Datum) (p : IsPending first old v d (Quoting ∷ fs) (Quoting ∷ gs)) → IsValue p.from old 2 (quoted d) q new → IsPending first new q (quoted d) fs gs
+pub quote_pending : (first old new : Heap) (fs : List (ReaderFrame PairChain)) (gs : List (ReaderFrame Items)) (v q : Tagged) (d : Datum) (p : IsPending first old v d (Quoting ∷ fs) (Quoting ∷ gs)) → IsValue p.from old 2 (quoted d) q new → IsPending first new q (quoted d) fs gs
 quote_pending first old new fs gs v q d p e = pending_made first old new fs gs p.from 2 q (quoted d) p.longer p.stays p.within p.around.1 p.around.0 (omega (arith, p.few)) e
 
 -- a value alone
@@ -164,23 +164,23 @@ whole_result first now v d p = record {
 }
 
 -- the items of a list that is not whole have no tail
-pub open_size : (lo hi : ℕ) (w : Heap) (c : Chain) (l : Items) → IsOpen lo hi w c l → size (listed_items l) ≡ size (listed l.elements nil)
+pub open_size : (lo hi : ℕ) (w : Heap) (c : PairChain) (l : Items) → IsOpen lo hi w c l → size (listed_items l) ≡ size (listed l.elements nil)
 open_size lo hi w None l h = ap (λ (t : Datum). size (listed l.elements t)) h.1
 open_size lo hi w (Some c) l h = ap (λ (t : Datum). size (listed l.elements t)) h.1
 
 -- what is around a list, a vector or a quote
-pub record IsOutside (first now : Heap) (lo : ℕ) (fs : List (Frame Chain)) (gs : List (Frame Items)) : Type 0 where
+pub record IsOutside (first now : Heap) (lo : ℕ) (fs : List (ReaderFrame PairChain)) (gs : List (ReaderFrame Items)) : Type 0 where
   pub heap : IsHeap now
   pub longer : length first.cells ≤ length now.cells
   pub stays : Stays first.cells first.head now.cells now.head
   pub around : Around (length first.cells) lo now fs gs
   pub admitted : admits fs ≡ true
 
-outside_stays : (first old new : Heap) (lo : ℕ) (fs : List (Frame Chain)) (gs : List (Frame Items)) → IsOutside first old lo fs gs → Keeps 0 lo old new → Stays first.cells first.head new.cells new.head
+outside_stays : (first old new : Heap) (lo : ℕ) (fs : List (ReaderFrame PairChain)) (gs : List (ReaderFrame Items)) → IsOutside first old lo fs gs → Keeps 0 lo old new → Stays first.cells first.head new.cells new.head
 outside_stays first old new lo fs gs o k = stays_on first old new lo o.longer (around_above (length first.cells) lo old fs gs o.around) o.stays k
 
 -- a list goes on with one more element
-pub going_holds : (first old new : Heap) (lo m n : ℕ) (fs : List (Frame Chain)) (gs : List (Frame Items)) (c : Chain) (l : Items) → IsOutside first old lo fs gs → lo ≤ length old.cells → m ≡ n → size (listed_items l) + frame_sizes gs ≤ length old.cells + 1 → IsLonger lo old l c new
+pub going_holds : (first old new : Heap) (lo m n : ℕ) (fs : List (ReaderFrame PairChain)) (gs : List (ReaderFrame Items)) (c : PairChain) (l : Items) → IsOutside first old lo fs gs → lo ≤ length old.cells → m ≡ n → size (listed_items l) + frame_sizes gs ≤ length old.cells + 1 → IsLonger lo old l c new
     → Holds first new (Listing c m Going ∷ fs) (Listing l n Going ∷ gs)
 going_holds first old new lo m n fs gs c l o within e few i = record {
   heap = i.heap;
@@ -190,7 +190,7 @@ going_holds first old new lo m n fs gs c l o within e few i = record {
   few = omega (arith, i.room);
 }
 
-pub vector_holds : (first old new : Heap) (lo : ℕ) (fs : List (Frame Chain)) (gs : List (Frame Items)) (c : Chain) (l : Items) → IsOutside first old lo fs gs → lo ≤ length old.cells → size (listed_items l) + frame_sizes gs ≤ length old.cells + 1 → IsLonger lo old l c new
+pub vector_holds : (first old new : Heap) (lo : ℕ) (fs : List (ReaderFrame PairChain)) (gs : List (ReaderFrame Items)) (c : PairChain) (l : Items) → IsOutside first old lo fs gs → lo ≤ length old.cells → size (listed_items l) + frame_sizes gs ≤ length old.cells + 1 → IsLonger lo old l c new
     → Holds first new (Vectoring c ∷ fs) (Vectoring l ∷ gs)
 vector_holds first old new lo fs gs c l o within few i = record {
   heap = i.heap;
@@ -201,7 +201,7 @@ vector_holds first old new lo fs gs c l o within few i = record {
 }
 
 -- and ends with what stands behind its dot
-pub shut_holds : (first old new : Heap) (lo m n : ℕ) (fs : List (Frame Chain)) (gs : List (Frame Items)) (c : Chain) (d : Datum) → IsOutside first old lo fs gs → lo ≤ length old.cells → m ≡ n → size d + frame_sizes gs ≤ length old.cells → IsValue lo old 0 d (first_of c) new
+pub shut_holds : (first old new : Heap) (lo m n : ℕ) (fs : List (ReaderFrame PairChain)) (gs : List (ReaderFrame Items)) (c : PairChain) (d : Datum) → IsOutside first old lo fs gs → lo ≤ length old.cells → m ≡ n → size d + frame_sizes gs ≤ length old.cells → IsValue lo old 0 d (first_of_chain c) new
     → Holds first new (Listing c m Shut ∷ fs) (Listing (record { elements = []; tail = d }) n Shut ∷ gs)
 shut_holds first old new lo m n fs gs c d o within e few i = record {
   heap = i.heap;
@@ -212,8 +212,8 @@ shut_holds first old new lo m n fs gs c d o within e few i = record {
 }
 
 -- a list that has ended is a value
-pub list_pending : (first now : Heap) (lo n : ℕ) (p : Phase) (fs : List (Frame Chain)) (gs : List (Frame Items)) (c : Chain) (l : Items) → IsOutside first now lo fs gs → lo ≤ length now.cells → size (listed_items l) + frame_sizes gs ≤ length now.cells → IsListing p n lo (length now.cells) now c l
-    → IsPending first now (first_of c) (listed_items l) fs gs
+pub list_pending : (first now : Heap) (lo n : ℕ) (p : Phase) (fs : List (ReaderFrame PairChain)) (gs : List (ReaderFrame Items)) (c : PairChain) (l : Items) → IsOutside first now lo fs gs → lo ≤ length now.cells → size (listed_items l) + frame_sizes gs ≤ length now.cells → IsListing p n lo (length now.cells) now c l
+    → IsPending first now (first_of_chain c) (listed_items l) fs gs
 list_pending first now lo n p fs gs c l o within few h = record {
   heap = o.heap;
   longer = o.longer;
@@ -226,14 +226,14 @@ list_pending first now lo n p fs gs c l o within few h = record {
   few = few;
 }
   where
-    stands : (p : Phase) → IsListing p n lo (length now.cells) now c l → Stands lo (length now.cells) now (first_of c) (listed_items l)
+    stands : (p : Phase) → IsListing p n lo (length now.cells) now c l → Stands lo (length now.cells) now (first_of_chain c) (listed_items l)
     stands Begun h = open_list lo (length now.cells) now c l o.heap h.0
     stands Going h = open_list lo (length now.cells) now c l o.heap h.0
     stands Dotted h = open_list lo (length now.cells) now c l o.heap h.0
     stands Shut h = h
 
 -- and so is a vector
-pub vector_pending : (first old new : Heap) (lo : ℕ) (fs : List (Frame Chain)) (gs : List (Frame Items)) (c : Chain) (l : Items) (v : Tagged) → IsOutside first old lo fs gs → lo ≤ length old.cells → size (listed_items l) + frame_sizes gs ≤ length old.cells → IsOpen lo (length old.cells) old c l → IsValue lo old 1 (Vector (elements l.elements)) v new
+pub vector_pending : (first old new : Heap) (lo : ℕ) (fs : List (ReaderFrame PairChain)) (gs : List (ReaderFrame Items)) (c : PairChain) (l : Items) (v : Tagged) → IsOutside first old lo fs gs → lo ≤ length old.cells → size (listed_items l) + frame_sizes gs ≤ length old.cells → IsOpen lo (length old.cells) old c l → IsValue lo old 1 (Vector (elements l.elements)) v new
     → IsPending first new v (Vector (elements l.elements)) fs gs
 vector_pending first old new lo fs gs c l v o within few h e =
     pending_made first old new fs gs lo 1 v (Vector (elements l.elements)) o.longer o.stays within o.around o.admitted (omega (arith, open_size lo (length old.cells) old c l h, size_elements l.elements)) e

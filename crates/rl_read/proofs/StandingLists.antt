@@ -9,7 +9,7 @@ use Rattle.rl_text.specs.Datum.{Datum, Elements, Vector, elements, listed, nil}
 use Rattle.rl_text.specs.Maker.{Wants}
 use Rattle.rl_text.specs.Reading.{Items}
 use Rattle.rl_world.specs.declared.stop.Stop.TheVariants as stop
-use Rattle.rl_read.specs.Stock.{Stock, Chain, elements_of, ended, extended, first_of, hung, object_made, pair_made, vector_made}
+use Rattle.rl_read.specs.Stock.{Stock, PairChain, elements_of, chain_ended, chain_extended, first_of_chain, chain_hung, object_made, pair_made, vector_made}
 use Rattle.rl_read.proofs.Standing.{Heap, IsHeap, Stands, AreStanding, Keeps, keeps_trans, stands_kept, are_kept, stands_wider, are_wider}
 use Rattle.rl_read.proofs.StandingChains.{IsOpen, Leads, HasPairs, leads_kept, leads_list, leads_on, open_elements, set_heap, set_here, set_keeps, with_cdr_at}
 use Rattle.rl_read.proofs.StandingMade.{AreLaws, Grows, IsValue, Makes, added, added_grows, added_longer, heap_of, object_makes, then_makes}
@@ -17,7 +17,7 @@ use Rattle.rl_read.proofs.StandingMade.{AreLaws, Grows, IsValue, Makes, added, a
 -- ---- lists
 
 -- one more element is in the list
-pub record IsLonger (lo : ℕ) (old : Heap) (l : Items) (c : Chain) (new : Heap) : Type 0 where
+pub record IsLonger (lo : ℕ) (old : Heap) (l : Items) (c : PairChain) (new : Heap) : Type 0 where
   pub heap : IsHeap new
   pub keeps : Keeps 0 lo old new
   pub opened : IsOpen lo (length new.cells) new c l
@@ -63,8 +63,8 @@ hung_chain laws lo hi n old w first x v es e l d q a b c i all g cell last long 
       room = omega arith;
     }
 
-hung_makes : AreLaws → (lo hi : ℕ) (old : Heap) (k : Stock) (c : Chain) (l : Items) (v p : Tagged) (d : Datum) → lo ≤ hi → hi ≤ length old.cells → IsOpen lo hi old c l → Stands hi (length old.cells) old v d → IsLast old v p (heap_of k)
-    → Makes (IsLonger lo old (record { elements = l.elements ++ d ∷ []; tail = nil })) (hung c p k)
+hung_makes : AreLaws → (lo hi : ℕ) (old : Heap) (k : Stock) (c : PairChain) (l : Items) (v p : Tagged) (d : Datum) → lo ≤ hi → hi ≤ length old.cells → IsOpen lo hi old c l → Stands hi (length old.cells) old v d → IsLast old v p (heap_of k)
+    → Makes (IsLonger lo old (record { elements = l.elements ++ d ∷ []; tail = nil })) (chain_hung c p k)
 hung_makes laws lo hi old k None l v p d a b o s e =
     let w = heap_of k in
     let n = length old.cells in
@@ -100,8 +100,8 @@ hung_makes laws lo hi old k (Some c) l v p d a b o s e =
     rw (h.is, e.is) (hung_chain laws lo hi n old w c.0 h.car v h.front h.element l d q h.above h.below b refl h.all e.grows cell e.cell e.long
     (leads_kept lo q old w (e.grows.keeps lo q) c.0 h.front h.leads) (stands_kept lo q old w (e.grows.keeps lo q) h.car h.element h.stands) (stands_kept hi n old w (e.grows.keeps hi n) v d s))
 
-pub extended_makes : AreLaws → (lo hi : ℕ) (k : Stock) (c : Chain) (l : Items) (v : Tagged) (d : Datum) → IsHeap (heap_of k) → lo ≤ hi → hi ≤ length k.cells.cells → IsOpen lo hi (heap_of k) c l → Stands hi (length k.cells.cells) (heap_of k) v d
-    → Makes (IsLonger lo (heap_of k) (record { elements = l.elements ++ d ∷ []; tail = nil })) (extended c v k)
+pub extended_makes : AreLaws → (lo hi : ℕ) (k : Stock) (c : PairChain) (l : Items) (v : Tagged) (d : Datum) → IsHeap (heap_of k) → lo ≤ hi → hi ≤ length k.cells.cells → IsOpen lo hi (heap_of k) c l → Stands hi (length k.cells.cells) (heap_of k) v d
+    → Makes (IsLonger lo (heap_of k) (record { elements = l.elements ++ d ∷ []; tail = nil })) (chain_extended c v k)
 extended_makes laws lo hi k c l v d h a b o s =
     let w = heap_of k in
     let made = added w (PairCell v nil_value) in
@@ -127,8 +127,8 @@ ended_chain laws lo hi w first x v es e d q a b c h cell leads s t =
       room = omega arith;
     }
 
-pub ended_makes : AreLaws → (lo hi : ℕ) (k : Stock) (c : Chain) (l : Items) (v : Tagged) (d : Datum) → IsHeap (heap_of k) → lo ≤ hi → hi ≤ length k.cells.cells → IsOpen lo hi (heap_of k) c l → HasPairs c → Stands hi (length k.cells.cells) (heap_of k) v d
-    → Makes (λ c w. IsValue lo (heap_of k) 0 (listed l.elements d) (first_of c) w) (ended c v k)
+pub ended_makes : AreLaws → (lo hi : ℕ) (k : Stock) (c : PairChain) (l : Items) (v : Tagged) (d : Datum) → IsHeap (heap_of k) → lo ≤ hi → hi ≤ length k.cells.cells → IsOpen lo hi (heap_of k) c l → HasPairs c → Stands hi (length k.cells.cells) (heap_of k) v d
+    → Makes (λ c w. IsValue lo (heap_of k) 0 (listed l.elements d) (first_of_chain c) w) (chain_ended c v k)
 ended_makes laws lo hi k None l v d h a b o some s = absurd some
 ended_makes laws lo hi k (Some c) l v d h a b o some s =
     let e = o.0 in
@@ -156,5 +156,5 @@ vector_makes_with laws lo hi k xs es h l true e are =
     few : (m n : ℕ) → nat_le m n ≡ true → m ≤ n
     few m n t = grind (arith, nat_tests)
 
-pub vector_makes : AreLaws → (lo hi : ℕ) (k : Stock) (c : Chain) (l : Items) → IsHeap (heap_of k) → hi ≤ length k.cells.cells → IsOpen lo hi (heap_of k) c l → Makes (IsValue lo (heap_of k) 1 (Vector (elements l.elements))) (vector_made c k)
+pub vector_makes : AreLaws → (lo hi : ℕ) (k : Stock) (c : PairChain) (l : Items) → IsHeap (heap_of k) → hi ≤ length k.cells.cells → IsOpen lo hi (heap_of k) c l → Makes (IsValue lo (heap_of k) 1 (Vector (elements l.elements))) (vector_made c k)
 vector_makes laws lo hi k c l h b o = vector_makes_with laws lo hi k (elements_of k.cells.cells c) (elements l.elements) h b (nat_le (length (elements_of k.cells.cells c)) (2 ^ 31)) refl (λ few. open_elements lo hi (2 ^ 31 + 1) (heap_of k) c l o (omega arith))

@@ -8,14 +8,14 @@ use Rattle.rl_cells.specs.Laws.{IsAdded, IsChanged}
 use Rattle.rl_syms.specs.Frame.{block_in}
 use Rattle.rl_syms.specs.Laws.{AreIdentifiers, IsKept, LeaveBlocks, NamesEnter}
 use Rattle.rl_syms.specs.Made.{id_cost, new_id, with_id}
-use Rattle.rl_syms.specs.Table.{Among, IsFree, IsNamed, ids_from, name_at, nil_value}
+use Rattle.rl_syms.specs.Table.{Among, IsFree, IsNamed, ids_from, name_in_cells, nil_value}
 use Rattle.rl_tree.specs.Name.{Name, quote_name}
 use Rattle.rl_text.specs.Datum.{Datum, Pair, Id, nil, quoted}
 use Rattle.rl_text.specs.Maker.{Made, Has, Wants}
 use Rattle.rl_text.specs.Word.{Atom, Integer, Identifier, String, datum_of_atom}
 use Rattle.rl_world.specs.Counts.{room_stop, roomed}
 use Rattle.rl_world.specs.declared.stop.Stop.{Stop}
-use Rattle.rl_read.specs.Stock.{Stock, and_then, atom_made, identifier_at, identifier_made, named_among, object_made, pair_made, quote_made, with_room, with_room_at}
+use Rattle.rl_read.specs.Stock.{Stock, and_then_made, atom_made, identifier_at, identifier_made, named_among, object_made, pair_made, quote_made, with_room, with_room_at}
 use Rattle.rl_read.proofs.MadeNames.{longer_with_id}
 use Rattle.rl_read.proofs.Standing.{Heap, IsHeap, Stands, Keeps, keeps_refl, keeps_trans, stands_kept, stands_wider, size}
 
@@ -36,7 +36,7 @@ abbrev pub Makes : {A : Type 0} → (A → Heap → Type 0) → Made Stock A Sto
 Makes P (Has a k) = P a (heap_of k)
 Makes P (Wants s k) = Unit {0}
 
-pub then_makes : {A B : Type 0} (P : A → Heap → Type 0) (Q : B → Heap → Type 0) (x : Made Stock A Stop) (f : A → Stock → Made Stock B Stop) → Makes P x → ((a : A) (k : Stock) → P a (heap_of k) → Makes Q (f a k)) → Makes Q (and_then x f)
+pub then_makes : {A B : Type 0} (P : A → Heap → Type 0) (Q : B → Heap → Type 0) (x : Made Stock A Stop) (f : A → Stock → Made Stock B Stop) → Makes P x → ((a : A) (k : Stock) → P a (heap_of k) → Makes Q (f a k)) → Makes Q (and_then_made x f)
 then_makes P Q (Has a k) f h g = g a k h
 then_makes P Q (Wants s k) f h g = tt
 
@@ -120,25 +120,25 @@ pub record IsEntered (old : Heap) (name : Name) (v : Tagged) (new : Heap) : Type
   pub grows : Grows old new
   pub named : IsNamed new.cells new.head name v
 
-by_test : (cells : List Cell) (name : Name) (j i : ℕ) (is : List ℕ) (b : Bool) → bytes_eq name (name_at cells j) ≡ b → (if b then Some j else named_among cells name is) ≡ Some i → (named_among cells name is ≡ Some i → Among i is × (name_at cells i ≡ name)) → Among i (j ∷ is) × (name_at cells i ≡ name)
+by_test : (cells : List Cell) (name : Name) (j i : ℕ) (is : List ℕ) (b : Bool) → bytes_eq name (name_in_cells cells j) ≡ b → (if b then Some j else named_among cells name is) ≡ Some i → (named_among cells name is ≡ Some i → Among i is × (name_in_cells cells i ≡ name)) → Among i (j ∷ is) × (name_in_cells cells i ≡ name)
 by_test cells name j i is true e h rest =
     let same : j ≡ i = cc in
-    (inl (sym same), ap (name_at cells) (sym same) ∙ sym ((bytes_eq-Decides name (name_at cells j)).0 e))
+    (inl (sym same), ap (name_in_cells cells) (sym same) ∙ sym ((bytes_eq-Decides name (name_in_cells cells j)).0 e))
 by_test cells name j i is false e h rest = let found = rest h in (inr found.0, found.1)
 
-named_found : (cells : List Cell) (name : Name) (is : List ℕ) (i : ℕ) → named_among cells name is ≡ Some i → Among i is × (name_at cells i ≡ name)
+named_found : (cells : List Cell) (name : Name) (is : List ℕ) (i : ℕ) → named_among cells name is ≡ Some i → Among i is × (name_in_cells cells i ≡ name)
 named_found cells name [] i e = absurd cc
-named_found cells name (j ∷ is) i e = by_test cells name j i is (bytes_eq name (name_at cells j)) refl e (λ f. named_found cells name is i f)
+named_found cells name (j ∷ is) i e = by_test cells name j i is (bytes_eq name (name_in_cells cells j)) refl e (λ f. named_found cells name is i f)
 
-past_test : (cells : List Cell) (name : Name) (j : ℕ) (is : List ℕ) (k : ℕ) (b : Bool) → bytes_eq name (name_at cells j) ≡ b → (if b then Some j else named_among cells name is) ≡ None → Among k (j ∷ is) → name_at cells k ≡ name → (named_among cells name is ≡ None → Among k is → ⊥) → ⊥
+past_test : (cells : List Cell) (name : Name) (j : ℕ) (is : List ℕ) (k : ℕ) (b : Bool) → bytes_eq name (name_in_cells cells j) ≡ b → (if b then Some j else named_among cells name is) ≡ None → Among k (j ∷ is) → name_in_cells cells k ≡ name → (named_among cells name is ≡ None → Among k is → ⊥) → ⊥
 past_test cells name j is k true e h a n rest = cc
 past_test cells name j is k false e h (inr a) n rest = rest h a
 past_test cells name j is k false e h (inl i) n rest =
-    let t : bytes_eq name (name_at cells j) ≡ true = (bytes_eq-Decides name (name_at cells j)).1 (sym n ∙ ap (name_at cells) i) in cc
+    let t : bytes_eq name (name_in_cells cells j) ≡ true = (bytes_eq-Decides name (name_in_cells cells j)).1 (sym n ∙ ap (name_in_cells cells) i) in cc
 
-named_free : (cells : List Cell) (name : Name) (is : List ℕ) → named_among cells name is ≡ None → (k : ℕ) → Among k is → name_at cells k ≢ name
+named_free : (cells : List Cell) (name : Name) (is : List ℕ) → named_among cells name is ≡ None → (k : ℕ) → Among k is → name_in_cells cells k ≢ name
 named_free cells name [] e k a n = a
-named_free cells name (j ∷ is) e k a n = past_test cells name j is k (bytes_eq name (name_at cells j)) refl e a n (λ f b. named_free cells name is f k b n)
+named_free cells name (j ∷ is) e k a n = past_test cells name j is k (bytes_eq name (name_in_cells cells j)) refl e a n (λ f b. named_free cells name is f k b n)
 
 -- with a new identifier
 abbrev named : Stock → Name → Stock
@@ -213,7 +213,7 @@ atom_makes laws lo k (String bytes) h is =
 
 -- the pair of what is quoted is made, and then the pair with QUOTE
 quoting : AreLaws → (lo : ℕ) (old : Heap) (k : Stock) (q v : Tagged) (d : Datum) → lo ≤ length old.cells → length old.cells ≤ length k.cells.cells → Grows old (heap_of k) → Stands lo (length k.cells.cells) (heap_of k) v d → IsNamed k.cells.cells k.head quote_name q
-    → Makes (IsValue lo old 2 (quoted d)) (and_then (pair_made v nil_value k) (λ p k. pair_made q p k))
+    → Makes (IsValue lo old 2 (quoted d)) (and_then_made (pair_made v nil_value k) (λ p k. pair_made q p k))
 quoting laws lo old k q v d l m g s named =
     then_makes (λ p w. Grows (heap_of k) w × IsValue lo (heap_of k) 1 (Pair d nil) p w) (IsValue lo old 2 (quoted d)) (pair_made v nil_value k) _ (pair_makes laws lo k v nil_value d nil g.heap (omega arith) s g.heap.nil)
     (λ p j h.

@@ -3,13 +3,13 @@ use Rattle.std.proofs.Common.{◌≡◌, ◌≢◌, ℕ, ◌-◌, Bool, List, []
 use Rattle.std.specs.Prelude.{Result, Ok, Err, IfOk, IfErr}
 use Rattle.rl_tags.specs.Tagged.{Tagged}
 use Rattle.rl_text.specs.Maker.{Has, Wants}
-use Rattle.rl_text.specs.Reader.{Frame, Listing, Vectoring, Quoting, Going, Shut, left, ended_with}
+use Rattle.rl_text.specs.Reader.{ReaderFrame, Listing, Vectoring, Quoting, Going, Shut, left, ended_with}
 use Rattle.rl_text.specs.Reader as reader
 use Rattle.rl_text.specs.Word as word
 use Rattle.rl_world.specs.declared.world.World.{World}
 use Rattle.rl_world.specs.declared.stop.Stop.{Stop}
-use Rattle.rl_read.specs.Stock.{Stock, Chain, in_stock, stock_of, quote_made, extended, atom_made}
-use Rattle.rl_read.specs.Frames.{IsChain, IsGroup, IsMaking, IsReading, IsReady, chain_of, phase_of, frames_in, frames_around, frames_kept, is_quote_group, owes}
+use Rattle.rl_read.specs.Stock.{Stock, PairChain, in_stock, stock_of, quote_made, chain_extended, atom_made}
+use Rattle.rl_read.specs.Frames.{IsChain, IsGroup, IsMaking, IsReading, IsReadyToRead, chain_of, phase_of, frames_in, frames_around, frames_kept, is_quote_group, owes}
 use Rattle.rl_text.specs.Byte as byte
 use Rattle.rl_read.specs.Steps.{IsHalting, IsLacking, ended_of, may_end, step_of}
 use Rattle.rl_read.specs.declared.word.Mode.{Mode}
@@ -33,13 +33,13 @@ err_mapped (Ok a) P Q f h = tt
 err_mapped (Err e) P Q f h = f e h
 
 -- what is said of one end is said of an equal one
-pub ends_same : (base : ℕ) (w : World) (r : Result (Rattle.rl_read.specs.declared.step.Ended.TheVariants.the_data) Stop) (one other : Bool → reader.Ended Stock Tagged Chain Stop) → ((t : Bool) → other t ≡ one t) → IfOk r (λ e. (t : Bool) → one t ≡ ended_of base w e) → IfOk r (λ e. (t : Bool) → other t ≡ ended_of base w e)
+pub ends_same : (base : ℕ) (w : World) (r : Result (Rattle.rl_read.specs.declared.step.Ended.TheVariants.the_data) Stop) (one other : Bool → reader.Ended Stock Tagged PairChain Stop) → ((t : Bool) → other t ≡ one t) → IfOk r (λ e. (t : Bool) → one t ≡ ended_of base w e) → IfOk r (λ e. (t : Bool) → other t ≡ ended_of base w e)
 ends_same base w r one other same h = ok_mapped r (λ e. (t : Bool) → one t ≡ ended_of base w e) (λ e. (t : Bool) → other t ≡ ended_of base w e) (λ e is t. same t ∙ is t) h
 
-pub lacking_same : (one other : Bool → reader.Ended Stock Tagged Chain Stop) (s : Stop) → ((t : Bool) → other t ≡ one t) → IsLacking one s → IsLacking other s
+pub lacking_same : (one other : Bool → reader.Ended Stock Tagged PairChain Stop) (s : Stop) → ((t : Bool) → other t ≡ one t) → IsLacking one s → IsLacking other s
 lacking_same one other s same h = (h.0, λ t. same t ∙ h.1 t)
 
-pub lacks_same : {A : Type 0} (r : Result A Stop) (one other : Bool → reader.Ended Stock Tagged Chain Stop) → ((t : Bool) → other t ≡ one t) → IfErr r (λ s. IsLacking one s) → IfErr r (λ s. IsLacking other s)
+pub lacks_same : {A : Type 0} (r : Result A Stop) (one other : Bool → reader.Ended Stock Tagged PairChain Stop) → ((t : Bool) → other t ≡ one t) → IfErr r (λ s. IsLacking one s) → IfErr r (λ s. IsLacking other s)
 lacks_same r one other same h = err_mapped r (λ s. IsLacking one s) (λ s. IsLacking other s) (λ s is. lacking_same one other s same is) h
 
 -- ---- what is around stays as objects are made
@@ -55,14 +55,14 @@ around_same base old new g m = ap (λ fs. Rattle.rl_read.specs.Frames.behind_it 
 
 -- ---- an element of a list
 
-pub list_ended : (p : Phase) → (p ≡ phase.Dotted → ⊥) → (t : Bool) (v : Tagged) (c l : Chain) (n : ℕ) (fs : List (Frame Chain)) (k made : Stock) → extended c v k ≡ Has l made
+pub list_ended : (p : Phase) → (p ≡ phase.Dotted → ⊥) → (t : Bool) (v : Tagged) (c l : PairChain) (n : ℕ) (fs : List (ReaderFrame PairChain)) (k made : Stock) → chain_extended c v k ≡ Has l made
     → reader.value_ended (in_stock t) v (Listing c n (phase_of p) ∷ fs) k ≡ reader.Inside (Listing l n Going ∷ fs) made
 list_ended phase.Begun not t v c l n fs k made e = ap (λ m. ended_with m (λ l s. reader.Inside (Listing l n Going ∷ fs) s)) e
 list_ended phase.Going not t v c l n fs k made e = ap (λ m. ended_with m (λ l s. reader.Inside (Listing l n Going ∷ fs) s)) e
 list_ended phase.Dotted not t v c l n fs k made e = absurd (not refl)
 list_ended phase.Shut not t v c l n fs k made e = ap (λ m. ended_with m (λ l s. reader.Inside (Listing l n Going ∷ fs) s)) e
 
-pub list_lacks : (p : Phase) → (p ≡ phase.Dotted → ⊥) → (t : Bool) (v : Tagged) (c : Chain) (n : ℕ) (fs : List (Frame Chain)) (s : Stop) (k made : Stock) → extended c v k ≡ Wants s made
+pub list_lacks : (p : Phase) → (p ≡ phase.Dotted → ⊥) → (t : Bool) (v : Tagged) (c : PairChain) (n : ℕ) (fs : List (ReaderFrame PairChain)) (s : Stop) (k made : Stock) → chain_extended c v k ≡ Wants s made
     → reader.value_ended (in_stock t) v (Listing c n (phase_of p) ∷ fs) k ≡ reader.Lacks s made
 list_lacks phase.Begun not t v c n fs s k made e = ap (λ m. ended_with m (λ l s. reader.Inside (Listing l n Going ∷ fs) s)) e
 list_lacks phase.Going not t v c n fs s k made e = ap (λ m. ended_with m (λ l s. reader.Inside (Listing l n Going ∷ fs) s)) e
@@ -100,7 +100,7 @@ pub quote_is_inside : (g : Group) → is_quote_group g ≡ true → g ≢ group.
 quote_is_inside g is e = let same : is_quote_group group.Root ≡ true = subst (λ (g : Group). is_quote_group g ≡ true) e is in cc
 
 -- where nothing of these has begun, nothing has
-pub root_frames : (base : ℕ) (w : World) (g : Group) → IsReady base w g → is_quote_group g ≡ false → ((c : Rattle.rl_read.specs.declared.frames.Chain.TheVariants.the_data) → g ≡ group.Vector c → ⊥) → ((c : Rattle.rl_read.specs.declared.frames.Chain.TheVariants.the_data) (n : ℕ) (p : Phase) → g ≡ group.List c n p → ⊥) → ((v c : Rattle.rl_read.specs.declared.frames.Chain.TheVariants.the_data) (n : ℕ) → g ≡ group.VectorBehind v c n → ⊥) → g ≡ group.Root
+pub root_frames : (base : ℕ) (w : World) (g : Group) → IsReadyToRead base w g → is_quote_group g ≡ false → ((c : Rattle.rl_read.specs.declared.frames.Chain.TheVariants.the_data) → g ≡ group.Vector c → ⊥) → ((c : Rattle.rl_read.specs.declared.frames.Chain.TheVariants.the_data) (n : ℕ) (p : Phase) → g ≡ group.List c n p → ⊥) → ((v c : Rattle.rl_read.specs.declared.frames.Chain.TheVariants.the_data) (n : ℕ) → g ≡ group.VectorBehind v c n → ⊥) → g ≡ group.Root
 root_frames base w group.Root r is v l b = refl
 root_frames base w group.Quote r is v l b = cc
 root_frames base w (group.Vector c) r is v l b = absurd (v c refl)
@@ -108,14 +108,14 @@ root_frames base w (group.List c n p) r is v l b = absurd (l c n p refl)
 root_frames base w (group.QuoteBehind c n) r is v l b = cc
 root_frames base w (group.VectorBehind v c n) r is w' l b = absurd (b v c n refl)
 
-pub root_ended : (t : Bool) (base : ℕ) (w : World) (v : Tagged) (g : Group) → IsReady base w g → g ≡ group.Root → reader.value_ended (in_stock t) v (frames_in base w g) (stock_of w) ≡ reader.Whole v (stock_of w)
+pub root_ended : (t : Bool) (base : ℕ) (w : World) (v : Tagged) (g : Group) → IsReadyToRead base w g → g ≡ group.Root → reader.value_ended (in_stock t) v (frames_in base w g) (stock_of w) ≡ reader.Whole v (stock_of w)
 root_ended t base w v g r root =
     let nothing : length w.levels.walk - base ≡ 0 = omega (arith, r.root root) in
     let none : kept_above base w.levels ≡ [] = ap (λ n. take n w.levels.walk) nothing in
     ap (λ (g : Group). reader.value_ended (in_stock t) v (frames_in base w g) (stock_of w)) root
     ∙ ap (λ ts. reader.value_ended (in_stock t) v (frames_kept ts) (stock_of w)) none
 
-pub group_in_place : (base : ℕ) (w : World) (g h : Group) → IsReady base w g → g ≡ h → IsGroup w.cells.cells h
+pub group_in_place : (base : ℕ) (w : World) (g h : Group) → IsReadyToRead base w g → g ≡ h → IsGroup w.cells.cells h
 group_in_place base w g h r e = subst (λ (g : Group). IsGroup w.cells.cells g) e r.group_is
 
 -- ---- an atom
@@ -129,18 +129,18 @@ atom_goes t base old made a v g e m =
 -- ---- steps
 
 -- what is said of one step is said of an equal one
-pub steps_same : (base : ℕ) (w : World) (bytes : List ℕ) (r : Result (Rattle.rl_read.specs.declared.step.Step.TheVariants.the_data) Stop) (one other : Bool → reader.Step Stock Tagged Chain Stop) → ((t : Bool) → other t ≡ one t) → IfOk r (λ x. (t : Bool) → one t ≡ step_of base w bytes x) → IfOk r (λ x. (t : Bool) → other t ≡ step_of base w bytes x)
+pub steps_same : (base : ℕ) (w : World) (bytes : List ℕ) (r : Result (Rattle.rl_read.specs.declared.step.Step.TheVariants.the_data) Stop) (one other : Bool → reader.ReaderStep Stock Tagged PairChain Stop) → ((t : Bool) → other t ≡ one t) → IfOk r (λ x. (t : Bool) → one t ≡ step_of base w bytes x) → IfOk r (λ x. (t : Bool) → other t ≡ step_of base w bytes x)
 steps_same base w bytes r one other same h = ok_mapped r (λ x. (t : Bool) → one t ≡ step_of base w bytes x) (λ x. (t : Bool) → other t ≡ step_of base w bytes x) (λ x is t. same t ∙ is t) h
 
 -- the word that was cleared has no bytes
-pub steps_with : (base : ℕ) (w : World) (bytes : List ℕ) (r : Result (Rattle.rl_read.specs.declared.step.Step.TheVariants.the_data) Stop) (one : Bool → reader.Step Stock Tagged Chain Stop) → bytes ≡ [] → IfOk r (λ x. (t : Bool) → one t ≡ step_of base w [] x) → IfOk r (λ x. (t : Bool) → one t ≡ step_of base w bytes x)
+pub steps_with : (base : ℕ) (w : World) (bytes : List ℕ) (r : Result (Rattle.rl_read.specs.declared.step.Step.TheVariants.the_data) Stop) (one : Bool → reader.ReaderStep Stock Tagged PairChain Stop) → bytes ≡ [] → IfOk r (λ x. (t : Bool) → one t ≡ step_of base w [] x) → IfOk r (λ x. (t : Bool) → one t ≡ step_of base w bytes x)
 steps_with base w bytes r one e h = subst (λ (bytes : List ℕ). IfOk r (λ x. (t : Bool) → one t ≡ step_of base w bytes x)) (sym e) h
 
-pub halts_same : {A : Type 0} (r : Result A Stop) (one other : Bool → reader.Step Stock Tagged Chain Stop) → ((t : Bool) → other t ≡ one t) → IfErr r (λ s. IsHalting one s) → IfErr r (λ s. IsHalting other s)
+pub halts_same : {A : Type 0} (r : Result A Stop) (one other : Bool → reader.ReaderStep Stock Tagged PairChain Stop) → ((t : Bool) → other t ≡ one t) → IfErr r (λ s. IsHalting one s) → IfErr r (λ s. IsHalting other s)
 halts_same r one other same h = err_mapped r (λ s. IsHalting one s) (λ s. IsHalting other s) (λ s is. (is.0, λ t. same t ∙ is.1 t)) h
 
 -- one special is an identifier, where a spelling may stand
-pub special_taken : (t : Bool) (b : ℕ) (fs : List (Frame Chain)) (k : Stock) → reader.admits fs ≡ true → reader.at_class (in_stock t) byte.Special b fs k ≡ reader.goes_after (reader.atom_ended (in_stock t) (word.Identifier (b ∷ [])) fs k)
+pub special_taken : (t : Bool) (b : ℕ) (fs : List (ReaderFrame PairChain)) (k : Stock) → reader.admits fs ≡ true → reader.at_class (in_stock t) byte.Special b fs k ≡ reader.goes_after (reader.atom_ended (in_stock t) (word.Identifier (b ∷ [])) fs k)
 special_taken t b fs k h = rw h refl
 
 -- ---- words that end

@@ -3,7 +3,7 @@ use Rattle.std.specs.Prelude.{◌≡◌, ℕ, suc, true, List, length, map, Opti
 use Rattle.std.specs.List.{AllByRecursion}
 use Rattle.rl_tags.specs.Tagged.{Tagged, Number, IdAt, StrAt, PairAt, VectorAt}
 use Rattle.rl_cells.specs.Cell.{Cell, cell_at, is_id_cell, is_str_cell, is_pair_cell, is_vector_cell, car_in, cdr_in, bytes_in, vector_in}
-use Rattle.rl_syms.specs.Table.{Among, name_at, ids_from}
+use Rattle.rl_syms.specs.Table.{Among, name_in_cells, ids_from}
 use Rattle.rl_text.specs.Datum.{Datum, Int, Id, Str, Pair, Vector, nil, elements}
 use Rattle.rl_read.specs.Stock.{Stock}
 
@@ -19,7 +19,7 @@ IsDatumWithin _ cells head v = ⊥
 -- the datum that it is
 abbrev pub datum_within : ℕ → List Cell → Tagged → Datum
 datum_within n cells (Number z) = Int z
-datum_within n cells (IdAt k) = Id (name_at cells k)
+datum_within n cells (IdAt k) = Id (name_in_cells cells k)
 datum_within n cells (StrAt k) = Str (bytes_in (cell_at cells k))
 datum_within (suc n) cells (PairAt k) = Pair (datum_within n cells (car_in (cell_at cells k))) (datum_within n cells (cdr_in (cell_at cells k)))
 datum_within (suc n) cells (VectorAt k) = Vector (elements (map (datum_within n cells) (vector_in (cell_at cells k))))

@@ -4,7 +4,7 @@ use Rattle.std.specs.List.{AllByRecursion}
 use Rattle.rl_tags.specs.Tagged.{Tagged, PairAt}
 use Rattle.rl_cells.specs.Cell.{Cell, is_live, is_pair}
 use Rattle.rl_syms.specs.Table.{IsTable, IsNamed}
-use Rattle.rl_text.specs.Reader.{Frame, Listing, Vectoring, Quoting, Begun, Going, Dotted, Shut, Step, begins, open_list}
+use Rattle.rl_text.specs.Reader.{ReaderFrame, Listing, Vectoring, Quoting, Begun, Going, Dotted, Shut, ReaderStep, group_begins, open_list}
 use Rattle.rl_text.specs.Maker.{Maker}
 use Rattle.rl_world.specs.declared.stop.Stop.{Stop}
 use Rattle.rl_text.specs.Reader as reader
@@ -22,7 +22,7 @@ use Rattle.rl_read.specs.declared.frames.Opening.TheVariants as opening
 
 -- ---- what they mean
 
-abbrev pub chain_of : Chain → stock.Chain
+abbrev pub chain_of : Chain → stock.PairChain
 chain_of chain.Empty = None
 chain_of (chain.Pairs first last) = Some (first, last)
 
@@ -32,7 +32,7 @@ phase_of phase.Going = Going
 phase_of phase.Dotted = Dotted
 phase_of phase.Shut = Shut
 
-abbrev pub frames_of : Group → List (Frame stock.Chain) → List (Frame stock.Chain)
+abbrev pub frames_of : Group → List (ReaderFrame stock.PairChain) → List (ReaderFrame stock.PairChain)
 frames_of group.Root fs = fs
 frames_of group.Quote fs = Quoting ∷ fs
 frames_of (group.Vector c) fs = Vectoring (chain_of c) ∷ fs
@@ -53,18 +53,18 @@ vector_in_group (group.VectorBehind c l owed) = Some c
 vector_in_group g = None
 
 -- what begins
-abbrev pub opened : Maker stock.Stock Tagged stock.Chain Stop → Opening → List (Frame stock.Chain) → stock.Stock → Step stock.Stock Tagged stock.Chain Stop
-opened m opening.List fs k = open_list m fs k
-opened m opening.Vector fs k = begins m (Vectoring None) fs k
-opened m opening.Quote fs k = begins m Quoting fs k
+abbrev pub opening_frame : Maker stock.Stock Tagged stock.PairChain Stop → Opening → List (ReaderFrame stock.PairChain) → stock.Stock → ReaderStep stock.Stock Tagged stock.PairChain Stop
+opening_frame m opening.List fs k = open_list m fs k
+opening_frame m opening.Vector fs k = group_begins m (Vectoring None) fs k
+opening_frame m opening.Quote fs k = group_begins m Quoting fs k
 
-abbrev pub frame_of : Opening → Frame stock.Chain
+abbrev pub frame_of : Opening → ReaderFrame stock.PairChain
 frame_of opening.List = Listing None 0 Begun
 frame_of opening.Vector = Vectoring None
 frame_of opening.Quote = Quoting
 
 -- what is around the newest frame of a group
-abbrev pub behind_it : Group → List (Frame stock.Chain) → List (Frame stock.Chain)
+abbrev pub behind_it : Group → List (ReaderFrame stock.PairChain) → List (ReaderFrame stock.PairChain)
 behind_it (group.QuoteBehind c owed) fs = Listing (chain_of c) owed Dotted ∷ fs
 behind_it (group.VectorBehind v c owed) fs = Listing (chain_of c) owed Dotted ∷ fs
 behind_it g fs = fs
@@ -76,18 +76,18 @@ group_admits g = true
 
 -- ---- in words
 
-abbrev pub kind_of : Phase → ℕ
-kind_of phase.Begun = 3
-kind_of phase.Going = 4
-kind_of phase.Dotted = 5
-kind_of phase.Shut = 6
+abbrev pub kind_of_phase : Phase → ℕ
+kind_of_phase phase.Begun = 3
+kind_of_phase phase.Going = 4
+kind_of_phase phase.Dotted = 5
+kind_of_phase phase.Shut = 6
 
 -- the chain whose places a word has
 abbrev pub chain_in : ℕ → Chain
 chain_in w = if w == 0 then chain.Empty else chain.Pairs (PairAt ((w - 1) / 4294967296)) (PairAt ((w - 1) % 4294967296))
 
-abbrev pub kind_in : ℕ → ℕ → ℕ → ℕ → Group
-kind_in kind owed b c =
+abbrev pub group_in : ℕ → ℕ → ℕ → ℕ → Group
+group_in kind owed b c =
     if kind == 0 then group.Root
     else (if kind == 1 then group.Quote
     else (if kind == 2 then group.Vector (chain_in c)
@@ -100,17 +100,17 @@ kind_in kind owed b c =
 
 -- the group that three words keep
 abbrev pub group_in : ℕ × ℕ × ℕ → Group
-group_in t = kind_in (t.0 % 16) (t.0 / 16) t.1 t.2
+group_in t = group_in (t.0 % 16) (t.0 / 16) t.1 t.2
 
-abbrev pub frames_kept : List (ℕ × ℕ × ℕ) → List (Frame stock.Chain)
+abbrev pub frames_kept : List (ℕ × ℕ × ℕ) → List (ReaderFrame stock.PairChain)
 frames_kept [] = []
 frames_kept (t ∷ ts) = frames_of (group_in t) (frames_kept ts)
 
 -- all that has begun, the newest first
-abbrev pub frames_in : ℕ → World → Group → List (Frame stock.Chain)
+abbrev pub frames_in : ℕ → World → Group → List (ReaderFrame stock.PairChain)
 frames_in base w g = frames_of g (frames_kept (kept_above base w.levels))
 
-abbrev pub frames_around : ℕ → World → Group → List (Frame stock.Chain)
+abbrev pub frames_around : ℕ → World → Group → List (ReaderFrame stock.PairChain)
 frames_around base w g = behind_it g (frames_kept (kept_above base w.levels))
 
 abbrev pub group_weight : Group → ℕ
@@ -120,8 +120,8 @@ group_weight (group.VectorBehind v c owed) = 2
 group_weight g = 1
 
 -- more than the groups around it
-abbrev pub weight : World → Group → ℕ
-weight w g = 3 * length w.levels.walk + group_weight g
+abbrev pub group_weight : World → Group → ℕ
+group_weight w g = 3 * length w.levels.walk + group_weight g
 
 -- ---- what may be kept
 
@@ -154,16 +154,16 @@ is_inner_group (group.List c owed p) = true
 is_inner_group (group.QuoteBehind c owed) = true
 is_inner_group (group.VectorBehind v c owed) = true
 
-pub record IsKept (cells : List Cell) (t : ℕ × ℕ × ℕ) : Type 0 where
+pub record IsKeptByReading (cells : List Cell) (t : ℕ × ℕ × ℕ) : Type 0 where
   pub group_is : IsGroup cells (group_in t)
   pub inner : is_inner_group (group_in t) ≡ true
   pub owed : t.0 / 16 < 2 ^ 32
 
 -- names are a table, what was kept is sound, and only a group with nothing around it has nothing kept
-pub record IsReady (base : ℕ) (w : World) (g : Group) : Type 0 where
+pub record IsReadyToRead (base : ℕ) (w : World) (g : Group) : Type 0 where
   pub table : IsTable w.cells.cells w.syms.head
   pub above : base ≤ length w.levels.walk
-  pub kept : AllByRecursion (IsKept w.cells.cells) (kept_above base w.levels)
+  pub kept : AllByRecursion (IsKeptByReading w.cells.cells) (kept_above base w.levels)
   pub group_is : IsGroup w.cells.cells g
   pub root : g ≡ group.Root → length w.levels.walk ≡ base
 

@@ -26,13 +26,13 @@ is_counted (stop.Expansion name) = true
 is_counted s = false
 
 -- a turn was left and was taken
-pub record IsTurn (old new : World) : Type 0 where
+pub record TakesTurn (old new : World) : Type 0 where
   pub some : tick_stop old.counts ≡ None
   pub counted : new.counts ≡ ticked old.counts
 
 -- a byte takes a turn where bytes take turns, the end takes none
 abbrev pub IsGiven : Bool → World → World → Option ℕ → Type 0
-IsGiven true old new (Some b) = IsTurn old new
+IsGiven true old new (Some b) = TakesTurn old new
 IsGiven turns old new b = new.counts ≡ old.counts
 
 -- a byte was given, and no turn was left for it

@@ -3,18 +3,18 @@ use Rattle.std.specs.Prelude.{◌≡◌, ℕ, ◌-◌, ◌≤◌, ◌^◌, Bool,
 use Rattle.rl_tags.specs.Tagged.{Tagged}
 use Rattle.rl_cells.specs.Cell.{is_live}
 use Rattle.rl_syms.specs.Table.{IsNamed}
-use Rattle.rl_text.specs.Reader.{Frame, Mode, Outcome, at_end_between, Refused, Stopped, read_by, read_from}
+use Rattle.rl_text.specs.Reader.{ReaderFrame, Mode, ReaderOutcome, at_end_between, Refused, Stopped, read_by, read_from}
 use Rattle.rl_world.specs.declared.world.World.{World}
 use Rattle.rl_world.specs.declared.stop.Stop.{Stop}
-use Rattle.rl_read.specs.Stock.{Chain, Stock, in_stock, stock_of}
+use Rattle.rl_read.specs.Stock.{PairChain, Stock, in_stock, stock_of}
 use Rattle.rl_read.specs.declared.read.ReadFault.{ReadFault}
 use Rattle.rl_read.specs.declared.read.ReadFault.TheVariants as fault
 
-abbrev pub Answer : Type 0
-Answer = Outcome Stock Tagged Stop
+abbrev pub ReadAnswer : Type 0
+ReadAnswer = ReaderOutcome Stock Tagged Stop
 
 -- the text ends between spellings
-abbrev pub ended_between : List (Frame Chain) → Stock → Answer
+abbrev pub ended_between : List (ReaderFrame PairChain) → Stock → ReadAnswer
 ended_between fs k = at_end_between fs k
 
 abbrev pub NotStopped : Result Tagged ReadFault → Type 0
@@ -24,17 +24,17 @@ NotStopped (Err fault.End) = Unit {0}
 NotStopped (Err (fault.Stop s)) = ⊥
 
 -- it is refused, and what was made before is in the world; the levels were left
-pub record IsRefusal (w : World) (answer : Bool → Answer) (from : List ℕ) : Type 0 where
+pub record IsRefusal (w : World) (answer : Bool → ReadAnswer) (from : List ℕ) : Type 0 where
   pub made : Stock
   pub refused : (t : Bool) → answer t ≡ Refused made from
   pub stays : record made { left = (stock_of w).left } ≡ stock_of w
 
-pub record IsStopped (answer : Bool → Answer) (s : Stop) (rest : List ℕ) : Type 0 where
+pub record IsStopped (answer : Bool → ReadAnswer) (s : Stop) (rest : List ℕ) : Type 0 where
   pub made : Stock
   pub stopped : (t : Bool) → answer t ≡ Stopped s made rest
 
 -- from here on reading comes to what it comes to from the start, and so many bytes were given
-pub record IsGoing (turns : Bool) (start : World) (m : Mode) (fs : List (Frame Chain)) (k : Stock) (given : ℕ) (before now : List ℕ) : Type 0 where
+pub record IsGoing (turns : Bool) (start : World) (m : Mode) (fs : List (ReaderFrame PairChain)) (k : Stock) (given : ℕ) (before now : List ℕ) : Type 0 where
   pub same : read_by (in_stock turns) (stock_of start) before ≡ read_from (in_stock turns) m fs k now
   pub place : given ≡ min (length before - length now) (2 ^ 64 - 1)
   pub shorter : length now ≤ length before
@@ -53,7 +53,7 @@ pub record IsStoppedText (turns : Bool) (old : World) (before now : List ℕ) (s
   pub stopped : read_by (in_stock turns) (stock_of old) before ≡ Stopped s made now
 
 -- cells, names, counts, levels, what waits for the output and the place in the input alone have changed; what was live is, and names stay
-pub record Keeps (old new : World) : Type 0 where
+pub record KeepsByReading (old new : World) : Type 0 where
   pub world : new ≡ record old { cells = new.cells; syms = record old.syms { head = new.syms.head }; counts = new.counts; levels = new.levels; output = record old.output { waiting = new.output.waiting }; input = new.input }
   pub live : (v : Tagged) → is_live old.cells.cells v ≡ true → is_live new.cells.cells v ≡ true
   pub names : (bytes : List ℕ) (id : Tagged) → IsNamed old.cells.cells old.syms.head bytes id → IsNamed new.cells.cells new.syms.head bytes id

@@ -9,8 +9,8 @@ use Rattle.rl_text.specs.Reader as reader
 use Rattle.rl_world.specs.declared.world.World.{World}
 use Rattle.rl_world.specs.declared.stop.Stop.{Stop}
 use Rattle.rl_syms.specs.Table.{nil_value}
-use Rattle.rl_read.specs.Stock.{Stock, Chain, ended, stock_of}
-use Rattle.rl_read.specs.Frames.{IsReady, frames_in, opened}
+use Rattle.rl_read.specs.Stock.{Stock, PairChain, chain_ended, stock_of}
+use Rattle.rl_read.specs.Frames.{IsReadyToRead, frames_in, opening_frame}
 use Rattle.rl_read.specs.declared.frames.Opening.{Opening}
 use Rattle.rl_read.specs.declared.frames.Phase.{Phase}
 use Rattle.rl_read.specs.declared.frames.Phase.TheVariants as phase
@@ -74,9 +74,9 @@ IsMode m bytes = Unit {0}
 
 -- ---- atoms
 
-abbrev pub atom_of : Atom → word.Atom
-atom_of (atom.Identifier name) = word.Identifier name.now
-atom_of (atom.Text bytes) = word.String bytes.now
+abbrev pub atom_meant : Atom → word.Atom
+atom_meant (atom.Identifier name) = word.Identifier name.now
+atom_meant (atom.Text bytes) = word.String bytes.now
 
 abbrev pub IsAtom : Atom → Type 0
 IsAtom (atom.Identifier name) = (1 ≤ length name.now) × (length name.now ≤ 255)
@@ -109,13 +109,13 @@ is_digits_mode m = false
 
 -- ---- what begins and ends
 
-abbrev pub opens_at : Maker Stock Tagged Chain Stop → Opening → List (reader.Frame Chain) → Stock → reader.Step Stock Tagged Chain Stop
-opens_at m o fs k = if reader.admits fs then opened m o fs k else reader.Refuses k
+abbrev pub opens_at : Maker Stock Tagged PairChain Stop → Opening → List (reader.ReaderFrame PairChain) → Stock → reader.ReaderStep Stock Tagged PairChain Stop
+opens_at m o fs k = if reader.admits fs then opening_frame m o fs k else reader.Refuses k
 
 -- a list behind a dot ends with NIL, but where it has had its own dot
-abbrev pub inner_ended : Phase → Chain → Stock → Made Stock Chain Stop
+abbrev pub inner_ended : Phase → PairChain → Stock → Made Stock PairChain Stop
 inner_ended phase.Shut c k = Has c k
-inner_ended p c k = ended c nil_value k
+inner_ended p c k = chain_ended c nil_value k
 
 -- ---- what was wanting
 
@@ -123,34 +123,34 @@ inner_ended p c k = ended c nil_value k
 abbrev pub Lacks : {A : Type 0} → Made Stock A Stop → Stop → Type 0
 Lacks made s = (k : Stock) × (made ≡ Wants s k)
 
-abbrev pub IsLacking : (Bool → reader.Ended Stock Tagged Chain Stop) → Stop → Type 0
-IsLacking ended s = (k : Stock) × ((t : Bool) → ended t ≡ reader.Lacks s k)
+abbrev pub IsLacking : (Bool → reader.Ended Stock Tagged PairChain Stop) → Stop → Type 0
+IsLacking chain_ended s = (k : Stock) × ((t : Bool) → chain_ended t ≡ reader.Lacks s k)
 
-abbrev pub IsHalting : (Bool → reader.Step Stock Tagged Chain Stop) → Stop → Type 0
+abbrev pub IsHalting : (Bool → reader.ReaderStep Stock Tagged PairChain Stop) → Stop → Type 0
 IsHalting step s = (k : Stock) × ((t : Bool) → step t ≡ reader.Halts s k)
 
 -- ---- what it comes to
 
-abbrev pub ended_of : ℕ → World → Ended → reader.Ended Stock Tagged Chain Stop
+abbrev pub ended_of : ℕ → World → Ended → reader.Ended Stock Tagged PairChain Stop
 ended_of base w (how.Whole v) = reader.Whole v (stock_of w)
 ended_of base w (how.Inside g) = reader.Inside (frames_in base w g) (stock_of w)
 
-abbrev pub step_of : ℕ → World → List ℕ → Step → reader.Step Stock Tagged Chain Stop
+abbrev pub step_of : ℕ → World → List ℕ → Step → reader.ReaderStep Stock Tagged PairChain Stop
 step_of base w bytes (step.Goes m g) = reader.Goes (mode_of m bytes) (frames_in base w g) (stock_of w)
 step_of base w bytes (step.Done v used) = reader.Done v used (stock_of w)
 step_of base w bytes step.Refuses = reader.Refuses (stock_of w)
 
 -- the whole text has ended: nothing is kept, and the value is live
 pub record IsWhole (base : ℕ) (w : World) (v : Tagged) : Type 0 where
-  pub ready : IsReady base w group.Root
+  pub ready : IsReadyToRead base w group.Root
   pub live : is_live w.cells.cells v ≡ true
 
 abbrev pub IsEnded : ℕ → World → Ended → Type 0
 IsEnded base w (how.Whole v) = IsWhole base w v
-IsEnded base w (how.Inside g) = IsReady base w g
+IsEnded base w (how.Inside g) = IsReadyToRead base w g
 
 -- where it goes on, all is ready for the next byte
 abbrev pub IsStep : ℕ → World → List ℕ → Step → Type 0
-IsStep base w bytes (step.Goes m g) = IsReady base w g × IsMode m bytes
+IsStep base w bytes (step.Goes m g) = IsReadyToRead base w g × IsMode m bytes
 IsStep base w bytes (step.Done v used) = IsWhole base w v
-IsStep base w bytes step.Refuses = (g : Group) × IsReady base w g
+IsStep base w bytes step.Refuses = (g : Group) × IsReadyToRead base w g

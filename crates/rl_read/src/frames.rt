@@ -3,13 +3,13 @@ ghost use Rattle.std.specs.Prelude.{◌≡◌, ◌≢◌, ◌*◌, ◌/◌, ◌<
 ghost use Rattle.std.specs.List.{AllByRecursion};
 ghost use Rattle.rl_cells.specs.Cell.{Cell};
 ghost use Rattle.rl_syms.specs.Table.{IsTable};
-ghost use Rattle.rl_text.specs.Reader.{Frame, Goes, Gap, left};
+ghost use Rattle.rl_text.specs.Reader.{ReaderFrame, Goes, Gap, left};
 ghost use Rattle.rl_text.specs.Reader as reader;
 ghost use Rattle.rl_world.specs.declared.stop.Stop.TheVariants as stop;
 ghost use Rattle.rl_read.specs.Given.{is_counted};
 ghost use Rattle.rl_read.specs.Stock.{in_stock, stock_of};
 ghost use Rattle.rl_read.specs.Stock as stock;
-ghost use Rattle.rl_read.specs.Frames.{IsChain, IsGroup, IsKept, IsReady, chain_in, chain_of, frame_of, frames_around, frames_in, frames_kept, frames_of, group_admits, group_in, is_inner_group, kind_of, opened, weight};
+ghost use Rattle.rl_read.specs.Frames.{IsChain, IsGroup, IsKeptByReading, IsReadyToRead, chain_in, chain_of, frame_of, frames_around, frames_in, frames_kept, frames_of, group_admits, group_in, is_inner_group, kind_of_phase, opening_frame, group_weight};
 ghost use Rattle.rl_read.specs.Steps.{IsHalting};
 ghost use Rattle.rl_read.specs.declared.frames.Group.TheVariants as rl_group;
 ghost use Rattle.rl_read.specs.declared.frames.Phase.TheVariants as phase;
@@ -103,7 +103,7 @@ fn words_of(w: &World, group: &Group) -> (u64, u64, u64)
 }
 
 fn kind_of_list(phase: &Phase) -> u64
-    ensures { result ≡ kind_of phase.now }
+    ensures { result ≡ kind_of_phase phase.now }
 {
     match phase {
         Phase::Begun => 3,
@@ -134,7 +134,7 @@ fn group_of(a: u64, b: u64, c: u64) -> Group
 
 /// The first pair of a chain, or NIL.
 pub(crate) fn first_of(chain: &Chain) -> Val
-    ensures { result ≡ stock.first_of (chain_of chain.now) }
+    ensures { result ≡ stock.first_of_chain (chain_of chain.now) }
 {
     match chain {
         Chain::Empty => NIL,
@@ -162,11 +162,11 @@ pub(crate) fn begin(
     outer: &Group,
     base: u64,
 ) -> Result<Group, Stop>
-    requires { IsReady base w.old outer.now }
-    ensures ok { IfOk result (λ g. (t : Bool) → opened (in_stock t) opening (frames_in base w.old outer.now) (stock_of w.old) ≡ Goes Gap (frames_in base w.new g) (stock_of w.new)) }
-    ensures stop { IfErr result (λ s. IsHalting (λ t. opened (in_stock t) opening (frames_in base w.old outer.now) (stock_of w.old)) s) }
+    requires { IsReadyToRead base w.old outer.now }
+    ensures ok { IfOk result (λ g. (t : Bool) → opening_frame (in_stock t) opening (frames_in base w.old outer.now) (stock_of w.old) ≡ Goes Gap (frames_in base w.new g) (stock_of w.new)) }
+    ensures stop { IfErr result (λ s. IsHalting (λ t. opening_frame (in_stock t) opening (frames_in base w.old outer.now) (stock_of w.old)) s) }
     ensures counted { IfErr result (λ s. is_counted s ≡ true) }
-    ensures ready { IfOk result (λ g. IsReady base w.new g) }
+    ensures ready { IfOk result (λ g. IsReadyToRead base w.new g) }
     ensures steady { IsSteady base w.old.levels w.new.levels }
     ensures world { w.new ≡ record w.old { levels = w.new.levels } }
 {
@@ -182,7 +182,7 @@ pub(crate) fn begin(
 
 /// What begins as an element.
 fn begun(opening: Opening) -> Group
-    ensures frames { (fs : List (Frame stock.Chain)) → frames_of result fs ≡ frame_of opening ∷ fs }
+    ensures frames { (fs : List (ReaderFrame stock.PairChain)) → frames_of result fs ≡ frame_of opening ∷ fs }
     ensures group { (cells : List Cell) → IsGroup cells result }
     ensures inside { result ≢ rl_group.Root }
 {
@@ -196,7 +196,7 @@ fn begun(opening: Opening) -> Group
 /// What begins behind the dot of a list.
 fn behind(w: &World, opening: Opening, l: &Chain, owed: u32) -> Group
     requires { IsGroup w.now.cells.cells (rl_group.List l.now owed phase.Dotted) }
-    ensures opened { (t : Bool) (fs : List (Frame stock.Chain)) (k : stock.Stock) → opened (in_stock t) opening (frames_of (rl_group.List l.now owed phase.Dotted) fs) k ≡ Goes Gap (frames_of result fs) k }
+    ensures opened { (t : Bool) (fs : List (ReaderFrame stock.PairChain)) (k : stock.Stock) → opening_frame (in_stock t) opening (frames_of (rl_group.List l.now owed phase.Dotted) fs) k ≡ Goes Gap (frames_of result fs) k }
     ensures group { IsGroup w.now.cells.cells result }
     ensures inside { result ≢ rl_group.Root }
 {
@@ -213,12 +213,12 @@ fn behind(w: &World, opening: Opening, l: &Chain, owed: u32) -> Group
 
 /// Enters a level, and keeps what is around it.
 fn keep(w: &mut World, opening: Opening, outer: &Group, base: u64) -> Result<Group, Stop>
-    requires ready { IsReady base w.old outer.now }
+    requires ready { IsReadyToRead base w.old outer.now }
     requires inner { is_inner_group outer.now ≡ true }
-    ensures ok { IfOk result (λ g. (t : Bool) → opened (in_stock t) opening (frames_in base w.old outer.now) (stock_of w.old) ≡ Goes Gap (frames_in base w.new g) (stock_of w.new)) }
-    ensures stop { IfErr result (λ s. IsHalting (λ t. opened (in_stock t) opening (frames_in base w.old outer.now) (stock_of w.old)) s) }
+    ensures ok { IfOk result (λ g. (t : Bool) → opening_frame (in_stock t) opening (frames_in base w.old outer.now) (stock_of w.old) ≡ Goes Gap (frames_in base w.new g) (stock_of w.new)) }
+    ensures stop { IfErr result (λ s. IsHalting (λ t. opening_frame (in_stock t) opening (frames_in base w.old outer.now) (stock_of w.old)) s) }
     ensures counted { IfErr result (λ s. is_counted s ≡ true) }
-    ensures ready { IfOk result (λ g. IsReady base w.new g) }
+    ensures ready { IfOk result (λ g. IsReadyToRead base w.new g) }
     ensures steady { IsSteady base w.old.levels w.new.levels }
     ensures world { w.new ≡ record w.old { levels = w.new.levels } }
 {
@@ -231,12 +231,12 @@ fn keep(w: &mut World, opening: Opening, outer: &Group, base: u64) -> Result<Gro
 
 /// What is around a group that has ended; its level is left.
 pub(crate) fn around(w: &mut World, group: &Group, base: u64) -> Group
-    requires ready { IsReady base w.old group.now }
+    requires ready { IsReadyToRead base w.old group.now }
     requires inside { group.now ≢ rl_group.Root }
     ensures frames { frames_in base w.new result ≡ frames_around base w.old group.now }
     ensures left { (t : Bool) → stock_of w.new ≡ left (in_stock t) (frames_around base w.old group.now) (stock_of w.old) }
-    ensures less { weight w.new result < weight w.old group.now }
-    ensures ready { IsReady base w.new result }
+    ensures less { group_weight w.new result < group_weight w.old group.now }
+    ensures ready { IsReadyToRead base w.new result }
     ensures steady { IsSteady base w.old.levels w.new.levels }
     ensures world { w.new ≡ record w.old { levels = w.new.levels } }
 {
@@ -251,11 +251,11 @@ pub(crate) fn around(w: &mut World, group: &Group, base: u64) -> Group
 fn outer(w: &mut World, base: u64) -> Group
     requires table { IsTable w.old.cells.cells w.old.syms.head }
     requires above { base ≤ length w.old.levels.walk }
-    requires kept { AllByRecursion (IsKept w.old.cells.cells) (kept_above base w.old.levels) }
+    requires kept { AllByRecursion (IsKeptByReading w.old.cells.cells) (kept_above base w.old.levels) }
     ensures frames { frames_in base w.new result ≡ frames_kept (kept_above base w.old.levels) }
     ensures left { (t : Bool) → stock_of w.new ≡ left (in_stock t) (frames_kept (kept_above base w.old.levels)) (stock_of w.old) }
-    ensures less { weight w.new result ≤ 3 * length w.old.levels.walk }
-    ensures ready { IsReady base w.new result }
+    ensures less { group_weight w.new result ≤ 3 * length w.old.levels.walk }
+    ensures ready { IsReadyToRead base w.new result }
     ensures steady { IsSteady base w.old.levels w.new.levels }
     ensures world { w.new ≡ record w.old { levels = w.new.levels } }
 {

@@ -5,10 +5,10 @@ ghost use Rattle.rl_cells.specs.Cell.{StrCell, VectorCell, changed_at, is_live, 
 ghost use Rattle.rl_syms.specs.Table.{IsFree, IsTable};
 ghost use Rattle.rl_text.specs.Maker.{Has};
 ghost use Rattle.rl_read.specs.Given.{is_counted};
-ghost use Rattle.rl_read.specs.Stock.{atom_made, elements_from, ended, hung, identifier_at, identifier_made, object_made, pair_made, quote_made, stock_of, vector_made};
+ghost use Rattle.rl_read.specs.Stock.{atom_made, elements_from, chain_ended, chain_hung, identifier_at, identifier_made, object_made, pair_made, quote_made, stock_of, vector_made};
 ghost use Rattle.rl_read.specs.Stock as stock;
 ghost use Rattle.rl_read.specs.Frames.{IsChain, IsMaking, chain_of};
-ghost use Rattle.rl_read.specs.Steps.{IsAtom, Lacks, atom_of};
+ghost use Rattle.rl_read.specs.Steps.{IsAtom, Lacks, atom_meant};
 
 use crate::frames::{Chain, first_of};
 use rl_cells::Full;
@@ -116,8 +116,8 @@ fn new_identifier(w: &mut World, name: &[u8]) -> Result<Val, Stop>
 pub(crate) fn make_atom(w: &mut World, a: Atom<'_>) -> Result<Val, Stop>
     requires table { IsTable w.old.cells.cells w.old.syms.head }
     requires atom { IsAtom a }
-    ensures ok { IfOk result (λ v. atom_made (atom_of a.entry) (stock_of w.old) ≡ Has v (stock_of w.new)) }
-    ensures stop { IfErr result (λ s. Lacks (atom_made (atom_of a.entry) (stock_of w.old)) s) }
+    ensures ok { IfOk result (λ v. atom_made (atom_meant a.entry) (stock_of w.old) ≡ Has v (stock_of w.new)) }
+    ensures stop { IfErr result (λ s. Lacks (atom_made (atom_meant a.entry) (stock_of w.old)) s) }
     ensures counted { IfErr result (λ s. is_counted s ≡ true) }
     ensures live { IfOk result (λ v. IsTrue (is_live w.new.cells.cells v)) }
     ensures table { IsTable w.new.cells.cells w.new.syms.head }
@@ -134,8 +134,8 @@ pub(crate) fn extended(w: &mut World, chain: &Chain, v: Val) -> Result<Chain, St
     requires table { IsTable w.old.cells.cells w.old.syms.head }
     requires chain { IsChain w.old.cells.cells chain.now }
     requires live { IsTrue (is_live w.old.cells.cells v) }
-    ensures ok { IfOk result (λ c. stock.extended (chain_of chain.now) v (stock_of w.old) ≡ Has (chain_of c) (stock_of w.new)) }
-    ensures stop { IfErr result (λ s. Lacks (stock.extended (chain_of chain.now) v (stock_of w.old)) s) }
+    ensures ok { IfOk result (λ c. stock.chain_extended (chain_of chain.now) v (stock_of w.old) ≡ Has (chain_of c) (stock_of w.new)) }
+    ensures stop { IfErr result (λ s. Lacks (stock.chain_extended (chain_of chain.now) v (stock_of w.old)) s) }
     ensures counted { IfErr result (λ s. is_counted s ≡ true) }
     ensures chain { IfOk result (λ c. IsChain w.new.cells.cells c) }
     ensures longer { IfOk result (λ c. length w.old.cells.cells + 1 ≤ length w.new.cells.cells) }
@@ -154,7 +154,7 @@ fn hang(w: &mut World, chain: &Chain, p: Val) -> Chain
     requires table { IsTable w.old.cells.cells w.old.syms.head }
     requires chain { IsChain w.old.cells.cells chain.now }
     requires pair { IsTrue (is_pair w.old.cells.cells p) }
-    ensures hung { hung (chain_of chain.now) p (stock_of w.old) ≡ Has (chain_of result) (stock_of w.new) }
+    ensures hung { chain_hung (chain_of chain.now) p (stock_of w.old) ≡ Has (chain_of result) (stock_of w.new) }
     ensures chain { IsChain w.new.cells.cells result }
     ensures same { length w.new.cells.cells ≡ length w.old.cells.cells }
     ensures table { IsTable w.new.cells.cells w.new.syms.head }
@@ -173,7 +173,7 @@ fn set_cdr(w: &mut World, p: Val, v: Val)
     requires table { IsTable w.old.cells.cells w.old.syms.head }
     requires pair { IsTrue (is_pair w.old.cells.cells p) }
     requires live { IsTrue (is_live w.old.cells.cells v) }
-    ensures stock { stock_of w.new ≡ stock.with_cdr p v (stock_of w.old) }
+    ensures stock { stock_of w.new ≡ stock.stock_with_cdr p v (stock_of w.old) }
     ensures same { length w.new.cells.cells ≡ length w.old.cells.cells }
     ensures table { IsTable w.new.cells.cells w.new.syms.head }
     ensures making { IsMaking w.old w.new }
@@ -188,7 +188,7 @@ pub(crate) fn end_with(w: &mut World, chain: &Chain, v: Val)
     requires table { IsTable w.old.cells.cells w.old.syms.head }
     requires chain { IsChain w.old.cells.cells chain.now }
     requires live { IsTrue (is_live w.old.cells.cells v) }
-    ensures ended { ended (chain_of chain.now) v (stock_of w.old) ≡ Has (chain_of chain.now) (stock_of w.new) }
+    ensures ended { chain_ended (chain_of chain.now) v (stock_of w.old) ≡ Has (chain_of chain.now) (stock_of w.new) }
     ensures same { length w.new.cells.cells ≡ length w.old.cells.cells }
     ensures table { IsTable w.new.cells.cells w.new.syms.head }
     ensures making { IsMaking w.old w.new }

@@ -10,9 +10,9 @@ ghost use Rattle.rl_world.specs.declared.stop.Stop.{Stop};
 ghost use Rattle.rl_world.specs.declared.stop.Stop.TheVariants as stop;
 ghost use Rattle.rl_read.specs.Given.{is_counted, is_fault};
 ghost use Rattle.rl_read.specs.Stock.{Stock, in_stock, stock_of};
-ghost use Rattle.rl_read.specs.Frames.{IsReading, IsReady, frames_in};
+ghost use Rattle.rl_read.specs.Frames.{IsReading, IsReadyToRead, frames_in};
 ghost use Rattle.rl_read.specs.Steps.{IsMode, may_end, mode_of, word_atom};
-ghost use Rattle.rl_read.specs.Reads.{IsRefusal, IsRefusedText, IsStopped, IsStoppedText, Keeps, NotStopped, ended_between};
+ghost use Rattle.rl_read.specs.Reads.{IsRefusal, IsRefusedText, IsStopped, IsStoppedText, KeepsByReading, NotStopped, ended_between};
 ghost use Rattle.rl_read.specs.declared.read.ReadFault.TheVariants as fault;
 ghost use Rattle.rl_world.specs.Walks.{IsSteady};
 
@@ -60,7 +60,7 @@ pub fn read_form<T: Bytes>(w: &mut World, text: &mut T) -> Result<Val, ReadFault
     ensures live { IfOk result (λ v. IsTrue (is_live w.new.cells.cells v)) }
     ensures table { IsTable w.new.cells.cells w.new.syms.head }
     ensures levels { NotStopped result → w.new.levels ≡ w.old.levels }
-    ensures keeps { Keeps w.old w.new }
+    ensures keeps { KeepsByReading w.old w.new }
 {
     let base = w.walk_len();
     let mut word = Word::new();
@@ -115,7 +115,7 @@ fn at_end(
     base: u64,
     k: u64,
 ) -> Result<Val, ReadFault>
-    requires ready { IsReady base w.old group }
+    requires ready { IsReadyToRead base w.old group }
     requires word { IsMode mode word.now.items }
     ensures ok { IfOk result (λ v. (t : Bool) → reader.at_end (in_stock t) (mode_of mode word.now.items) (frames_in base w.old group) (stock_of w.old) ≡ Read v (stock_of w.new) []) }
     ensures syntax { (j : ℕ) → result ≡ Err (fault.Syntax j) → (j ≡ k) × IsRefusal w.new (λ t. reader.at_end (in_stock t) (mode_of mode word.now.items) (frames_in base w.old group) (stock_of w.old)) [] }
@@ -136,7 +136,7 @@ fn at_end(
 
 /// The text ends between spellings.
 fn gap_at_end(w: &mut World, group: Group, base: u64, k: u64) -> Result<Val, ReadFault>
-    requires ready { IsReady base w.old group }
+    requires ready { IsReadyToRead base w.old group }
     ensures none { IsErr result }
     ensures syntax { (j : ℕ) → result ≡ Err (fault.Syntax j) → (j ≡ k) × IsRefusal w.new (λ t. ended_between (frames_in base w.old group) (stock_of w.old)) [] }
     ensures end { result ≡ Err fault.End → ended_between (frames_in base w.old group) (stock_of w.old) ≡ NoneLeft (stock_of w.new) }
@@ -160,7 +160,7 @@ fn word_at_end(
     base: u64,
     k: u64,
 ) -> Result<Val, ReadFault>
-    requires ready { IsReady base w.old group }
+    requires ready { IsReadyToRead base w.old group }
     requires word { IsMode mode word.now.items }
     requires may_end { may_end mode ≡ true }
     ensures ok { IfOk result (λ v. (t : Bool) → reader.ends_after (reader.atom_ended (in_stock t) (word_atom mode word.now.items) (frames_in base w.old group) (stock_of w.old)) ≡ Read v (stock_of w.new) []) }

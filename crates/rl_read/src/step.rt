@@ -11,8 +11,8 @@ ghost use Rattle.rl_text.specs.Maker.{Has};
 ghost use Rattle.rl_world.specs.declared.world.World.{World};
 ghost use Rattle.rl_read.specs.Given.{is_counted};
 ghost use Rattle.rl_read.specs.Stock.{in_stock, stock_of};
-ghost use Rattle.rl_read.specs.Frames.{IsChain, IsMaking, IsReading, IsReady, chain_of, frames_around, frames_in, is_quote_group, vector_in_group};
-ghost use Rattle.rl_read.specs.Steps.{IsAtom, IsEnded, IsHalting, IsLacking, IsMode, IsNumber, IsStep, atom_of, ended_of, inner_ended, is_digits_mode, is_text_mode, mark_of, may_end, mode_of, opens_at, step_of, word_atom};
+ghost use Rattle.rl_read.specs.Frames.{IsChain, IsMaking, IsReading, IsReadyToRead, chain_of, frames_around, frames_in, is_quote_group, vector_in_group};
+ghost use Rattle.rl_read.specs.Steps.{IsAtom, IsEnded, IsHalting, IsLacking, IsMode, IsNumber, IsStep, atom_meant, ended_of, inner_ended, is_digits_mode, is_text_mode, mark_of, may_end, mode_of, opens_at, step_of, word_atom};
 ghost use Rattle.rl_read.specs.declared.frames.Group.TheVariants as rl_group;
 ghost use Rattle.rl_read.specs.declared.frames.Phase.TheVariants as rl_phase;
 ghost use Rattle.rl_read.specs.declared.word.Mode.TheVariants as mode;
@@ -45,7 +45,7 @@ pub(crate) enum Ended {
 
 /// An element has ended.
 pub(crate) fn value_ended(w: &mut World, v: Val, group: Group, base: u64) -> Result<Ended, Stop>
-    requires ready { IsReady base w.old group }
+    requires ready { IsReadyToRead base w.old group }
     requires live { IsTrue (is_live w.old.cells.cells v) }
     ensures ok { IfOk result (λ e. (t : Bool) → reader.value_ended (in_stock t) v (frames_in base w.old group) (stock_of w.old) ≡ ended_of base w.new e) }
     ensures stop { IfErr result (λ s. IsLacking (λ t. reader.value_ended (in_stock t) v (frames_in base w.old group) (stock_of w.old)) s) }
@@ -78,7 +78,7 @@ fn is_quote(group: &Group) -> bool
 
 /// An element has ended in a list or a vector, behind a dot, or with the text.
 fn in_place(w: &mut World, v: Val, group: Group, base: u64) -> Result<Ended, Stop>
-    requires ready { IsReady base w.old group }
+    requires ready { IsReadyToRead base w.old group }
     requires place { is_quote_group group ≡ false }
     requires live { IsTrue (is_live w.old.cells.cells v) }
     ensures ok { IfOk result (λ e. (t : Bool) → reader.value_ended (in_stock t) v (frames_in base w.old group) (stock_of w.old) ≡ ended_of base w.new e) }
@@ -111,7 +111,7 @@ fn in_list(
     phase: Phase,
     base: u64,
 ) -> Result<Ended, Stop>
-    requires ready { IsReady base w.old (rl_group.List l owed phase) }
+    requires ready { IsReadyToRead base w.old (rl_group.List l owed phase) }
     requires live { IsTrue (is_live w.old.cells.cells v) }
     ensures ok { IfOk result (λ e. (t : Bool) → reader.value_ended (in_stock t) v (frames_in base w.old (rl_group.List l owed phase)) (stock_of w.old) ≡ ended_of base w.new e) }
     ensures stop { IfErr result (λ s. IsLacking (λ t. reader.value_ended (in_stock t) v (frames_in base w.old (rl_group.List l owed phase)) (stock_of w.old)) s) }
@@ -134,7 +134,7 @@ fn in_list(
 
 /// A list, a vector or a quote has ended with this byte.
 fn bracket_ended(w: &mut World, v: Val, group: &Group, base: u64) -> Result<Step, Stop>
-    requires ready { IsReady base w.old group.now }
+    requires ready { IsReadyToRead base w.old group.now }
     requires inside { group.now ≢ rl_group.Root }
     requires live { IsTrue (is_live w.old.cells.cells v) }
     ensures ok { IfOk result (λ r. (t : Bool) → reader.goes_after (reader.value_ended (in_stock t) v (frames_around base w.old group.now) (reader.left (in_stock t) (frames_around base w.old group.now) (stock_of w.old))) ≡ step_of base w.new [] r) }
@@ -164,7 +164,7 @@ fn goes_after(ended: Ended) -> Step
 
 /// `)`.
 fn close_list(w: &mut World, group: &Group, base: u64) -> Result<Step, Stop>
-    requires ready { IsReady base w.old group.now }
+    requires ready { IsReadyToRead base w.old group.now }
     ensures ok { IfOk result (λ r. (t : Bool) → reader.close_list (in_stock t) (frames_in base w.old group.now) (stock_of w.old) ≡ step_of base w.new [] r) }
     ensures stop { IfErr result (λ s. IsHalting (λ t. reader.close_list (in_stock t) (frames_in base w.old group.now) (stock_of w.old)) s) }
     ensures counted { IfErr result (λ s. is_counted s ≡ true) }
@@ -186,7 +186,7 @@ fn close_at(
     group: &Group,
     base: u64,
 ) -> Result<Step, Stop>
-    requires ready { IsReady base w.old group.now }
+    requires ready { IsReadyToRead base w.old group.now }
     requires list { group.now ≡ rl_group.List l.now owed phase.now }
     ensures ok { IfOk result (λ r. (t : Bool) → reader.close_list (in_stock t) (frames_in base w.old group.now) (stock_of w.old) ≡ step_of base w.new [] r) }
     ensures stop { IfErr result (λ s. IsHalting (λ t. reader.close_list (in_stock t) (frames_in base w.old group.now) (stock_of w.old)) s) }
@@ -210,7 +210,7 @@ fn close_level(
     group: &Group,
     base: u64,
 ) -> Result<Step, Stop>
-    requires ready { IsReady base w.old group.now }
+    requires ready { IsReadyToRead base w.old group.now }
     requires list { group.now ≡ rl_group.List l.now owed phase.now }
     requires undotted { phase.now ≢ rl_phase.Dotted }
     ensures ok { IfOk result (λ r. (t : Bool) → reader.close_list (in_stock t) (frames_in base w.old group.now) (stock_of w.old) ≡ step_of base w.new [] r) }
@@ -245,7 +245,7 @@ fn end_inner(w: &mut World, l: &Chain, phase: &Phase)
 
 /// `]`.
 fn close_vector(w: &mut World, group: &Group, base: u64) -> Result<Step, Stop>
-    requires ready { IsReady base w.old group.now }
+    requires ready { IsReadyToRead base w.old group.now }
     ensures ok { IfOk result (λ r. (t : Bool) → reader.close_vector (in_stock t) (frames_in base w.old group.now) (stock_of w.old) ≡ step_of base w.new [] r) }
     ensures stop { IfErr result (λ s. IsHalting (λ t. reader.close_vector (in_stock t) (frames_in base w.old group.now) (stock_of w.old)) s) }
     ensures counted { IfErr result (λ s. is_counted s ≡ true) }
@@ -261,7 +261,7 @@ fn close_vector(w: &mut World, group: &Group, base: u64) -> Result<Step, Stop>
 }
 
 fn vector_closed(w: &mut World, c: &Chain, group: &Group, base: u64) -> Result<Step, Stop>
-    requires ready { IsReady base w.old group.now }
+    requires ready { IsReadyToRead base w.old group.now }
     requires vector { vector_in_group group.now ≡ Some c.now }
     ensures ok { IfOk result (λ r. (t : Bool) → reader.close_vector (in_stock t) (frames_in base w.old group.now) (stock_of w.old) ≡ step_of base w.new [] r) }
     ensures stop { IfErr result (λ s. IsHalting (λ t. reader.close_vector (in_stock t) (frames_in base w.old group.now) (stock_of w.old)) s) }
@@ -279,8 +279,8 @@ fn vector_closed(w: &mut World, c: &Chain, group: &Group, base: u64) -> Result<S
 
 /// `.`.
 fn dot(group: &Group) -> Step
-    ensures step { (base : ℕ) (w : World) (t : Bool) → IsReady base w group.now → reader.dot (in_stock t) (frames_in base w group.now) (stock_of w) ≡ step_of base w [] result }
-    ensures ready { (base : ℕ) (w : World) → IsReady base w group.now → IsStep base w [] result }
+    ensures step { (base : ℕ) (w : World) (t : Bool) → IsReadyToRead base w group.now → reader.dot (in_stock t) (frames_in base w group.now) (stock_of w) ≡ step_of base w [] result }
+    ensures ready { (base : ℕ) (w : World) → IsReadyToRead base w group.now → IsStep base w [] result }
 {
     match group {
         Group::List(l, owed, phase) => match phase {
@@ -292,7 +292,7 @@ fn dot(group: &Group) -> Step
 }
 
 fn at_mark(w: &mut World, mark: Mark, group: &Group, base: u64) -> Result<Step, Stop>
-    requires ready { IsReady base w.old group.now }
+    requires ready { IsReadyToRead base w.old group.now }
     ensures ok { IfOk result (λ r. (t : Bool) → reader.at_mark (in_stock t) (mark_of mark) (frames_in base w.old group.now) (stock_of w.old) ≡ step_of base w.new [] r) }
     ensures stop { IfErr result (λ s. IsHalting (λ t. reader.at_mark (in_stock t) (mark_of mark) (frames_in base w.old group.now) (stock_of w.old)) s) }
     ensures counted { IfErr result (λ s. is_counted s ≡ true) }
@@ -312,7 +312,7 @@ fn at_mark(w: &mut World, mark: Mark, group: &Group, base: u64) -> Result<Step, 
 
 /// `(`, `[` or `'`.
 fn opens(w: &mut World, opening: Opening, group: &Group, base: u64) -> Result<Step, Stop>
-    requires ready { IsReady base w.old group.now }
+    requires ready { IsReadyToRead base w.old group.now }
     ensures ok { IfOk result (λ r. (t : Bool) → opens_at (in_stock t) opening (frames_in base w.old group.now) (stock_of w.old) ≡ step_of base w.new [] r) }
     ensures stop { IfErr result (λ s. IsHalting (λ t. opens_at (in_stock t) opening (frames_in base w.old group.now) (stock_of w.old)) s) }
     ensures counted { IfErr result (λ s. is_counted s ≡ true) }
@@ -331,8 +331,8 @@ fn opens(w: &mut World, opening: Opening, group: &Group, base: u64) -> Result<St
 
 /// A word begins.
 fn in_word(mode: Mode, group: Group) -> Step
-    ensures step { (base : ℕ) (w : World) (bytes : List ℕ) → IsReady base w group → reader.in_word (mode_of mode bytes) (frames_in base w group) (stock_of w) ≡ step_of base w bytes result }
-    ensures ready { (base : ℕ) (w : World) (bytes : List ℕ) → IsReady base w group → IsMode mode bytes → IsStep base w bytes result }
+    ensures step { (base : ℕ) (w : World) (bytes : List ℕ) → IsReadyToRead base w group → reader.in_word (mode_of mode bytes) (frames_in base w group) (stock_of w) ≡ step_of base w bytes result }
+    ensures ready { (base : ℕ) (w : World) (bytes : List ℕ) → IsReadyToRead base w group → IsMode mode bytes → IsStep base w bytes result }
 {
     if admits(&group) {
         Step::Goes(mode, group)
@@ -343,7 +343,7 @@ fn in_word(mode: Mode, group: Group) -> Step
 
 /// A byte in a gap. The word that comes begins anew.
 fn at_gap(w: &mut World, b: u8, group: Group, word: &mut Word, base: u64) -> Result<Step, Stop>
-    requires ready { IsReady base w.old group }
+    requires ready { IsReadyToRead base w.old group }
     ensures ok { IfOk result (λ r. (t : Bool) → reader.at_gap (in_stock t) b (frames_in base w.old group) (stock_of w.old) ≡ step_of base w.new word.new.items r) }
     ensures stop { IfErr result (λ s. IsHalting (λ t. reader.at_gap (in_stock t) b (frames_in base w.old group) (stock_of w.old)) s) }
     ensures counted { IfErr result (λ s. is_counted s ≡ true) }
@@ -371,7 +371,7 @@ fn at_gap(w: &mut World, b: u8, group: Group, word: &mut Word, base: u64) -> Res
 
 /// One special is an identifier.
 fn at_special(w: &mut World, b: u8, group: Group, base: u64) -> Result<Step, Stop>
-    requires ready { IsReady base w.old group }
+    requires ready { IsReadyToRead base w.old group }
     ensures ok { IfOk result (λ r. (t : Bool) → reader.at_class (in_stock t) byte.Special b (frames_in base w.old group) (stock_of w.old) ≡ step_of base w.new [] r) }
     ensures stop { IfErr result (λ s. IsHalting (λ t. reader.at_class (in_stock t) byte.Special b (frames_in base w.old group) (stock_of w.old)) s) }
     ensures counted { IfErr result (λ s. is_counted s ≡ true) }
@@ -390,10 +390,10 @@ fn at_special(w: &mut World, b: u8, group: Group, base: u64) -> Result<Step, Sto
 
 /// An atom has ended.
 fn atom_ended(w: &mut World, a: Atom<'_>, group: Group, base: u64) -> Result<Ended, Stop>
-    requires ready { IsReady base w.old group }
+    requires ready { IsReadyToRead base w.old group }
     requires atom { IsAtom a }
-    ensures ok { IfOk result (λ e. (t : Bool) → reader.atom_ended (in_stock t) (atom_of a.entry) (frames_in base w.old group) (stock_of w.old) ≡ ended_of base w.new e) }
-    ensures stop { IfErr result (λ s. IsLacking (λ t. reader.atom_ended (in_stock t) (atom_of a.entry) (frames_in base w.old group) (stock_of w.old)) s) }
+    ensures ok { IfOk result (λ e. (t : Bool) → reader.atom_ended (in_stock t) (atom_meant a.entry) (frames_in base w.old group) (stock_of w.old) ≡ ended_of base w.new e) }
+    ensures stop { IfErr result (λ s. IsLacking (λ t. reader.atom_ended (in_stock t) (atom_meant a.entry) (frames_in base w.old group) (stock_of w.old)) s) }
     ensures counted { IfErr result (λ s. is_counted s ≡ true) }
     ensures ended { IfOk result (λ e. IsEnded base w.new e) }
     ensures table { IsTable w.new.cells.cells w.new.syms.head }
@@ -413,7 +413,7 @@ pub(crate) fn word_ended(
     word: &Word,
     base: u64,
 ) -> Result<Ended, Stop>
-    requires ready { IsReady base w.old group }
+    requires ready { IsReadyToRead base w.old group }
     requires word { IsMode mode word.now.items }
     requires may_end { may_end mode ≡ true }
     ensures ok { IfOk result (λ e. (t : Bool) → reader.atom_ended (in_stock t) (word_atom mode word.now.items) (frames_in base w.old group) (stock_of w.old) ≡ ended_of base w.new e) }
@@ -433,7 +433,7 @@ pub(crate) fn word_ended(
 
 /// A number ends here.
 fn number_ended(w: &mut World, minus: bool, n: u64, group: Group, base: u64) -> Result<Ended, Stop>
-    requires ready { IsReady base w.old group }
+    requires ready { IsReadyToRead base w.old group }
     requires number { IsNumber minus n }
     ensures ok { IfOk result (λ e. (t : Bool) → reader.atom_ended (in_stock t) (word.Integer (word.signed minus n)) (frames_in base w.old group) (stock_of w.old) ≡ ended_of base w.new e) }
     ensures stop { IfErr result (λ s. IsLacking (λ t. reader.atom_ended (in_stock t) (word.Integer (word.signed minus n)) (frames_in base w.old group) (stock_of w.old)) s) }
@@ -466,7 +466,7 @@ fn before(
     word: &mut Word,
     base: u64,
 ) -> Result<Step, Stop>
-    requires ready { IsReady base w.old group }
+    requires ready { IsReadyToRead base w.old group }
     requires word { IsMode mode word.old.items }
     requires may_end { may_end mode ≡ true }
     ensures ok { IfOk result (λ r. (t : Bool) → reader.atom_before (in_stock t) (word_atom mode word.old.items) b (frames_in base w.old group) (stock_of w.old) ≡ step_of base w.new word.new.items r) }
@@ -490,7 +490,7 @@ fn before(
 fn grown(word: &mut Word, most: usize, b: u8, mode: Mode, group: Group) -> Step
     requires { most ≤ 65535 }
     ensures step { (base : ℕ) (w : World) → reader.grown_to most word.old.items (mode_of mode (word.old.items ++ b ∷ [])) (frames_in base w group) (stock_of w) ≡ step_of base w word.new.items result }
-    ensures ready { (base : ℕ) (w : World) → IsReady base w group → (length word.old.items < most → IsMode mode (word.old.items ++ b ∷ [])) → IsStep base w word.new.items result }
+    ensures ready { (base : ℕ) (w : World) → IsReadyToRead base w group → (length word.old.items < most → IsMode mode (word.old.items ++ b ∷ [])) → IsStep base w word.new.items result }
 {
     if word.len() >= most {
         return Step::Refuses;
@@ -501,10 +501,10 @@ fn grown(word: &mut Word, most: usize, b: u8, mode: Mode, group: Group) -> Step
 
 /// A byte in a name or behind it.
 fn in_name(w: &mut World, b: u8, group: Group, word: &mut Word, base: u64) -> Result<Step, Stop>
-    requires ready { IsReady base w.old group }
+    requires ready { IsReadyToRead base w.old group }
     requires word { IsMode mode.Name word.old.items }
-    ensures ok { IfOk result (λ r. (t : Bool) → reader.step (in_stock t) (reader.InName word.old.items) b (frames_in base w.old group) (stock_of w.old) ≡ step_of base w.new word.new.items r) }
-    ensures stop { IfErr result (λ s. IsHalting (λ t. reader.step (in_stock t) (reader.InName word.old.items) b (frames_in base w.old group) (stock_of w.old)) s) }
+    ensures ok { IfOk result (λ r. (t : Bool) → reader.reader_step (in_stock t) (reader.InName word.old.items) b (frames_in base w.old group) (stock_of w.old) ≡ step_of base w.new word.new.items r) }
+    ensures stop { IfErr result (λ s. IsHalting (λ t. reader.reader_step (in_stock t) (reader.InName word.old.items) b (frames_in base w.old group) (stock_of w.old)) s) }
     ensures counted { IfErr result (λ s. is_counted s ≡ true) }
     ensures step { IfOk result (λ r. IsStep base w.new word.new.items r) }
     ensures table { IsTable w.new.cells.cells w.new.syms.head }
@@ -527,7 +527,7 @@ fn in_number(minus: bool, n: u64, b: u8, group: Group) -> Step
     requires number { IsNumber minus n }
     requires digit { is_digit b ≡ true }
     ensures step { (base : ℕ) (w : World) (bytes : List ℕ) → reader.in_number minus (10 * n + (b - 48)) (frames_in base w group) (stock_of w) ≡ step_of base w bytes result }
-    ensures ready { (base : ℕ) (w : World) (bytes : List ℕ) → IsReady base w group → IsStep base w bytes result }
+    ensures ready { (base : ℕ) (w : World) (bytes : List ℕ) → IsReadyToRead base w group → IsStep base w bytes result }
 {
     let n = 10 * n + u64::from(b - 48);
     if n > LEAST || (!minus && n == LEAST) {
@@ -545,11 +545,11 @@ fn in_text(
     word: &mut Word,
     base: u64,
 ) -> Result<Step, Stop>
-    requires ready { IsReady base w.old group }
+    requires ready { IsReadyToRead base w.old group }
     requires word { IsMode mode word.old.items }
     requires text { is_text_mode mode ≡ true }
-    ensures ok { IfOk result (λ r. (t : Bool) → reader.step (in_stock t) (mode_of mode word.old.items) b (frames_in base w.old group) (stock_of w.old) ≡ step_of base w.new word.new.items r) }
-    ensures stop { IfErr result (λ s. IsHalting (λ t. reader.step (in_stock t) (mode_of mode word.old.items) b (frames_in base w.old group) (stock_of w.old)) s) }
+    ensures ok { IfOk result (λ r. (t : Bool) → reader.reader_step (in_stock t) (mode_of mode word.old.items) b (frames_in base w.old group) (stock_of w.old) ≡ step_of base w.new word.new.items r) }
+    ensures stop { IfErr result (λ s. IsHalting (λ t. reader.reader_step (in_stock t) (mode_of mode word.old.items) b (frames_in base w.old group) (stock_of w.old)) s) }
     ensures counted { IfErr result (λ s. is_counted s ≡ true) }
     ensures step { IfOk result (λ r. IsStep base w.new word.new.items r) }
     ensures table { IsTable w.new.cells.cells w.new.syms.head }
@@ -580,11 +580,11 @@ fn in_digits(
     word: &mut Word,
     base: u64,
 ) -> Result<Step, Stop>
-    requires ready { IsReady base w.old group }
+    requires ready { IsReadyToRead base w.old group }
     requires word { IsMode mode word.old.items }
     requires digits { is_digits_mode mode ≡ true }
-    ensures ok { IfOk result (λ r. (t : Bool) → reader.step (in_stock t) (mode_of mode word.old.items) b (frames_in base w.old group) (stock_of w.old) ≡ step_of base w.new word.new.items r) }
-    ensures stop { IfErr result (λ s. IsHalting (λ t. reader.step (in_stock t) (mode_of mode word.old.items) b (frames_in base w.old group) (stock_of w.old)) s) }
+    ensures ok { IfOk result (λ r. (t : Bool) → reader.reader_step (in_stock t) (mode_of mode word.old.items) b (frames_in base w.old group) (stock_of w.old) ≡ step_of base w.new word.new.items r) }
+    ensures stop { IfErr result (λ s. IsHalting (λ t. reader.reader_step (in_stock t) (mode_of mode word.old.items) b (frames_in base w.old group) (stock_of w.old)) s) }
     ensures counted { IfErr result (λ s. is_counted s ≡ true) }
     ensures step { IfOk result (λ r. IsStep base w.new word.new.items r) }
     ensures table { IsTable w.new.cells.cells w.new.syms.head }
@@ -609,10 +609,10 @@ pub(crate) fn read_byte(
     word: &mut Word,
     base: u64,
 ) -> Result<Step, Stop>
-    requires ready { IsReady base w.old group }
+    requires ready { IsReadyToRead base w.old group }
     requires word { IsMode mode word.old.items }
-    ensures ok { IfOk result (λ r. (t : Bool) → reader.step (in_stock t) (mode_of mode word.old.items) b (frames_in base w.old group) (stock_of w.old) ≡ step_of base w.new word.new.items r) }
-    ensures stop { IfErr result (λ s. IsHalting (λ t. reader.step (in_stock t) (mode_of mode word.old.items) b (frames_in base w.old group) (stock_of w.old)) s) }
+    ensures ok { IfOk result (λ r. (t : Bool) → reader.reader_step (in_stock t) (mode_of mode word.old.items) b (frames_in base w.old group) (stock_of w.old) ≡ step_of base w.new word.new.items r) }
+    ensures stop { IfErr result (λ s. IsHalting (λ t. reader.reader_step (in_stock t) (mode_of mode word.old.items) b (frames_in base w.old group) (stock_of w.old)) s) }
     ensures counted { IfErr result (λ s. is_counted s ≡ true) }
     ensures step { IfOk result (λ r. IsStep base w.new word.new.items r) }
     ensures table { IsTable w.new.cells.cells w.new.syms.head }
@@ -633,8 +633,8 @@ pub(crate) fn read_byte(
 
 /// A comment ends with its line.
 fn in_comment(b: u8, group: Group) -> Step
-    ensures step { (base : ℕ) (w : World) (t : Bool) (bytes : List ℕ) → reader.step (in_stock t) reader.Comment b (frames_in base w group) (stock_of w) ≡ step_of base w bytes result }
-    ensures ready { (base : ℕ) (w : World) (bytes : List ℕ) → IsReady base w group → IsStep base w bytes result }
+    ensures step { (base : ℕ) (w : World) (t : Bool) (bytes : List ℕ) → reader.reader_step (in_stock t) reader.Comment b (frames_in base w group) (stock_of w) ≡ step_of base w bytes result }
+    ensures ready { (base : ℕ) (w : World) (bytes : List ℕ) → IsReadyToRead base w group → IsStep base w bytes result }
 {
     if b == b'\n' {
         Step::Goes(Mode::Gap, group)

@@ -4,7 +4,7 @@ use Rattle.rl_tags.specs.Tagged.{Tagged, Number, IdAt, StrAt, PairAt, VectorAt, 
 use Rattle.rl_tags.specs.declared.Tag.{Tag}
 use Rattle.rl_tags.specs.declared.Tag.TheVariants as tag
 use Rattle.rl_cells.specs.Cell.{Cell, PairCell, StrCell, VectorCell, BigCell, BlockCell, More, cell_at, is_id_cell, is_str, words_in}
-use Rattle.rl_syms.specs.Table.{IsTable, IsNamed, Among, ids_from, is_id, held_in, rank_of, symbol_at, symbol_of, nil_value}
+use Rattle.rl_syms.specs.Table.{IsTable, IsNamed, Among, ids_from, is_id, held_in, rank_of, symbol_in_cells, symbol_of, nil_value}
 use Rattle.rl_syms.specs.Frame.{KeepsBlocks, block_in}
 use Rattle.rl_syms.proofs.Carried.{Carries, among_id, chained_same, ids_carried, name_carried, named_stays}
 
@@ -46,7 +46,7 @@ id_same old new k b = id_is (cell_at new k) ∙ ap id_from (b.blocks k) ∙ sym 
 words_same : (old new : List Cell) (k : ℕ) → KeepsBlocks old new → words_in (cell_at new k) ≡ words_in (cell_at old k)
 words_same old new k b = words_is (cell_at new k) ∙ ap words_from (b.blocks k) ∙ sym (words_is (cell_at old k))
 
-pub symbol_same : (old new : List Cell) (k : ℕ) → KeepsBlocks old new → symbol_at new k ≡ symbol_at old k
+pub symbol_same : (old new : List Cell) (k : ℕ) → KeepsBlocks old new → symbol_in_cells new k ≡ symbol_in_cells old k
 symbol_same old new k b = ap symbol_of (words_same old new k b)
 
 pub is_id_same : (old new : List Cell) (v : Tagged) → KeepsBlocks old new → is_id new v ≡ is_id old v

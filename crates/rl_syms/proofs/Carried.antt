@@ -3,7 +3,7 @@ use Rattle.std.proofs.Common.{◌≡◌, ℕ, zero, suc, add-one, ◌≤◌, ◌
 use Rattle.std.specs.Prelude.{IsSome}
 use Rattle.rl_tags.specs.Tagged.{Tagged, IdAt, tagged_of, index_of}
 use Rattle.rl_cells.specs.Cell.{Cell, cell_at, is_id_cell, is_str, words_in, bytes_of}
-use Rattle.rl_syms.specs.Table.{IsChained, IsName, IsNamed, IsFree, IsLink, Among, chain, ids_from, held_in, name_at, next_at, rank_of}
+use Rattle.rl_syms.specs.Table.{IsChained, IsName, IsNamed, IsFree, IsLink, Among, chain, ids_from, held_in, name_in_cells, next_at, rank_of}
 use Rattle.rl_syms.proofs.Chained.{Falls, within, held_some, ids_from_id, link_self}
 
 -- the identifiers of old are identifiers in new, with the same names and the same places on the chain
@@ -43,7 +43,7 @@ pub among_id : (cells : List Cell) (head : Option Tagged) (k : ℕ) → IsChaine
 among_id cells head k t h = among_chain (rank_of head) (rank_of head) k cells head t.linked t.first h
 
 -- an identifier's name is a string, and keeps its bytes
-pub name_carried : (old new : List Cell) (head : Option Tagged) (k : ℕ) → Carries old new → IsChained old head → is_id_cell (cell_at old k) ≡ true → name_at new k ≡ name_at old k
+pub name_carried : (old new : List Cell) (head : Option Tagged) (k : ℕ) → Carries old new → IsChained old head → is_id_cell (cell_at old k) ≡ true → name_in_cells new k ≡ name_in_cells old k
 name_carried old new head k c t is =
     let n = t.named k is in
     let w = get_or (words_in (cell_at old k)) 0 0 in
@@ -52,7 +52,7 @@ name_carried old new head k c t is =
     ap (λ u. bytes_of new (tagged_of u)) (c.name k is) ∙ c.text (tagged_of w) string
 
 pub named_carried : (old new : List Cell) (head : Option Tagged) (k : ℕ) → Carries old new → IsChained old head → is_id_cell (cell_at old k) ≡ true
-    → IsName new (held_in (get_or (words_in (cell_at new k)) 0 0)) (name_at new k)
+    → IsName new (held_in (get_or (words_in (cell_at new k)) 0 0)) (name_in_cells new k)
 named_carried old new head k c t is =
     let n = t.named k is in
     let same = name_carried old new head k c t is in
@@ -97,8 +97,8 @@ chained_same old new head c was six listed t =
 pub record IsNew (old new : List Cell) (head : Option Tagged) (name : List ℕ) (n : ℕ) : Type 0 where
   pub id : is_id_cell (cell_at new n) ≡ true
   pub six : length (words_in (cell_at new n)) ≡ 6
-  pub named : IsName new (held_in (get_or (words_in (cell_at new n)) 0 0)) (name_at new n)
-  pub name_is : name_at new n ≡ name
+  pub named : IsName new (held_in (get_or (words_in (cell_at new n)) 0 0)) (name_in_cells new n)
+  pub name_is : name_in_cells new n ≡ name
   pub listed : IsSome (held_in (get_or (words_in (cell_at new n)) 2 0))
   pub next : next_at new n ≡ head
   pub above : length old ≤ n
@@ -144,7 +144,7 @@ chained_new old new head name n c i free t =
     let loose = chained_loose old new head head name n c i t.first t in
     let ids = ids_new old new head name n c i t in
     let split : (j : ℕ) → Among j (ids_from new (Some (IdAt n))) → Among j (n ∷ ids_from old head) = λ j a. among_along j (ids_from new (Some (IdAt n))) (n ∷ ids_from old head) ids a in
-    let old_name : (k : ℕ) → Among k (ids_from old head) → name_at new k ≡ name_at old k = λ k a. name_carried old new head k c t (among_id old head k t a) in
+    let old_name : (k : ℕ) → Among k (ids_from old head) → name_in_cells new k ≡ name_in_cells old k = λ k a. name_carried old new head k c t (among_id old head k t a) in
     record {
       six = loose.six;
       named = loose.named;
@@ -154,10 +154,10 @@ chained_new old new head name n c i free t =
       distinct = λ j k a b e. elim (split j a) [
         | inl x ↦ elim (split k b) [
           | inl y ↦ x ∙ sym y
-          | inr y ↦ absurd (free.other k y (sym (old_name k y) ∙ sym e ∙ ap (name_at new) x ∙ i.name_is))
+          | inr y ↦ absurd (free.other k y (sym (old_name k y) ∙ sym e ∙ ap (name_in_cells new) x ∙ i.name_is))
         ]
         | inr x ↦ elim (split k b) [
-          | inl y ↦ absurd (free.other j x (sym (old_name j x) ∙ e ∙ ap (name_at new) y ∙ i.name_is))
+          | inl y ↦ absurd (free.other j x (sym (old_name j x) ∙ e ∙ ap (name_in_cells new) y ∙ i.name_is))
           | inr y ↦ t.distinct j k x y (sym (old_name j x) ∙ e ∙ old_name k y)
         ]
       ];

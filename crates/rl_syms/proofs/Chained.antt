@@ -6,7 +6,7 @@ use Rattle.std.proofs.lemmas.Bool.Decides.{nat_tests}
 use Rattle.std.specs.Prelude.{nat_le, MatchOption}
 use Rattle.rl_tags.specs.Tagged.{Tagged, Number, IdAt, StrAt, PairAt, VectorAt, BigAt, FunAt, IsWordOf, tagged_of, index_of}
 use Rattle.rl_cells.specs.Cell.{Cell, More, cell_at, is_id_cell, is_live, is_live_word, words_in, words_of, bytes_of}
-use Rattle.rl_syms.specs.Table.{IsChained, IsTable, IsNamed, IsFree, IsLink, Among, chain, ids_from, held_in, name_at, next_at, rank_of, is_id}
+use Rattle.rl_syms.specs.Table.{IsChained, IsTable, IsNamed, IsFree, IsLink, Among, chain, ids_from, held_in, name_in_cells, next_at, rank_of, is_id}
 
 -- what is known at an identifier
 pub record AtId (cells : List Cell) (v : Tagged) (k : ℕ) : Type 0 where
@@ -67,7 +67,7 @@ pub record Looking (cells : List Cell) (Other : ℕ → Type 0) (head at_ : Opti
 
 -- it has another name
 abbrev pub Unnamed : List Cell → List ℕ → ℕ → Type 0
-Unnamed cells name k = name_at cells k ≢ name
+Unnamed cells name k = name_in_cells cells k ≢ name
 
 -- it stands at another place
 abbrev pub Elsewhere : Tagged → ℕ → Type 0
@@ -99,7 +99,7 @@ looking_first cells Other head v k t l a =
     let first : Among k (ids_from cells (Some v)) = rw (ids_at cells head v k t a) (inl refl) in
     l.rest k first
 
-pub looking_here : (cells : List Cell) (name : List ℕ) (head : Option Tagged) (v : Tagged) (k : ℕ) → IsTable cells head → Looking cells (Unnamed cells name) head (Some v) → AtId cells v k → name_at cells k ≡ name → IsNamed cells head name v
+pub looking_here : (cells : List Cell) (name : List ℕ) (head : Option Tagged) (v : Tagged) (k : ℕ) → IsTable cells head → Looking cells (Unnamed cells name) head (Some v) → AtId cells v k → name_in_cells cells k ≡ name → IsNamed cells head name v
 looking_here cells name head v k t l a same = rw a.is record { interned = (refl, looking_first cells (Unnamed cells name) head v k t l a); name_is = same }
 
 pub looking_end : (cells : List Cell) (Other : ℕ → Type 0) (head : Option Tagged) → Looking cells Other head None → (k : ℕ) → Among k (ids_from cells head) → Other k
@@ -143,7 +143,7 @@ pub looking_id : (cells : List Cell) (Other : ℕ → Type 0) (head : Option Tag
 looking_id cells Other head v l = at_id cells (rank_of (Some v)) v l.place
 
 -- the name that was read
-pub name_here : (cells : List Cell) (v : Tagged) (k w : ℕ) (r : Option Tagged) (x : Tagged) → AtId cells v k → w ≡ get_or (words_of cells v) 0 0 → MatchOption r (6 < w % 16) (λ y. IsWordOf w y) → r ≡ Some x → name_at cells k ≡ bytes_of cells x
+pub name_here : (cells : List Cell) (v : Tagged) (k w : ℕ) (r : Option Tagged) (x : Tagged) → AtId cells v k → w ≡ get_or (words_of cells v) 0 0 → MatchOption r (6 < w % 16) (λ y. IsWordOf w y) → r ≡ Some x → name_in_cells cells k ≡ bytes_of cells x
 name_here cells v k w r x a e h is = ap (λ u. bytes_of cells (tagged_of u)) (sym (word_is cells v k 0 w a e)) ∙ ap (bytes_of cells) (held_some w x (sym (read_is w r h) ∙ is))
 
 -- the next identifier that was read

@@ -2,7 +2,7 @@
 use Rattle.std.proofs.Common.{◌≡◌, ℕ, ◌+◌, ◌≤◌, true, List, [], ◌∷◌, length, arith, Option, Some, None, refl, sym, ap, ◌∙◌, inl, inr}
 use Rattle.std.specs.Prelude.{IsSome}
 use Rattle.rl_tags.specs.Tagged.{Tagged, IdAt, index_of, word_of}
-use Rattle.rl_cells.specs.Cell.{Cell, Store, StrCell, cost_of, cell_at, is_id_cell}
+use Rattle.rl_cells.specs.Cell.{Cell, CellStore, StrCell, cost_of, cell_at, is_id_cell}
 use Rattle.rl_cells.specs.Laws.{IsAdded}
 use Rattle.rl_syms.specs.Table.{IsChained, IsTable, IsNamed, IsFree, IsLink, ids_from, held_in, rank_of, nil_value}
 use Rattle.rl_syms.specs.Made.{new_id, with_id, IsOpening}
@@ -12,17 +12,17 @@ use Rattle.rl_syms.proofs.Chained.{within}
 use Rattle.rl_syms.proofs.Carried.{chained_loose, chained_new, ids_new, among_along, among_id, name_carried, named_stays}
 use Rattle.rl_syms.proofs.New.{adds_carries, with_id_adds, with_id_new}
 
-pub made_adds : IsAdded → (old new : Store) (name : List ℕ) (plist : Tagged) (next : Option Tagged) → new ≡ with_id old name plist next → Adds old.cells new.cells
+pub made_adds : IsAdded → (old new : CellStore) (name : List ℕ) (plist : Tagged) (next : Option Tagged) → new ≡ with_id old name plist next → Adds old.cells new.cells
 made_adds law old new name plist next made = rw made (with_id_adds law old name plist next)
 
 -- the table with a new identifier on the chain
-pub entered_chained : IsAdded → (old new : Store) (head : Option Tagged) (name : List ℕ) (plist id : Tagged) → 1 ≤ length name → length name ≤ 255 → IsSome (held_in (word_of plist)) → IsChained old.cells head → IsFree old.cells head name
+pub entered_chained : IsAdded → (old new : CellStore) (head : Option Tagged) (name : List ℕ) (plist id : Tagged) → 1 ≤ length name → length name ≤ 255 → IsSome (held_in (word_of plist)) → IsChained old.cells head → IsFree old.cells head name
     → new ≡ with_id old name plist head → id ≡ new_id old name → IsChained new.cells (Some id)
 entered_chained law old new head name plist id some short listed t free made is =
     rw (made, is) (chained_new old.cells (with_id old name plist head).cells head name (length old.cells + cost_of (StrCell name))
     (adds_carries old.cells (with_id old name plist head).cells (with_id_adds law old name plist head)) (with_id_new law old name plist head some short listed t.first) free t)
 
-pub entered_named : IsAdded → (old new : Store) (head : Option Tagged) (name : List ℕ) (plist id : Tagged) → 1 ≤ length name → length name ≤ 255 → IsSome (held_in (word_of plist)) → IsChained old.cells head
+pub entered_named : IsAdded → (old new : CellStore) (head : Option Tagged) (name : List ℕ) (plist id : Tagged) → 1 ≤ length name → length name ≤ 255 → IsSome (held_in (word_of plist)) → IsChained old.cells head
     → new ≡ with_id old name plist head → id ≡ new_id old name → IsNamed new.cells (Some id) name id
 entered_named law old new head name plist id some short listed t made is =
     let n = length old.cells + cost_of (StrCell name) in
@@ -32,28 +32,28 @@ entered_named law old new head name plist id some short listed t made is =
     rw (made, is) record { interned = (refl, among_along n (n ∷ ids_from old.cells head) (ids_from fresh (Some (IdAt n))) (sym ids) (inl refl)); name_is = i.name_is }
 
 -- the table with a new identifier beside the chain
-pub loose_chained : IsAdded → (old new : Store) (head next : Option Tagged) (name : List ℕ) (plist : Tagged) → 1 ≤ length name → length name ≤ 255 → IsSome (held_in (word_of plist)) → IsChained old.cells head → IsLink old.cells (rank_of next) next
+pub loose_chained : IsAdded → (old new : CellStore) (head next : Option Tagged) (name : List ℕ) (plist : Tagged) → 1 ≤ length name → length name ≤ 255 → IsSome (held_in (word_of plist)) → IsChained old.cells head → IsLink old.cells (rank_of next) next
     → new ≡ with_id old name plist next → IsChained new.cells head
 loose_chained law old new head next name plist some short listed t link made =
     rw made (chained_loose old.cells (with_id old name plist next).cells head next name (length old.cells + cost_of (StrCell name))
     (adds_carries old.cells (with_id old name plist next).cells (with_id_adds law old name plist next)) (with_id_new law old name plist next some short listed link) link t)
 
 -- with NIL
-pub entered_table : IsAdded → (old new : Store) (head : Option Tagged) (name : List ℕ) (id : Tagged) → 1 ≤ length name → length name ≤ 255 → IsTable old.cells head → IsFree old.cells head name
+pub entered_table : IsAdded → (old new : CellStore) (head : Option Tagged) (name : List ℕ) (id : Tagged) → 1 ≤ length name → length name ≤ 255 → IsTable old.cells head → IsFree old.cells head name
     → new ≡ with_id old name nil_value head → id ≡ new_id old name → IsTable new.cells (Some id)
 entered_table law old new head name id some short t free made is = record {
   chained = entered_chained law old new head name nil_value id some short refl t.chained free made is;
   nil = (made_adds law old new name nil_value head made).live nil_value t.nil;
 }
 
-pub loose_table : IsAdded → (old new : Store) (head : Option Tagged) (name : List ℕ) → 1 ≤ length name → length name ≤ 255 → IsTable old.cells head → new ≡ with_id old name nil_value None → IsTable new.cells head
+pub loose_table : IsAdded → (old new : CellStore) (head : Option Tagged) (name : List ℕ) → 1 ≤ length name → length name ≤ 255 → IsTable old.cells head → new ≡ with_id old name nil_value None → IsTable new.cells head
 loose_table law old new head name some short t made = record {
   chained = loose_chained law old new head None name nil_value some short refl t.chained tt made;
   nil = (made_adds law old new name nil_value None made).live nil_value t.nil;
 }
 
 -- names that were interned stay so
-pub entered_keeps : IsAdded → (old new : Store) (head : Option Tagged) (name : List ℕ) (plist id : Tagged) → 1 ≤ length name → length name ≤ 255 → IsSome (held_in (word_of plist)) → IsChained old.cells head
+pub entered_keeps : IsAdded → (old new : CellStore) (head : Option Tagged) (name : List ℕ) (plist id : Tagged) → 1 ≤ length name → length name ≤ 255 → IsSome (held_in (word_of plist)) → IsChained old.cells head
     → new ≡ with_id old name plist head → id ≡ new_id old name → (bytes : List ℕ) (other : Tagged) → IsNamed old.cells head bytes other → IsNamed new.cells (Some id) bytes other
 entered_keeps law old new head name plist id some short listed t made is bytes other h =
     let n = length old.cells + cost_of (StrCell name) in
@@ -67,7 +67,7 @@ entered_keeps law old new head name plist id some short listed t made is bytes o
       name_is = name_carried old.cells fresh head k c t (among_id old.cells head k t h.interned.1) ∙ h.name_is;
     }
 
-pub loose_keeps : IsAdded → (old new : Store) (head : Option Tagged) (name : List ℕ) (plist : Tagged) (next : Option Tagged) → IsChained old.cells head → new ≡ with_id old name plist next
+pub loose_keeps : IsAdded → (old new : CellStore) (head : Option Tagged) (name : List ℕ) (plist : Tagged) (next : Option Tagged) → IsChained old.cells head → new ≡ with_id old name plist next
     → (bytes : List ℕ) (other : Tagged) → IsNamed old.cells head bytes other → IsNamed new.cells head bytes other
 loose_keeps law old new head name plist next t made bytes other h =
     rw made (named_stays old.cells (with_id old name plist next).cells head bytes other (adds_carries old.cells (with_id old name plist next).cells (with_id_adds law old name plist next)) t h)
@@ -84,7 +84,7 @@ entered_gains law s head name some short t free =
       adds = with_id_adds law s name nil_value head;
     }
 
-pub entered_opening : (old new : Store) (name : List ℕ) (plist : Tagged) (next : Option Tagged) → new ≡ with_id old name plist next → (bound : ℕ) → IsOpening old bound → IsOpening new bound
+pub entered_opening : (old new : CellStore) (name : List ℕ) (plist : Tagged) (next : Option Tagged) → new ≡ with_id old name plist next → (bound : ℕ) → IsOpening old bound → IsOpening new bound
 entered_opening old new name plist next made bound o = rw made record {
   count = rw (o.count, o.mark) refl;
   mark = o.mark;

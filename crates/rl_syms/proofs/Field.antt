@@ -8,7 +8,7 @@ use Rattle.rl_tags.specs.declared.Tag.TheVariants as tag
 use Rattle.rl_cells.specs.Cell.{Cell, PairCell, StrCell, VectorCell, BigCell, BlockCell, More, cell_at, changed_at, block_with, is_block, is_id_cell, is_str, is_str_cell, is_live, words_in, words_of, bytes_of, bytes_in}
 use Rattle.rl_cells.specs.Laws.{IsChanged, SameKind}
 use Rattle.rl_tree.specs.declared.held.Kind.{Kind}
-use Rattle.rl_syms.specs.Table.{IsTable, IsNamed, is_id, held_in, word_in, nil_value, symbol_at, symbol_of, kind_in, var_kind_in, of_kind}
+use Rattle.rl_syms.specs.Table.{IsTable, IsNamed, is_id, held_in, word_in, nil_value, symbol_in_cells, symbol_of, kind_in_word, var_kind_in, of_kind}
 use Rattle.rl_syms.proofs.Chained.{AtId, within}
 use Rattle.rl_syms.proofs.Carried.{Carries, chained_same, named_stays}
 
@@ -153,19 +153,19 @@ list_six (a ∷ b ∷ c ∷ d ∷ e ∷ f ∷ g ∷ ws) h = absurd (omega arith)
 
 -- the definition is taken away
 pub undefined : (old new : List Cell) (k w : ℕ) → length (words_in (cell_at old k)) ≡ 6 → words_in (cell_at new k) ≡ set (words_in (cell_at old k)) 3 w → held_in w ≡ None
-    → symbol_at new k ≡ record (symbol_at old k) { definition = None }
+    → symbol_in_cells new k ≡ record (symbol_in_cells old k) { definition = None }
 undefined old new k w six words none =
     let ws = words_in (cell_at old k) in
     let is = list_six ws six in
-    ap symbol_of words ∙ ap (λ xs. symbol_of (set xs 3 w)) is ∙ ap (λ h. record (symbol_at old k) { definition = of_kind (kind_in (get_or ws 4 0)) h }) none
+    ap symbol_of words ∙ ap (λ xs. symbol_of (set xs 3 w)) is ∙ ap (λ h. record (symbol_in_cells old k) { definition = of_kind (kind_in_word (get_or ws 4 0)) h }) none
 
 -- the definition is set, and the declared kind stays
 pub defined : (old mid new : List Cell) (k x y : ℕ) (kind : Kind) (f : Tagged) → length (words_in (cell_at old k)) ≡ 6 → words_in (cell_at mid k) ≡ set (words_in (cell_at old k)) 4 x → words_in (cell_at new k) ≡ set (words_in (cell_at mid k)) 3 y
-    → kind_in x ≡ kind → var_kind_in x ≡ var_kind_in (word_in old k 4) → held_in y ≡ Some f → symbol_at new k ≡ record (symbol_at old k) { definition = Some (kind, f) }
+    → kind_in_word x ≡ kind → var_kind_in x ≡ var_kind_in (word_in old k 4) → held_in y ≡ Some f → symbol_in_cells new k ≡ record (symbol_in_cells old k) { definition = Some (kind, f) }
 defined old mid new k x y kind f six first second kind_is declared pointer =
     let ws = words_in (cell_at old k) in
     let is = list_six ws six in
     ap symbol_of second ∙ ap (λ xs. symbol_of (set xs 3 y)) first ∙ ap (λ xs. symbol_of (set (set xs 4 x) 3 y)) is
-    ∙ ap (λ v. record (symbol_at old k) { definition = of_kind (kind_in x) (held_in y); kind = v }) declared
-    ∙ ap (λ c. record (symbol_at old k) { definition = of_kind c (held_in y) }) kind_is
-    ∙ ap (λ h. record (symbol_at old k) { definition = of_kind kind h }) pointer
+    ∙ ap (λ v. record (symbol_in_cells old k) { definition = of_kind (kind_in_word x) (held_in y); kind = v }) declared
+    ∙ ap (λ c. record (symbol_in_cells old k) { definition = of_kind c (held_in y) }) kind_is
+    ∙ ap (λ h. record (symbol_in_cells old k) { definition = of_kind kind h }) pointer

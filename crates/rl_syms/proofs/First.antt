@@ -6,7 +6,7 @@ use Rattle.std.proofs.lemmas.Bool.Decides.{nat_tests}
 use Rattle.rl_tags.specs.Tagged.{Tagged, IdAt, StrAt, index_of, word_of}
 use Rattle.rl_tags.specs.Opening.{place_of, name_at as opening_name_at}
 use Rattle.rl_tags.specs.declared.Tag.TheVariants as tag
-use Rattle.rl_cells.specs.Cell.{Cell, Store, StrCell, BlockCell, More, cell_at, cost_of, placed, grown, has_room, changed_at, block_with}
+use Rattle.rl_cells.specs.Cell.{Cell, CellStore, StrCell, BlockCell, More, cell_at, cost_of, placed, grown, has_room, changed_at, block_with}
 use Rattle.rl_cells.specs.Laws.{IsAdded}
 use Rattle.rl_syms.specs.Table.{IsChained, IsTable, IsNamed, nil_value}
 use Rattle.rl_syms.specs.Made.{Finds, Enters, IsOpening, id_cost, new_id, new_words, with_id}
@@ -18,24 +18,24 @@ use Rattle.rl_syms.proofs.Entered.{chained_empty, entered_chained, entered_named
 use Rattle.rl_syms.proofs.Blank.{entered_known, opened_none, opened_new}
 
 -- in opening there is room up to 65536 cells
-pub room_left : (s : Store) (bound n : ℕ) → IsOpening s bound → length s.cells + n ≤ 65536 → has_room s n ≡ true
+pub room_left : (s : CellStore) (bound n : ℕ) → IsOpening s bound → length s.cells + n ≤ 65536 → has_room s n ≡ true
 room_left s bound n o l = rw (o.count, o.mark) (fits (length s.cells + n) l)
   where
     fits : (m : ℕ) → m ≤ 65536 → nat_le m 65536 ≡ true
     fits m h = grind (arith, nat_tests)
 
 -- the cells that a new identifier takes
-length_new : (s : Store) (name : List ℕ) (plist : Tagged) (next : Option Tagged) → length (with_id s name plist next).cells ≡ length s.cells + id_cost name
+length_new : (s : CellStore) (name : List ℕ) (plist : Tagged) (next : Option Tagged) → length (with_id s name plist next).cells ≡ length s.cells + id_cost name
 length_new s name plist next =
     let text = length-replicate (cost_of (StrCell name) - 1) More in
     let block = placed (BlockCell tag.Id (new_words (StrAt (length s.cells)) plist next)) in
     omega (arith, text, length-append (s.cells ++ placed (StrCell name)) block, length-append s.cells (placed (StrCell name)))
 
 -- a name of 1 to 16 bytes takes five
-pub length_interned : (old new : Store) (head top : Option Tagged) (name : List ℕ) (id : Tagged) → length name ≤ 16 → Finds old new head top name id ⊎ Enters old new head top name id → length new.cells ≤ length old.cells + 5
-length_interned old new head top name id short (inl f) = let same : length new.cells ≡ length old.cells = ap (λ (s : Store). length s.cells) f.cells in omega arith
+pub length_interned : (old new : CellStore) (head top : Option Tagged) (name : List ℕ) (id : Tagged) → length name ≤ 16 → Finds old new head top name id ⊎ Enters old new head top name id → length new.cells ≤ length old.cells + 5
+length_interned old new head top name id short (inl f) = let same : length new.cells ≡ length old.cells = ap (λ (s : CellStore). length s.cells) f.cells in omega arith
 length_interned old new head top name id short (inr e) =
-    let long : length new.cells ≡ length old.cells + id_cost name = ap (λ (s : Store). length s.cells) e.cells ∙ length_new old name nil_value head in omega arith
+    let long : length new.cells ≡ length old.cells + id_cost name = ap (λ (s : CellStore). length s.cells) e.cells ∙ length_new old name nil_value head in omega arith
 
 pub first_none : (cells : List Cell) → cells ≡ [] → HasFirst 0 cells None
 first_none cells empty = rw empty record {
@@ -45,7 +45,7 @@ first_none cells empty = rw empty record {
 }
 
 -- one more name stands at its place
-pub first_new : IsAdded → (n : ℕ) (old new : Store) (head : Option Tagged) (name : List ℕ) (id : Tagged) → n < 167 → name ≡ opening_name_at n → IsChained old.cells head → new ≡ with_id old name nil_value head → id ≡ new_id old name
+pub first_new : IsAdded → (n : ℕ) (old new : CellStore) (head : Option Tagged) (name : List ℕ) (id : Tagged) → n < 167 → name ≡ opening_name_at n → IsChained old.cells head → new ≡ with_id old name nil_value head → id ≡ new_id old name
     → HasFirst n old.cells head → HasFirst (n + 1) new.cells (Some id)
 first_new law n old new head name id l e t made is f =
     let some = name_some n name l e in
@@ -60,11 +60,11 @@ first_new law n old new head name id l e t made is f =
         | inl same ↦ (n, omega arith, same ∙ e)
         | inr was ↦ let o = f.only bytes other was in (o.0, omega (arith, o.1), o.2)
       ];
-      long = ap (λ (s : Store). length s.cells) made ∙ length_new old name nil_value head ∙ omega (arith, f.long);
+      long = ap (λ (s : CellStore). length s.cells) made ∙ length_new old name nil_value head ∙ omega (arith, f.long);
     }
 
 -- it was not interned yet
-pub first_next : IsAdded → (n : ℕ) (old new : Store) (head top : Option Tagged) (name : List ℕ) (id : Tagged) → n < 167 → name ≡ opening_name_at n → IsTable old.cells head → Finds old new head top name id ⊎ Enters old new head top name id
+pub first_next : IsAdded → (n : ℕ) (old new : CellStore) (head top : Option Tagged) (name : List ℕ) (id : Tagged) → n < 167 → name ≡ opening_name_at n → IsTable old.cells head → Finds old new head top name id ⊎ Enters old new head top name id
     → HasFirst n old.cells head → HasFirst (n + 1) new.cells top
 first_next law n old new head top name id l e t (inl found) f =
     let o = f.only name id found.named in
@@ -73,7 +73,7 @@ first_next law n old new head top name id l e t (inl found) f =
 first_next law n old new head top name id l e t (inr entered) f = rw entered.head (first_new law n old new head name id l e t.chained entered.cells entered.place f)
 
 -- the first identifier is then made its own property list
-pub nil_filled : IsAdded → (old mid new : Store) (name : List ℕ) (plist id : Tagged) (w : ℕ) → old.cells ≡ [] → name ≡ opening_name_at 0 → mid ≡ with_id old name plist None → id ≡ new_id old name → w ≡ word_of id
+pub nil_filled : IsAdded → (old mid new : CellStore) (name : List ℕ) (plist id : Tagged) (w : ℕ) → old.cells ≡ [] → name ≡ opening_name_at 0 → mid ≡ with_id old name plist None → id ≡ new_id old name → w ≡ word_of id
     → new ≡ record mid { cells = changed_at mid.cells id (block_with (cell_at mid.cells (index_of id)) 2 w) } → new ≡ with_id old (opening_name_at 0) nil_value None
 nil_filled law old mid new name plist id w empty e made is word changed =
     let text = grown old (StrCell name) in
@@ -88,17 +88,17 @@ nil_filled law old mid new name plist id w empty e made is word changed =
     ∙ ap (λ (bytes : List ℕ). with_id old bytes nil_value None) e
 
 -- NIL alone
-pub nil_first : IsAdded → (old new : Store) (id : Tagged) → old.cells ≡ [] → new ≡ with_id old (opening_name_at 0) nil_value None → id ≡ new_id old (opening_name_at 0) → HasFirst 1 new.cells (Some id)
+pub nil_first : IsAdded → (old new : CellStore) (id : Tagged) → old.cells ≡ [] → new ≡ with_id old (opening_name_at 0) nil_value None → id ≡ new_id old (opening_name_at 0) → HasFirst 1 new.cells (Some id)
 nil_first law old new id empty made is = first_new law 0 old new None (opening_name_at 0) id (omega arith) refl (chained_empty old.cells empty) made is (first_none old.cells empty)
 
-pub nil_table : IsAdded → (old new : Store) (id : Tagged) → old.cells ≡ [] → new ≡ with_id old (opening_name_at 0) nil_value None → id ≡ new_id old (opening_name_at 0) → IsTable new.cells (Some id)
+pub nil_table : IsAdded → (old new : CellStore) (id : Tagged) → old.cells ≡ [] → new ≡ with_id old (opening_name_at 0) nil_value None → id ≡ new_id old (opening_name_at 0) → IsTable new.cells (Some id)
 nil_table law old new id empty made is =
     let short = name_short 0 (opening_name_at 0) (omega arith) refl in
     let chained = entered_chained law old new None (opening_name_at 0) nil_value id (name_some 0 (opening_name_at 0) (omega arith) refl) (omega arith) refl (chained_empty old.cells empty) (record { other = λ k a. absurd a }) made is in
     let nil : IsNamed new.cells (Some id) (opening_name_at 0) nil_value = rw (← place_is 0 (omega arith)) ((nil_first law old new id empty made is).named 0 (omega arith)) in
     record { chained = chained; nil = among_id new.cells (Some id) 2 chained nil.interned.1 }
 
-pub nil_opened : IsAdded → (old new : Store) (id : Tagged) → old.cells ≡ [] → new ≡ with_id old (opening_name_at 0) nil_value None → id ≡ new_id old (opening_name_at 0) → IsOpened new.cells (Some id)
+pub nil_opened : IsAdded → (old new : CellStore) (id : Tagged) → old.cells ≡ [] → new ≡ with_id old (opening_name_at 0) nil_value None → id ≡ new_id old (opening_name_at 0) → IsOpened new.cells (Some id)
 nil_opened law old new id empty made is =
     let short = name_short 0 (opening_name_at 0) (omega arith) refl in
     opened_new law old new None (opening_name_at 0) id (name_some 0 (opening_name_at 0) (omega arith) refl) (omega arith) (chained_empty old.cells empty) made is (inl (0, omega arith, refl)) (opened_none old.cells empty)

@@ -4,7 +4,7 @@ use Rattle.std.proofs.lemmas.List.{get_or_append_left, get_or_past}
 use Rattle.rl_tags.specs.Tagged.{Tagged, Number, IdAt, StrAt, PairAt, VectorAt, BigAt, FunAt, tagged_of}
 use Rattle.rl_cells.specs.Cell.{Cell, PairCell, VectorCell, More, cell_at, placed, is_id_cell, is_str_cell, is_pair_cell, is_vector_cell, is_pair, is_vector, is_str, bytes_of, bytes_in, vector_in, vector_of, words_in, changed_at}
 use Rattle.rl_cells.specs.Laws.{IsAdded, IsChanged, SameKind}
-use Rattle.rl_syms.specs.Table.{IsTable, IsNamed, is_id, name_at}
+use Rattle.rl_syms.specs.Table.{IsTable, IsNamed, is_id, name_in_cells}
 use Rattle.rl_syms.specs.Frame.{KeepsBlocks, block_in}
 use Rattle.rl_syms.proofs.Carried.{among_id}
 use Rattle.rl_syms.proofs.Chained.{held_some}
@@ -37,7 +37,7 @@ made_leaves law cells c none = record {
   ];
 }
 
-pub name_stays : (cells more : List Cell) (head : Option Tagged) (k : ℕ) → IsTable cells head → is_id_cell (cell_at cells k) ≡ true → name_at (cells ++ more) k ≡ name_at cells k
+pub name_stays : (cells more : List Cell) (head : Option Tagged) (k : ℕ) → IsTable cells head → is_id_cell (cell_at cells k) ≡ true → name_in_cells (cells ++ more) k ≡ name_in_cells cells k
 name_stays cells more head k table h =
     let same : cell_at (cells ++ more) k ≡ cell_at cells k = get_or_append_left cells more More k (tested_inside is_id_cell refl cells k h) in
     let n = table.chained.named k h in

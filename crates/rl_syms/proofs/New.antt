@@ -5,9 +5,9 @@ use Rattle.std.proofs.lemmas.Bool.{cases_lt, cases_order}
 use Rattle.std.specs.Prelude.{IsSome}
 use Rattle.rl_tags.specs.Tagged.{Tagged, Number, IdAt, StrAt, PairAt, VectorAt, BigAt, FunAt, tagged_of, word_of}
 use Rattle.rl_tags.specs.declared.Tag.TheVariants as tag
-use Rattle.rl_cells.specs.Cell.{Cell, Store, StrCell, BlockCell, More, cell_at, cost_of, placed, is_id_cell, is_str, is_str_cell, is_live, words_in, bytes_of, bytes_in}
+use Rattle.rl_cells.specs.Cell.{Cell, CellStore, StrCell, BlockCell, More, cell_at, cost_of, placed, is_id_cell, is_str, is_str_cell, is_live, words_in, bytes_of, bytes_in}
 use Rattle.rl_cells.specs.Laws.{IsAdded}
-use Rattle.rl_syms.specs.Table.{IsLink, held_in, name_at, rank_of}
+use Rattle.rl_syms.specs.Table.{IsLink, held_in, name_in_cells, rank_of}
 use Rattle.rl_syms.specs.Made.{new_words, option_word, with_id}
 use Rattle.rl_syms.specs.Frame.{Adds}
 use Rattle.rl_syms.proofs.Chained.{within, ids_of}
@@ -84,7 +84,7 @@ link_live cells n v x p e = go x (rw e at p)
     go (IdAt k) q = q.1
     go y q = absurd q
 
-pub with_id_adds : IsAdded → (s : Store) (name : List ℕ) (plist : Tagged) (next : Option Tagged) → Adds s.cells (with_id s name plist next).cells
+pub with_id_adds : IsAdded → (s : CellStore) (name : List ℕ) (plist : Tagged) (next : Option Tagged) → Adds s.cells (with_id s name plist next).cells
 with_id_adds law s name plist next =
     let text = placed (StrCell name) in
     let block = placed (BlockCell tag.Id (new_words (StrAt (length s.cells)) plist next)) in
@@ -100,7 +100,7 @@ with_id_adds law s name plist next =
 not_id : (c d : Cell) → c ≡ d → is_id_cell d ≡ false → is_id_cell c ≡ true → ⊥
 not_id c d e f h = let z : true ≡ false = sym h ∙ ap is_id_cell e ∙ f in cc
 
-pub with_id_new : IsAdded → (s : Store) (name : List ℕ) (plist : Tagged) (next : Option Tagged) → 1 ≤ length name → length name ≤ 255 → IsSome (held_in (word_of plist)) → IsLink s.cells (rank_of next) next
+pub with_id_new : IsAdded → (s : CellStore) (name : List ℕ) (plist : Tagged) (next : Option Tagged) → 1 ≤ length name → length name ≤ 255 → IsSome (held_in (word_of plist)) → IsLink s.cells (rank_of next) next
     → IsNew s.cells (with_id s name plist next).cells next name (length s.cells + cost_of (StrCell name))
 with_id_new law s name plist next some short listed link =
     let words = new_words (StrAt (length s.cells)) plist next in
@@ -110,7 +110,7 @@ with_id_new law s name plist next some short listed link =
     let long : length first ≡ n = law.long s.cells (StrCell name) (omega arith) in
     let block : cell_at new n ≡ BlockCell tag.Id words = ap (cell_at new) (sym long) ∙ law.here first (BlockCell tag.Id words) in
     let text : cell_at new (length s.cells) ≡ StrCell name = law.stands first (placed (BlockCell tag.Id words)) (length s.cells) (omega (arith, long)) ∙ law.here s.cells (StrCell name) in
-    let name_is : name_at new n ≡ name = ap (λ c. bytes_of new (tagged_of (get_or (words_in c) 0 0))) block ∙ ap (bytes_of new) (tagged_str (length s.cells)) ∙ ap bytes_in text in
+    let name_is : name_in_cells new n ≡ name = ap (λ c. bytes_of new (tagged_of (get_or (words_in c) 0 0))) block ∙ ap (bytes_of new) (tagged_str (length s.cells)) ∙ ap bytes_in text in
     let adds = with_id_adds law s name plist next in
     record {
       id = ap is_id_cell block;

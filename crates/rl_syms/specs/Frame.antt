@@ -3,7 +3,7 @@ use Rattle.std.specs.Prelude.{◌≡◌, ◌≢◌, ℕ, ◌<◌, List, length, 
 use Rattle.rl_tags.specs.Tagged.{Tagged, index_of}
 use Rattle.rl_tags.specs.declared.Tag.{Tag}
 use Rattle.rl_cells.specs.Cell.{Cell, BlockCell, cell_at, is_live, is_str, bytes_of}
-use Rattle.rl_syms.specs.Table.{Symbol, symbol_at, is_id}
+use Rattle.rl_syms.specs.Table.{SymbolCells, symbol_in_cells, is_id}
 
 -- the block that begins at a cell
 abbrev pub block_in : Cell → Option (Tag × List ℕ)
@@ -23,8 +23,8 @@ pub record Adds (old new : List Cell) : Type 0 where
   pub stands : (k : ℕ) → k < length old → cell_at new k ≡ cell_at old k
 
 -- one identifier alone has changed, and is this now
-pub record Sets (old new : List Cell) (id : Tagged) (s : Symbol) : Type 0 where
+pub record Sets (old new : List Cell) (id : Tagged) (s : SymbolCells) : Type 0 where
   pub live : (v : Tagged) → is_live old v ≡ true → is_live new v ≡ true
   pub ids : (v : Tagged) → is_id old v ≡ true → is_id new v ≡ true
-  pub symbol : symbol_at new (index_of id) ≡ s
+  pub symbol : symbol_in_cells new (index_of id) ≡ s
   pub others : (k : ℕ) → k ≢ index_of id → cell_at new k ≡ cell_at old k

@@ -1,7 +1,7 @@
 -- The names that are made up: G and the number, of four digits at least.
 use Rattle.std.specs.Prelude.{◌≡◌, ℕ, zero, suc, ◌+◌, ◌-◌, ◌/◌, ◌%◌, ◌^◌, ◌<◌, ◌≤◌, min, true, false, List, [], ◌∷◌, ◌++◌, None}
 use Rattle.rl_tags.specs.Tagged.{Tagged}
-use Rattle.rl_cells.specs.Cell.{Store, has_room}
+use Rattle.rl_cells.specs.Cell.{CellStore, has_room}
 use Rattle.rl_syms.specs.Table.{nil_value}
 use Rattle.rl_syms.specs.Made.{id_cost, new_id, with_id}
 
@@ -27,7 +27,7 @@ abbrev pub next_number : ℕ → ℕ
 next_number n = min (n + 1) (2 ^ 64 - 1)
 
 -- the identifier with the n-th of these names is made; it is not interned
-pub record MakesGensym (old new : Store) (n : ℕ) (id : Tagged) : Type 0 where
+pub record MakesGensym (old new : CellStore) (n : ℕ) (id : Tagged) : Type 0 where
   pub name : List ℕ
   pub is_name : IsGensym name n
   pub room : has_room old (id_cost name) ≡ true
@@ -35,7 +35,7 @@ pub record MakesGensym (old new : Store) (n : ℕ) (id : Tagged) : Type 0 where
   pub cells : new ≡ with_id old name nil_value None
 
 -- there is no room for the identifier with the n-th of these names
-pub record LacksGensym (old : Store) (n : ℕ) : Type 0 where
+pub record LacksGensym (old : CellStore) (n : ℕ) : Type 0 where
   pub name : List ℕ
   pub is_name : IsGensym name n
   pub full : has_room old (id_cost name) ≡ false

@@ -2,10 +2,10 @@
 use Rattle.std.specs.Prelude.{◌≡◌, ℕ, ℤ, ◌<◌, ◌≤◌, true, List, ◌++◌, length, map, slice_get, slice_set, Option, Some, None}
 use Rattle.std.specs.List.{list_all}
 use Rattle.rl_tags.specs.Tagged.{Tagged, StrAt, PairAt, VectorAt, BigAt, index_of}
-use Rattle.rl_cells.specs.Cell.{Cell, Store, PairCell, StrCell, VectorCell, BigCell, IsClosed, is_live, is_id_cell, is_pair, is_vector, car_of, cdr_of, vector_of, cell_at, block_with, changed_at, placed}
+use Rattle.rl_cells.specs.Cell.{Cell, CellStore, PairCell, StrCell, VectorCell, BigCell, IsClosed, is_live, is_id_cell, is_pair, is_vector, car_of, cdr_of, vector_of, cell_at, block_with, changed_at, placed}
 use Rattle.rl_tree.specs.Value.{Int, Str, Ref, Object, Pair, Vector, new_value, cons_store, cons_value, vector_store, changed_store}
 use Rattle.rl_syms.specs.Contents.{object_count, number_at, value_of, store_of}
-use Rattle.rl_syms.specs.Table.{IsTable, IsNamed, IsFree, is_id, name_at, nil_value, symbol_at}
+use Rattle.rl_syms.specs.Table.{IsTable, IsNamed, IsFree, is_id, name_in_cells, nil_value, symbol_in_cells}
 use Rattle.rl_syms.specs.Made.{new_id, with_id}
 use Rattle.rl_syms.specs.Frame.{Adds, KeepsBlocks, block_in}
 
@@ -15,7 +15,7 @@ pub record IsKept : Type 0 where
   pub names : (old new : List Cell) (head : Option Tagged) (bytes : List ℕ) (id : Tagged) → KeepsBlocks old new → IsTable old head → IsNamed old head bytes id → IsNamed new head bytes id
   pub named_before : (old new : List Cell) (head : Option Tagged) (bytes : List ℕ) (id : Tagged) → KeepsBlocks old new → IsTable old head → IsNamed new head bytes id → IsNamed old head bytes id
   pub ids : (old new : List Cell) (v : Tagged) → KeepsBlocks old new → is_id new v ≡ is_id old v
-  pub symbols : (old new : List Cell) (k : ℕ) → KeepsBlocks old new → symbol_at new k ≡ symbol_at old k
+  pub symbols : (old new : List Cell) (k : ℕ) → KeepsBlocks old new → symbol_in_cells new k ≡ symbol_in_cells old k
 
 -- pairs, vectors, strings and wide integers leave identifiers and held functions as they were, where they are made and where they are changed
 pub record LeaveBlocks : Type 0 where
@@ -25,7 +25,7 @@ pub record LeaveBlocks : Type 0 where
 
 -- identifiers keep their names as objects are added
 abbrev pub KeepNames : Type 0
-KeepNames = (cells more : List Cell) (head : Option Tagged) (k : ℕ) → IsTable cells head → is_id_cell (cell_at cells k) ≡ true → name_at (cells ++ more) k ≡ name_at cells k
+KeepNames = (cells more : List Cell) (head : Option Tagged) (k : ℕ) → IsTable cells head → is_id_cell (cell_at cells k) ≡ true → name_in_cells (cells ++ more) k ≡ name_in_cells cells k
 
 -- what has a name is an identifier
 abbrev pub AreIdentifiers : Type 0
@@ -44,11 +44,11 @@ pub record GainsName (old new : List Cell) (before after : Option Tagged) (name 
 
 -- a new identifier before the others, with a name that none of them has, gives the table that name
 abbrev pub NamesEnter : Type 0
-NamesEnter = (s : Store) (head : Option Tagged) (name : List ℕ) → 1 ≤ length name → length name ≤ 255 → IsTable s.cells head → IsFree s.cells head name
+NamesEnter = (s : CellStore) (head : Option Tagged) (name : List ℕ) → 1 ≤ length name → length name ≤ 255 → IsTable s.cells head → IsFree s.cells head name
     → GainsName s.cells (with_id s name nil_value head).cells head (Some (new_id s name)) name (new_id s name)
 
 -- when an object is made, what lives means what it meant; a new pair or vector is the next object of the store, by a value that names it; a new string or wide integer means what it holds; and where neither a pair nor a vector is made, the store stays
-pub record IsMade : Type 0 where
+pub record MakesMeaning : Type 0 where
   pub values : (cells : List Cell) (c : Cell) (v : Tagged) → is_live cells v ≡ true → value_of (cells ++ placed c) v ≡ value_of cells v
   pub pair : (cells : List Cell) (a d : Tagged) → IsClosed cells → is_live cells a ≡ true → is_live cells d ≡ true → store_of (cells ++ placed (PairCell a d)) ≡ cons_store (store_of cells) (value_of cells a) (value_of cells d)
   pub pair_named : (cells : List Cell) (a d : Tagged) → value_of (cells ++ placed (PairCell a d)) (PairAt (length cells)) ≡ cons_value (store_of cells)
@@ -70,7 +70,7 @@ pub record ChangesObject (old new : List Cell) (r : ℕ) (object : Object) : Typ
   pub values : (v : Tagged) → value_of new v ≡ value_of old v
 
 -- a new car or cdr changes the pair that is named, and a new value at a place the vector; a new word of a block changes no object
-pub record IsChanged : Type 0 where
+pub record ChangesMeaning : Type 0 where
   pub car : (cells : List Cell) (p v : Tagged) → is_pair cells p ≡ true
       → ChangesObject cells (changed_at cells p (PairCell v (cdr_of cells p))) (number_at cells (index_of p)) (Pair (value_of cells v) (value_of cells (cdr_of cells p)))
   pub cdr : (cells : List Cell) (p v : Tagged) → is_pair cells p ≡ true

@@ -6,14 +6,14 @@ use Rattle.rl_tags.specs.declared.names.TheConstants.{OPENING_NAMES}
 use Rattle.rl_tree.specs.declared.held.VarKind.TheVariants.{Plain}
 use Rattle.rl_tags.specs.declared.Tag.TheVariants as tag
 use Rattle.rl_cells.specs.Cell.{Cell, StrCell, BlockCell, More, cell_at, is_id_cell}
-use Rattle.rl_syms.specs.Table.{IsNamed, Symbol, symbol_at, nil_value}
+use Rattle.rl_syms.specs.Table.{IsNamed, SymbolCells, symbol_in_cells, nil_value}
 
 -- a name that has a constant, or one of one byte
 abbrev pub IsOpeningName : List ℕ → Type 0
 IsOpeningName bytes = ((i : ℕ) × (i < OPENING_NAMES) × (bytes ≡ name_at i)) ⊎ ((b : ℕ) × (b < 256) × (bytes ≡ b ∷ []))
 
 -- neither value nor definition, NIL as the property list, and plain
-pub record IsBlank (s : Symbol) : Type 0 where
+pub record IsBlank (s : SymbolCells) : Type 0 where
   pub value : s.value ≡ None
   pub plist : s.plist ≡ nil_value
   pub definition : s.definition ≡ None
@@ -28,7 +28,7 @@ is_name_cell _ = false
 
 -- all identifiers are blank, those that are interned have these names, and there are no other objects than identifiers and strings
 pub record IsOpened (cells : List Cell) (head : Option Tagged) : Type 0 where
-  pub blank : (k : ℕ) → is_id_cell (cell_at cells k) ≡ true → IsBlank (symbol_at cells k)
+  pub blank : (k : ℕ) → is_id_cell (cell_at cells k) ≡ true → IsBlank (symbol_in_cells cells k)
   pub known : (bytes : List ℕ) (id : Tagged) → IsNamed cells head bytes id → IsOpeningName bytes
   pub objects : (k : ℕ) → is_name_cell (cell_at cells k) ≡ true
 

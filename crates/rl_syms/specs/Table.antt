@@ -13,8 +13,8 @@ abbrev pub held_in : ℕ → Option Tagged
 held_in w = cond (nat_le (w % 16) 6) (Some (tagged_of w)) None
 
 -- the two kinds in one word: that of the definition, and the declared one
-abbrev pub kind_in : ℕ → Kind
-kind_in w = cond (w / 64 == 0) Expr (cond (w / 64 == 1) Fexpr Macro)
+abbrev pub kind_in_word : ℕ → Kind
+kind_in_word w = cond (w / 64 == 0) Expr (cond (w / 64 == 1) Fexpr Macro)
 
 abbrev pub var_kind_in : ℕ → VarKind
 var_kind_in w = cond (w / 16 % 4 == 0) Plain (cond (w / 16 % 4 == 1) Fluid Global)
@@ -24,7 +24,7 @@ of_kind k None = None
 of_kind k (Some f) = Some (k, f)
 
 -- what an identifier has
-pub record Symbol : Type 0 where
+pub record SymbolCells : Type 0 where
   pub name : Tagged
   pub value : Option Tagged
   pub plist : Tagged
@@ -32,12 +32,12 @@ pub record Symbol : Type 0 where
   pub kind : VarKind
   pub next : Option Tagged
 
-abbrev pub symbol_of : List ℕ → Symbol
+abbrev pub symbol_of : List ℕ → SymbolCells
 symbol_of ws = record {
   name = tagged_of (slice_index ws 0);
   value = held_in (slice_index ws 1);
   plist = tagged_of (slice_index ws 2);
-  definition = of_kind (kind_in (slice_index ws 4)) (held_in (slice_index ws 3));
+  definition = of_kind (kind_in_word (slice_index ws 4)) (held_in (slice_index ws 3));
   kind = var_kind_in (slice_index ws 4);
   next = held_in (slice_index ws 5);
 }
@@ -46,14 +46,14 @@ abbrev pub word_in : List Cell → ℕ → ℕ → ℕ
 word_in cells k i = slice_index (words_in (cell_at cells k)) i
 
 -- the identifier at a place
-abbrev pub symbol_at : List Cell → ℕ → Symbol
-symbol_at cells k = symbol_of (words_in (cell_at cells k))
+abbrev pub symbol_in_cells : List Cell → ℕ → SymbolCells
+symbol_in_cells cells k = symbol_of (words_in (cell_at cells k))
 
-abbrev pub name_at : List Cell → ℕ → List ℕ
-name_at cells k = bytes_of cells (symbol_at cells k).name
+abbrev pub name_in_cells : List Cell → ℕ → List ℕ
+name_in_cells cells k = bytes_of cells (symbol_in_cells cells k).name
 
 abbrev pub next_at : List Cell → ℕ → Option Tagged
-next_at cells k = (symbol_at cells k).next
+next_at cells k = (symbol_in_cells cells k).next
 
 -- whether a value is an identifier of these cells
 abbrev pub is_id : List Cell → Tagged → Bool
@@ -96,11 +96,11 @@ pub record IsName (cells : List Cell) (v : Option Tagged) (bytes : List ℕ) : T
 -- each identifier has six words and a name, and is chained to an older one; names on the chain are distinct
 pub record IsChained (cells : List Cell) (head : Option Tagged) : Type 0 where
   pub six : (k : ℕ) → is_id_cell (cell_at cells k) ≡ true → length (words_in (cell_at cells k)) ≡ 6
-  pub named : (k : ℕ) → is_id_cell (cell_at cells k) ≡ true → IsName cells (held_in (slice_index (words_in (cell_at cells k)) 0)) (name_at cells k)
+  pub named : (k : ℕ) → is_id_cell (cell_at cells k) ≡ true → IsName cells (held_in (slice_index (words_in (cell_at cells k)) 0)) (name_in_cells cells k)
   pub listed : (k : ℕ) → is_id_cell (cell_at cells k) ≡ true → IsSome (held_in (slice_index (words_in (cell_at cells k)) 2))
   pub linked : (k : ℕ) → is_id_cell (cell_at cells k) ≡ true → IsLink cells k (next_at cells k)
   pub first : IsLink cells (rank_of head) head
-  pub distinct : (j k : ℕ) → Among j (ids_from cells head) → Among k (ids_from cells head) → name_at cells j ≡ name_at cells k → j ≡ k
+  pub distinct : (j k : ℕ) → Among j (ids_from cells head) → Among k (ids_from cells head) → name_in_cells cells j ≡ name_in_cells cells k → j ≡ k
 
 -- where NIL stands
 abbrev pub nil_value : Tagged
@@ -118,8 +118,8 @@ IsInterned cells head id = (id ≡ IdAt (index_of id)) × Among (index_of id) (i
 -- the interned identifier of this name
 pub record IsNamed (cells : List Cell) (head : Option Tagged) (name : List ℕ) (id : Tagged) : Type 0 where
   pub interned : IsInterned cells head id
-  pub name_is : name_at cells (index_of id) ≡ name
+  pub name_is : name_in_cells cells (index_of id) ≡ name
 
 -- no interned identifier has this name
 pub record IsFree (cells : List Cell) (head : Option Tagged) (name : List ℕ) : Type 0 where
-  pub other : (k : ℕ) → Among k (ids_from cells head) → name_at cells k ≢ name
+  pub other : (k : ℕ) → Among k (ids_from cells head) → name_in_cells cells k ≢ name

@@ -3,7 +3,7 @@ ghost use Rattle.std.specs.Prelude.{◌≡◌, ◌≢◌, ◌≤◌, ◌<◌, �
 ghost use Rattle.std.specs.Option.{ForSome};
 ghost use Rattle.rl_tags.specs.Tagged.{Tagged, index_of};
 ghost use Rattle.rl_cells.specs.Cell.{cell_at, is_live, is_live_word, is_str, bytes_of, words_in};
-ghost use Rattle.rl_syms.specs.Table.{IsTable, IsNamed, held_in, is_id, kind_in, var_kind_in, symbol_at, of_kind, word_in};
+ghost use Rattle.rl_syms.specs.Table.{IsTable, IsNamed, held_in, is_id, kind_in_word, var_kind_in, symbol_in_cells, of_kind, word_in};
 ghost use Rattle.rl_syms.specs.Frame.{Sets};
 
 use crate::Syms;
@@ -17,7 +17,7 @@ impl Syms {
     pub fn name(&self, c: &Cells, id: Val) -> Val
         requires table { IsTable c.now.cells self.now.head }
         requires id { IsTrue (is_id c.now.cells id) }
-        ensures name { result ≡ (symbol_at c.now.cells (index_of id)).name }
+        ensures name { result ≡ (symbol_in_cells c.now.cells (index_of id)).name }
         ensures string { IsTrue (is_str c.now.cells result) }
         ensures some { 1 ≤ length (bytes_of c.now.cells result) }
         ensures short { length (bytes_of c.now.cells result) ≤ 255 }
@@ -29,7 +29,7 @@ impl Syms {
     pub fn value(&self, c: &Cells, id: Val) -> Option<Val>
         requires table { IsTable c.now.cells self.now.head }
         requires id { IsTrue (is_id c.now.cells id) }
-        ensures value { result ≡ (symbol_at c.now.cells (index_of id)).value }
+        ensures value { result ≡ (symbol_in_cells c.now.cells (index_of id)).value }
         ensures live { ForSome result (λ v. IsTrue (is_live c.now.cells v)) }
     {
         self.held(c, id, 1)
@@ -39,7 +39,7 @@ impl Syms {
     pub fn plist(&self, c: &Cells, id: Val) -> Val
         requires table { IsTable c.now.cells self.now.head }
         requires id { IsTrue (is_id c.now.cells id) }
-        ensures plist { result ≡ (symbol_at c.now.cells (index_of id)).plist }
+        ensures plist { result ≡ (symbol_in_cells c.now.cells (index_of id)).plist }
         ensures live { IsTrue (is_live c.now.cells result) }
     {
         self.held(c, id, 2).unwrap()
@@ -49,7 +49,7 @@ impl Syms {
     pub fn function(&self, c: &Cells, id: Val) -> Option<(Kind, Val)>
         requires table { IsTable c.now.cells self.now.head }
         requires id { IsTrue (is_id c.now.cells id) }
-        ensures definition { result ≡ (symbol_at c.now.cells (index_of id)).definition }
+        ensures definition { result ≡ (symbol_in_cells c.now.cells (index_of id)).definition }
         ensures live { ForSome result (λ p. IsTrue (is_live c.now.cells p.1)) }
     {
         let kind = kind_of(self.word(c, id, 4));
@@ -63,7 +63,7 @@ impl Syms {
     pub fn kind(&self, c: &Cells, id: Val) -> VarKind
         requires table { IsTable c.now.cells self.now.head }
         requires id { IsTrue (is_id c.now.cells id) }
-        ensures { result ≡ (symbol_at c.now.cells (index_of id)).kind }
+        ensures { result ≡ (symbol_in_cells c.now.cells (index_of id)).kind }
     {
         var_kind_of(self.word(c, id, 4))
     }
@@ -73,7 +73,7 @@ impl Syms {
         requires table { IsTable c.old.cells self.old.head }
         requires id { IsTrue (is_id c.old.cells id) }
         requires live { ForSome v (λ x. IsTrue (is_live c.old.cells x)) }
-        ensures sets { Sets c.old.cells c.new.cells id (record (symbol_at c.old.cells (index_of id)) { value = v }) }
+        ensures sets { Sets c.old.cells c.new.cells id (record (symbol_in_cells c.old.cells (index_of id)) { value = v }) }
         ensures store { c.new ≡ record c.old { cells = c.new.cells } }
         ensures table { IsTable c.new.cells self.new.head }
         ensures keeps { (bytes : List ℕ) (other : Tagged) → IsNamed c.old.cells self.old.head bytes other → IsNamed c.new.cells self.new.head bytes other }
@@ -87,7 +87,7 @@ impl Syms {
         requires table { IsTable c.old.cells self.old.head }
         requires id { IsTrue (is_id c.old.cells id) }
         requires live { IsTrue (is_live c.old.cells v) }
-        ensures sets { Sets c.old.cells c.new.cells id (record (symbol_at c.old.cells (index_of id)) { plist = v }) }
+        ensures sets { Sets c.old.cells c.new.cells id (record (symbol_in_cells c.old.cells (index_of id)) { plist = v }) }
         ensures store { c.new ≡ record c.old { cells = c.new.cells } }
         ensures table { IsTable c.new.cells self.new.head }
         ensures keeps { (bytes : List ℕ) (other : Tagged) → IsNamed c.old.cells self.old.head bytes other → IsNamed c.new.cells self.new.head bytes other }
@@ -101,7 +101,7 @@ impl Syms {
         requires table { IsTable c.old.cells self.old.head }
         requires id { IsTrue (is_id c.old.cells id) }
         requires live { ForSome f (λ p. IsTrue (is_live c.old.cells p.1)) }
-        ensures sets { Sets c.old.cells c.new.cells id (record (symbol_at c.old.cells (index_of id)) { definition = f }) }
+        ensures sets { Sets c.old.cells c.new.cells id (record (symbol_in_cells c.old.cells (index_of id)) { definition = f }) }
         ensures store { c.new ≡ record c.old { cells = c.new.cells } }
         ensures table { IsTable c.new.cells self.new.head }
         ensures keeps { (bytes : List ℕ) (other : Tagged) → IsNamed c.old.cells self.old.head bytes other → IsNamed c.new.cells self.new.head bytes other }
@@ -117,7 +117,7 @@ impl Syms {
     pub fn set_kind(&mut self, c: &mut Cells, id: Val, k: VarKind)
         requires table { IsTable c.old.cells self.old.head }
         requires id { IsTrue (is_id c.old.cells id) }
-        ensures sets { Sets c.old.cells c.new.cells id (record (symbol_at c.old.cells (index_of id)) { kind = k }) }
+        ensures sets { Sets c.old.cells c.new.cells id (record (symbol_in_cells c.old.cells (index_of id)) { kind = k }) }
         ensures store { c.new ≡ record c.old { cells = c.new.cells } }
         ensures table { IsTable c.new.cells self.new.head }
         ensures keeps { (bytes : List ℕ) (other : Tagged) → IsNamed c.old.cells self.old.head bytes other → IsNamed c.new.cells self.new.head bytes other }
@@ -131,7 +131,7 @@ impl Syms {
         requires table { IsTable c.old.cells self.now.head }
         requires id { IsTrue (is_id c.old.cells id) }
         requires live { IsTrue (is_live c.old.cells pointer) }
-        ensures sets { Sets c.old.cells c.new.cells id (record (symbol_at c.old.cells (index_of id)) { definition = Some (kind, pointer) }) }
+        ensures sets { Sets c.old.cells c.new.cells id (record (symbol_in_cells c.old.cells (index_of id)) { definition = Some (kind, pointer) }) }
         ensures store { c.new ≡ record c.old { cells = c.new.cells } }
         ensures keeps { (bytes : List ℕ) (other : Tagged) → IsNamed c.old.cells self.now.head bytes other → IsNamed c.new.cells self.now.head bytes other }
         ensures table { IsTable c.new.cells self.now.head }
@@ -184,7 +184,7 @@ impl Syms {
 
 /// The kind of a definition, in the word of the two kinds.
 fn kind_of(word: u64) -> Kind
-    ensures { result ≡ kind_in word }
+    ensures { result ≡ kind_in_word word }
 {
     match word / 64 {
         0 => Kind::Expr,
@@ -206,7 +206,7 @@ fn var_kind_of(word: u64) -> VarKind
 
 /// The word of the two kinds. It is tagged as a small integer.
 fn kinds_word(kind: Kind, declared: VarKind) -> u64
-    ensures kind { kind_in result ≡ kind }
+    ensures kind { kind_in_word result ≡ kind }
     ensures declared { var_kind_in result ≡ declared }
     ensures number { result % 16 ≡ 0 }
 {

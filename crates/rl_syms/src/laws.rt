@@ -1,5 +1,5 @@
 //! Laws of the table, and of what cells mean. A law is the contract of a function that does nothing.
-ghost use Rattle.rl_syms.specs.Laws.{AreIdentifiers, IsChanged, IsDistinct, IsKept, IsMade, IsRead, KeepNames, LeaveBlocks, NamesEnter};
+ghost use Rattle.rl_syms.specs.Laws.{AreIdentifiers, ChangesMeaning, IsDistinct, IsKept, MakesMeaning, IsRead, KeepNames, LeaveBlocks, NamesEnter};
 
 use rl_cells::laws::{objects_are_added, objects_are_changed};
 
@@ -44,13 +44,13 @@ pub fn names_are_distinct()
 /// A new pair or vector of cells is what CONS or MKVECT makes of the store that they mean, a new string, wide
 /// integer or block leaves it, and what lives means what it meant.
 pub fn meaning_of_making()
-    ensures { IsMade }
+    ensures { MakesMeaning }
 {}
 
 /// A change of a pair or a vector is RPLACA, RPLACD or PUTV on the store that cells mean, a change of a block leaves it,
 /// and every value means what it meant.
 pub fn meaning_of_change()
-    ensures { IsChanged }
+    ensures { ChangesMeaning }
 {}
 
 /// A pair or a vector of cells refers to the object of its number in the store that they mean: the pair of what its car

@@ -3,7 +3,7 @@ use Rattle.std.proofs.Common.{◌≡◌, ◌≢◌, ℕ, zero, suc, ◌+◌, ◌
 use Rattle.std.specs.List.{list_all}
 use Rattle.std.proofs.lemmas.Bool.Decides.{nat_tests}
 use Rattle.std.proofs.lemmas.List.{get_or-map}
-use Rattle.rl_tags.specs.Opening.{Row, Plain, name_of, arguments_of, opening_rows, byte_names, names_at_opening, name_cells, place_in, place_of, native_in, native_at, arguments_at}
+use Rattle.rl_tags.specs.Opening.{Row, Plain, name_of, arguments_in_row, opening_rows, byte_names, names_at_opening, name_cells, place_in, place_of, native_in, native_at, arguments_at}
 
 -- an element's part stands in the list of the parts
 pub part_at : {X Y : Type 0} (part : X → Y) (xs : List X) (i : ℕ) (d : X) (e : Y) → i < length xs → part (get_or xs i d) ≡ get_or (map part xs) i e
@@ -37,7 +37,7 @@ unfolding opening_rows byte_names
 place_of-is i h =
     let p : place_in names_at_opening 0 i ≡ 0 + 5 * i + 2 = place_in-short names_at_opening 0 i refl h in p ∙ (omega arith)
 
-native_in-here : (rows : List Row) (from i place : ℕ) → list_all (λ row. is_short (name_of row)) rows ≡ true → i < length rows → place ≡ from + 5 * i + 2 → native_in rows from place ≡ arguments_of (slice_index_or rows i (Plain []))
+native_in-here : (rows : List Row) (from i place : ℕ) → list_all (λ row. is_short (name_of row)) rows ≡ true → i < length rows → place ≡ from + 5 * i + 2 → native_in rows from place ≡ arguments_in_row (slice_index_or rows i (Plain []))
 native_in-here [] from i place h k e = absurd (omega arith)
 native_in-here (row ∷ rows) from zero place h k e =
     let cells : name_cells (name_of row) ≡ 2 = short_cells (name_of row) (first_true _ _ h) in

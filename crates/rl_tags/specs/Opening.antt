@@ -12,9 +12,9 @@ abbrev pub name_of : Row → List ℕ
 name_of (Plain name) = name
 name_of (Native name n) = name
 
-abbrev pub arguments_of : Row → Option ℕ
-arguments_of (Plain name) = None
-arguments_of (Native name n) = Some n
+abbrev pub arguments_in_row : Row → Option ℕ
+arguments_in_row (Plain name) = None
+arguments_in_row (Native name n) = Some n
 
 -- The table: the system's variable and constants, the special forms, the kinds of functions, the natives, the functions
 -- of the prelude, and the variables and labels of its texts.
@@ -219,13 +219,13 @@ abbrev pub name_at : ℕ → List ℕ
 name_at i = slice_index_or opening_names i []
 
 abbrev pub arguments_at : ℕ → Option ℕ
-arguments_at i = arguments_of (slice_index_or opening_rows i (Plain []))
+arguments_at i = arguments_in_row (slice_index_or opening_rows i (Plain []))
 
 -- the number of arguments of the native at a place, where these rows are made one after the other from a cell on
 abbrev pub native_in : List Row → ℕ → ℕ → Option ℕ
 native_in [] from place = None
 native_in (row ∷ rows) from place =
-    cond (place == from + name_cells (name_of row)) (arguments_of row)
+    cond (place == from + name_cells (name_of row)) (arguments_in_row row)
     (native_in rows (from + name_cells (name_of row) + 3) place)
 
 abbrev pub native_at : ℕ → Option ℕ

@@ -8,20 +8,20 @@ use Rattle.rl_text.specs.Byte as byte
 use Rattle.rl_text.specs.Word.{Atom, Integer, Identifier, String, signed, datum_of_atom}
 use Rattle.rl_text.specs.Datum.{Datum, quoted}
 use Rattle.rl_text.specs.Gap.{comment_after, IsBlankText}
-use Rattle.rl_text.specs.Reader.{Begun, Going, Dotted, Shut, Frame, Listing, Vectoring, Quoting, Mode, Gap, Comment, InName, InEscape, AfterSign, InNumber, InText, AfterQuote, is_inner, admits, Ended, Whole, Inside, Lacks, left, value_ended, Step, Goes, Done, Refuses, Halts, goes_after, begins, open_list, close_list, dot, close_vector, at_mark, at_class, atom_ended, goes_before, atom_before, grown_to, in_number, step, Outcome, Read, NoneLeft, Refused, Stopped, ends_after, at_end, after_step, read_from, read_by}
+use Rattle.rl_text.specs.Reader.{Begun, Going, Dotted, Shut, ReaderFrame, Listing, Vectoring, Quoting, Mode, Gap, Comment, InName, InEscape, AfterSign, InNumber, InText, AfterQuote, is_inner, admits, Ended, Whole, Inside, Lacks, left, value_ended, ReaderStep, Goes, Done, Refuses, Halts, goes_after, group_begins, open_list, close_list, dot, close_vector, at_mark, at_class, atom_ended, goes_before, atom_before, grown_to, in_number, reader_step, ReaderOutcome, Read, NoneLeft, Refused, Stopped, ends_after, at_end, after_step, read_from, read_by}
 use Rattle.rl_text.specs.Reading.{Items, plain, NoText, reading, reading_of}
 use Rattle.rl_text.proofs.Classed.{IsOf, class_says, blank_classed, percent_classed}
 
 -- ---- where nothing is read
 
 -- nothing but blanks and comments, where nothing has begun
-abbrev Quiet : Mode → List (Frame Items) → List ℕ → Type 0
+abbrev Quiet : Mode → List (ReaderFrame Items) → List ℕ → Type 0
 Quiet Gap [] bytes = IsSome (comment_after false bytes)
 Quiet Comment [] bytes = IsSome (comment_after true bytes)
 Quiet mode fs bytes = ⊥
 
 -- a step after which nothing is read
-abbrev QuietStep : List ℕ → Step (Unit {0}) Datum Items ⊥ → Type 0
+abbrev QuietStep : List ℕ → ReaderStep (Unit {0}) Datum Items ⊥ → Type 0
 QuietStep bs (Goes mode fs s) = Quiet mode fs bs
 QuietStep bs (Done v used s) = ⊥
 QuietStep bs (Refuses s) = ⊥
@@ -33,7 +33,7 @@ IsLoud (Inside [] s) = ⊥
 IsLoud _ = Unit {0}
 
 -- each element ends so
-ended_is_loud : (fs : List (Frame Items)) (v : Datum) (s : Unit {0}) → IsLoud (value_ended plain v fs s)
+ended_is_loud : (fs : List (ReaderFrame Items)) (v : Datum) (s : Unit {0}) → IsLoud (value_ended plain v fs s)
 ended_is_loud [] v s = tt
 ended_is_loud (Quoting ∷ fs) v s = ended_is_loud fs (quoted v) (left plain fs s)
 ended_is_loud (Vectoring l ∷ fs) v s = tt
@@ -50,20 +50,20 @@ after_loud bs (Inside (f ∷ fs) s) loud q = q
 after_loud bs (Lacks w s) loud q = q
 
 -- no silence follows a test where none follows on either side
-if_loud : (bs : List ℕ) (c : Bool) (x y : Step (Unit {0}) Datum Items ⊥) → (QuietStep bs x → ⊥) → (QuietStep bs y → ⊥) → QuietStep bs (if c then x else y) → ⊥
+if_loud : (bs : List ℕ) (c : Bool) (x y : ReaderStep (Unit {0}) Datum Items ⊥) → (QuietStep bs x → ⊥) → (QuietStep bs y → ⊥) → QuietStep bs (if c then x else y) → ⊥
 if_loud bs c x y p q = cond_both c x y (λ st. QuietStep bs st → ⊥) (λ e. p) (λ e. q)
 
 -- nor a list, a vector or a quote that begins
-begins_loud : (bs : List ℕ) (frame : Frame Items) (fs : List (Frame Items)) (s : Unit {0}) → QuietStep bs (begins plain frame fs s) → ⊥
+begins_loud : (bs : List ℕ) (frame : ReaderFrame Items) (fs : List (ReaderFrame Items)) (s : Unit {0}) → QuietStep bs (group_begins plain frame fs s) → ⊥
 begins_loud bs frame fs s = if_loud bs (is_inner fs) (Goes Gap (frame ∷ fs) s) (Goes Gap (frame ∷ fs) s) (λ q. q) (λ q. q)
 
 -- nor `(`
-open_loud : (bs : List ℕ) (fs : List (Frame Items)) (s : Unit {0}) → QuietStep bs (open_list plain fs s) → ⊥
+open_loud : (bs : List ℕ) (fs : List (ReaderFrame Items)) (s : Unit {0}) → QuietStep bs (open_list plain fs s) → ⊥
 open_loud bs (Listing l n Dotted ∷ fs) s q = q
 open_loud bs fs s q = begins_loud bs (Listing plain.empty 0 Begun) fs s q
 
 -- nor `)`
-close_loud : (bs : List ℕ) (fs : List (Frame Items)) (s : Unit {0}) → QuietStep bs (close_list plain fs s) → ⊥
+close_loud : (bs : List ℕ) (fs : List (ReaderFrame Items)) (s : Unit {0}) → QuietStep bs (close_list plain fs s) → ⊥
 close_loud bs (Listing l zero Begun ∷ fs) s q = after_loud bs _ (ended_is_loud fs _ _) q
 close_loud bs (Listing l zero Going ∷ fs) s q = after_loud bs _ (ended_is_loud fs _ _) q
 close_loud bs (Listing l zero Shut ∷ fs) s q = after_loud bs _ (ended_is_loud fs _ _) q
@@ -73,23 +73,23 @@ close_loud bs (Listing l (suc n) Shut ∷ fs) s q = q
 close_loud bs _ s q = q
 
 -- nor `]`
-close_vector_loud : (bs : List ℕ) (fs : List (Frame Items)) (s : Unit {0}) → QuietStep bs (close_vector plain fs s) → ⊥
+close_vector_loud : (bs : List ℕ) (fs : List (ReaderFrame Items)) (s : Unit {0}) → QuietStep bs (close_vector plain fs s) → ⊥
 close_vector_loud bs (Vectoring l ∷ fs) s q = after_loud bs _ (ended_is_loud fs _ _) q
 close_vector_loud bs _ s q = q
 
 -- nor `.`
-dot_loud : (bs : List ℕ) (fs : List (Frame Items)) (s : Unit {0}) → QuietStep bs (dot plain fs s) → ⊥
+dot_loud : (bs : List ℕ) (fs : List (ReaderFrame Items)) (s : Unit {0}) → QuietStep bs (dot plain fs s) → ⊥
 dot_loud bs (Listing l n Going ∷ fs) s q = q
 dot_loud bs _ s q = q
 
 -- nor any mark
-mark_loud : (bs : List ℕ) (mark : Mark) (fs : List (Frame Items)) (s : Unit {0}) → QuietStep bs (at_mark plain mark fs s) → ⊥
+mark_loud : (bs : List ℕ) (mark : Mark) (fs : List (ReaderFrame Items)) (s : Unit {0}) → QuietStep bs (at_mark plain mark fs s) → ⊥
 mark_loud bs Close fs s = close_loud bs fs s
 mark_loud bs CloseVector fs s = close_vector_loud bs fs s
 mark_loud bs Dot fs s = dot_loud bs fs s
 mark_loud bs Open fs s = if_loud bs (admits fs) (open_list plain fs s) (Refuses s) (open_loud bs fs s) (λ q. q)
-mark_loud bs OpenVector fs s = if_loud bs (admits fs) (begins plain (Vectoring plain.empty) fs s) (Refuses s) (begins_loud bs (Vectoring plain.empty) fs s) (λ q. q)
-mark_loud bs Quote fs s = if_loud bs (admits fs) (begins plain Quoting fs s) (Refuses s) (begins_loud bs Quoting fs s) (λ q. q)
+mark_loud bs OpenVector fs s = if_loud bs (admits fs) (group_begins plain (Vectoring plain.empty) fs s) (Refuses s) (begins_loud bs (Vectoring plain.empty) fs s) (λ q. q)
+mark_loud bs Quote fs s = if_loud bs (admits fs) (group_begins plain Quoting fs s) (Refuses s) (begins_loud bs Quoting fs s) (λ q. q)
 
 -- a byte in a gap, by its class, where nothing has begun
 quiet_class : (c : Class) (b : ℕ) (bs : List ℕ) (s : Unit {0}) → IsOf c b → QuietStep bs (at_class plain c b [] s) → IsSome (comment_after false (b ∷ bs))
@@ -105,7 +105,7 @@ quiet_class Special b bs s is q = absurd q
 quiet_class Nothing b bs s is q = absurd q
 
 -- and where something has
-loud_class : (c : Class) (b : ℕ) (bs : List ℕ) (f : Frame Items) (fs : List (Frame Items)) (s : Unit {0}) → QuietStep bs (at_class plain c b (f ∷ fs) s) → ⊥
+loud_class : (c : Class) (b : ℕ) (bs : List ℕ) (f : ReaderFrame Items) (fs : List (ReaderFrame Items)) (s : Unit {0}) → QuietStep bs (at_class plain c b (f ∷ fs) s) → ⊥
 loud_class Blank b bs f fs s q = q
 loud_class Percent b bs f fs s q = q
 loud_class (Marks mark) b bs f fs s q = mark_loud bs mark (f ∷ fs) s q
@@ -125,19 +125,19 @@ before_loud b bs (Inside (f ∷ fs) s) loud q = loud_class (class_of b) b bs f f
 before_loud b bs (Lacks w s) loud q = q
 
 -- an atom ends before a byte
-atom_loud : (a : Atom) (b : ℕ) (bs : List ℕ) (fs : List (Frame Items)) (s : Unit {0}) → QuietStep bs (atom_before plain a b fs s) → ⊥
+atom_loud : (a : Atom) (b : ℕ) (bs : List ℕ) (fs : List (ReaderFrame Items)) (s : Unit {0}) → QuietStep bs (atom_before plain a b fs s) → ⊥
 atom_loud a b bs fs s = before_loud b bs (atom_ended plain a fs s) (ended_is_loud fs (datum_of_atom a) s)
 
 -- nor a name or a string that goes on
-grown_loud : (bs : List ℕ) (most : ℕ) (cs ds : List ℕ) (mode : List ℕ → Mode) (fs : List (Frame Items)) (s : Unit {0}) → (Quiet (mode ds) fs bs → ⊥) → QuietStep bs (grown_to most cs (mode ds) fs s) → ⊥
+grown_loud : (bs : List ℕ) (most : ℕ) (cs ds : List ℕ) (mode : List ℕ → Mode) (fs : List (ReaderFrame Items)) (s : Unit {0}) → (Quiet (mode ds) fs bs → ⊥) → QuietStep bs (grown_to most cs (mode ds) fs s) → ⊥
 grown_loud bs most cs ds mode fs s loud = if_loud bs (nat_lt (length cs) most) (Goes (mode ds) fs s) (Refuses s) loud (λ q. q)
 
 -- nor a number that goes on
-number_loud : (bs : List ℕ) (minus : Bool) (n : ℕ) (fs : List (Frame Items)) (s : Unit {0}) → QuietStep bs (in_number minus n fs s) → ⊥
+number_loud : (bs : List ℕ) (minus : Bool) (n : ℕ) (fs : List (ReaderFrame Items)) (s : Unit {0}) → QuietStep bs (in_number minus n fs s) → ⊥
 number_loud bs minus n fs s = if_loud bs (if minus then nat_le n (2 ^ 59) else nat_lt n (2 ^ 59)) (Goes (InNumber minus n) fs s) (Refuses s) (λ q. q) (λ q. q)
 
 -- a byte after which nothing is read
-quiet_step : (mode : Mode) (b : ℕ) (bs : List ℕ) (fs : List (Frame Items)) (s : Unit {0}) → QuietStep bs (step plain mode b fs s) → Quiet mode fs (b ∷ bs)
+quiet_step : (mode : Mode) (b : ℕ) (bs : List ℕ) (fs : List (ReaderFrame Items)) (s : Unit {0}) → QuietStep bs (reader_step plain mode b fs s) → Quiet mode fs (b ∷ bs)
 quiet_step Gap b bs [] s q = quiet_class (class_of b) b bs s (class_says b) q
 quiet_step Gap b bs (f ∷ fs) s q = loud_class (class_of b) b bs f fs s q
 quiet_step Comment b bs [] s q =
@@ -161,7 +161,7 @@ no_end (Inside fs s) t e = cc
 no_end (Lacks w s) t e = w
 
 -- the end of the text, where nothing is read
-quiet_end : (mode : Mode) (fs : List (Frame Items)) (s t : Unit {0}) → at_end plain mode fs s ≡ NoneLeft t → Quiet mode fs []
+quiet_end : (mode : Mode) (fs : List (ReaderFrame Items)) (s t : Unit {0}) → at_end plain mode fs s ≡ NoneLeft t → Quiet mode fs []
 quiet_end Gap [] s t e = refl
 quiet_end Gap (f ∷ fs) s t e = cc
 quiet_end Comment [] s t e = refl
@@ -174,19 +174,19 @@ quiet_end (InText cs) fs s t e = cc
 quiet_end (AfterQuote cs) fs s t e = no_end (atom_ended plain (String cs) fs s) t e
 
 -- where nothing is read after a step, the step is such
-step_is_quiet : (t : Unit {0}) (b : ℕ) (bs : List ℕ) → ((mode : Mode) (fs : List (Frame Items)) (s : Unit {0}) → read_from plain mode fs s bs ≡ NoneLeft t → Quiet mode fs bs) → (st : Step (Unit {0}) Datum Items ⊥) → after_step b bs st (λ mode fs s. read_from plain mode fs s bs) ≡ NoneLeft t → QuietStep bs st
+step_is_quiet : (t : Unit {0}) (b : ℕ) (bs : List ℕ) → ((mode : Mode) (fs : List (ReaderFrame Items)) (s : Unit {0}) → read_from plain mode fs s bs ≡ NoneLeft t → Quiet mode fs bs) → (st : ReaderStep (Unit {0}) Datum Items ⊥) → after_step b bs st (λ mode fs s. read_from plain mode fs s bs) ≡ NoneLeft t → QuietStep bs st
 step_is_quiet t b bs further (Goes mode fs s) e = further mode fs s e
 step_is_quiet t b bs further (Done v used s) e = cc
 step_is_quiet t b bs further (Refuses s) e = cc
 step_is_quiet t b bs further (Halts w s) e = w
 
 -- where nothing is left, nothing but blanks and comments was there
-none_left : (t : Unit {0}) (bytes : List ℕ) (mode : Mode) (fs : List (Frame Items)) (s : Unit {0}) → read_from plain mode fs s bytes ≡ NoneLeft t → Quiet mode fs bytes
+none_left : (t : Unit {0}) (bytes : List ℕ) (mode : Mode) (fs : List (ReaderFrame Items)) (s : Unit {0}) → read_from plain mode fs s bytes ≡ NoneLeft t → Quiet mode fs bytes
 none_left t [] mode fs s e = quiet_end mode fs s t e
-none_left t (b ∷ bs) mode fs s e = quiet_step mode b bs fs s (step_is_quiet t b bs (none_left t bs) (step plain mode b fs s) e)
+none_left t (b ∷ bs) mode fs s e = quiet_step mode b bs fs s (step_is_quiet t b bs (none_left t bs) (reader_step plain mode b fs s) e)
 
 -- where no text is found, nothing was left
-no_text : (bytes : List ℕ) (o : Outcome (Unit {0}) Datum ⊥) → reading_of bytes o ≡ NoText → o ≡ NoneLeft tt
+no_text : (bytes : List ℕ) (o : ReaderOutcome (Unit {0}) Datum ⊥) → reading_of bytes o ≡ NoText → o ≡ NoneLeft tt
 no_text bytes (Read v s rest) e = absurd cc
 no_text bytes (NoneLeft s) e = refl
 no_text bytes (Refused s from) e = absurd cc

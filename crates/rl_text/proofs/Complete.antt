@@ -4,8 +4,8 @@ use Rattle.std.proofs.lemmas.Bool.{cond-true, cond_both}
 use Rattle.std.proofs.lemmas.List.{append-nil}
 use Rattle.rl_text.specs.Byte.{Mark, Open, Close, Dot, Quote, OpenVector, CloseVector, Marks, mark_byte, class_of}
 use Rattle.rl_text.specs.Datum.{Datum, Elements, Pair, Vector, NoElements, Element, nil, listed, elements}
-use Rattle.rl_text.specs.Spelling.{Spelling, Atom, Quoted, Empty, Listed, Vectored, Rest, End, Dotted, Next, Places, Last, Place, datum_of, rest_datum, places_datum, Token, Sign, Spelled, tokens_of, rest_tokens, places_tokens, token_text, IsFront, AreTokens, IsSpelled}
-use Rattle.rl_text.specs.Reader.{Phase, Begun, Going, Shut, Frame, Listing, Vectoring, Quoting, Gap, is_inner, admits, Goes, begins, open_list, at_mark, Read, after_step, read_from, read_by}
+use Rattle.rl_text.specs.Spelling.{Spelling, Atom, Quoted, Empty, Listed, Vectored, Rest, End, Dotted, Next, Places, Last, Place, datum_of, rest_datum, places_datum, LispToken, Sign, Spelled, tokens_of, rest_tokens, places_tokens, token_text, IsFront, AreTokens, IsSpelled}
+use Rattle.rl_text.specs.Reader.{Phase, Begun, Going, Shut, ReaderFrame, Listing, Vectoring, Quoting, Gap, is_inner, admits, Goes, group_begins, open_list, at_mark, Read, after_step, read_from, read_by}
 use Rattle.rl_text.specs.Reading.{Items, plain, Found, reading_of, reading}
 use Rattle.rl_text.proofs.CompleteGaps.{Frames, PlainOutcome, from, ending, after_value, ended_after, by_class, gap_skipped}
 use Rattle.rl_text.proofs.CompleteWords.{word_read}
@@ -26,7 +26,7 @@ mark_class OpenVector = refl
 mark_class CloseVector = refl
 
 -- the gap before a token is skipped
-front_read : (token : Token) (bytes rest : List ℕ) (fs : Frames) → IsFront token bytes rest → from Gap fs bytes ≡ from Gap fs (token_text token ++ rest)
+front_read : (token : LispToken) (bytes rest : List ℕ) (fs : Frames) → IsFront token bytes rest → from Gap fs bytes ≡ from Gap fs (token_text token ++ rest)
 front_read token bytes rest fs front = ap (λ bytes. from Gap fs bytes) front.is ∙ gap_skipped fs front.gap (token_text token ++ rest) front.is_gap
 
 -- a gap and a mark are read by what the mark does
@@ -34,7 +34,7 @@ mark_read : (mark : Mark) (bytes rest : List ℕ) (fs : Frames) → IsFront (Sig
 mark_read mark bytes rest fs front = front_read (Sign mark) bytes rest fs front ∙ by_class (mark_byte mark) rest fs (Marks mark) (mark_class mark)
 
 -- what begins goes on the same, with a level or without
-begun : (frame : Frame Items) (fs : Frames) → begins plain frame fs tt ≡ Goes Gap (frame ∷ fs) tt
+begun : (frame : ReaderFrame Items) (fs : Frames) → group_begins plain frame fs tt ≡ Goes Gap (frame ∷ fs) tt
 begun frame fs = cond_both (is_inner fs) _ _ (λ taken. taken ≡ Goes Gap (frame ∷ fs) tt) (λ e. refl) (λ e. refl)
 
 -- a gap and `'` are read
@@ -84,7 +84,7 @@ tail_closed es t zero bytes rest fs front = mark_read Close bytes rest (Listing 
 tail_closed es t (suc n) bytes rest fs front = mark_read Close bytes rest (Listing (record { elements = []; tail = listed es t }) (suc n) Shut ∷ fs) front
 
 -- a list that stands behind no dot is one of its own
-own_list : (fs : Frames) → admits fs ≡ true → open_list plain fs tt ≡ begins plain (Listing (items []) 0 Begun) fs tt → Opening fs
+own_list : (fs : Frames) → admits fs ≡ true → open_list plain fs tt ≡ group_begins plain (Listing (items []) 0 Begun) fs tt → Opening fs
 own_list fs free own = record {
   list = items [];
   closers = 0;
@@ -137,18 +137,18 @@ placed_more (d ∷ es) e more = ap (λ more. Element d more) (placed_more es e m
 -- ---- spellings
 
 -- reading goes on behind some of the bytes, and these tokens are left
-record ReadsOn (start : PlainOutcome) (further : List ℕ → PlainOutcome) (tokens : List Token) (rest : List ℕ) : Type 0 where
+record ReadsOn (start : PlainOutcome) (further : List ℕ → PlainOutcome) (tokens : List LispToken) (rest : List ℕ) : Type 0 where
   middle : List ℕ
   read : start ≡ further middle
   left : AreTokens tokens middle rest
 
 -- the tokens of one, and then those of another, and then more
-parted : (some other more : List Token) (bytes rest : List ℕ) → AreTokens ((some ++ other) ++ more) bytes rest → AreTokens (some ++ (other ++ more)) bytes rest
+parted : (some other more : List LispToken) (bytes rest : List ℕ) → AreTokens ((some ++ other) ++ more) bytes rest → AreTokens (some ++ (other ++ more)) bytes rest
 parted some other more bytes rest are = subst (λ tokens. AreTokens tokens bytes rest) (append_assoc some other more) are
 
 mutual
   -- a spelling is read as its datum, where a spelling may stand
-  spelling_read : (e : Spelling) (fs : Frames) (more : List Token) (bytes rest : List ℕ) → admits fs ≡ true → AreTokens (tokens_of e ++ more) bytes rest → ReadsOn (from Gap fs bytes) (after_value (datum_of e) fs) more rest
+  spelling_read : (e : Spelling) (fs : Frames) (more : List LispToken) (bytes rest : List ℕ) → admits fs ≡ true → AreTokens (tokens_of e ++ more) bytes rest → ReadsOn (from Gap fs bytes) (after_value (datum_of e) fs) more rest
   spelling_read (Atom word) fs more bytes rest free are = record {
     middle = are.0;
     read = front_read (Spelled word) bytes are.0 fs are.1 ∙ word_read word are.0 fs free (are.1).token_is (are.1).ends;
@@ -175,7 +175,7 @@ mutual
       record { middle = inner.middle; read = vector_opened bytes are.0 fs free are.1 ∙ inner.read; left = inner.left }
 
   -- the rest of a list is read as what stands behind its elements
-  rest_read : (r : Rest) (es : List Datum) (n : ℕ) (fs : Frames) (more : List Token) (bytes rest : List ℕ) → AreTokens (rest_tokens r ++ more) bytes rest → ReadsOn (from Gap (Listing (items es) n Going ∷ fs) bytes) (after_list es (rest_datum r) n fs) more rest
+  rest_read : (r : Rest) (es : List Datum) (n : ℕ) (fs : Frames) (more : List LispToken) (bytes rest : List ℕ) → AreTokens (rest_tokens r ++ more) bytes rest → ReadsOn (from Gap (Listing (items es) n Going ∷ fs) bytes) (after_list es (rest_datum r) n fs) more rest
   rest_read End es n fs more bytes rest are = record { middle = are.0; read = list_closed es n bytes are.0 fs are.1; left = are.2 }
   rest_read (Dotted e) es n fs more bytes rest are =
       let inner = spelling_read e (Listing (items es) n Phase.Dotted ∷ fs) (Sign Close ∷ more) are.0 rest refl (parted (tokens_of e) (Sign Close ∷ []) more are.0 rest are.2) in
@@ -191,7 +191,7 @@ mutual
       record { middle = others.middle; read = inner.read ∙ others.read ∙ list_more es (datum_of e) (rest_datum r) n fs others.middle; left = others.left }
 
   -- the places of a vector are read as its elements
-  places_read : (places : Places) (es : List Datum) (fs : Frames) (more : List Token) (bytes rest : List ℕ) → AreTokens (places_tokens places ++ more) bytes rest → ReadsOn (from Gap (Vectoring (items es) ∷ fs) bytes) (after_value (Vector (placed es (places_datum places))) fs) more rest
+  places_read : (places : Places) (es : List Datum) (fs : Frames) (more : List LispToken) (bytes rest : List ℕ) → AreTokens (places_tokens places ++ more) bytes rest → ReadsOn (from Gap (Vectoring (items es) ∷ fs) bytes) (after_value (Vector (placed es (places_datum places))) fs) more rest
   places_read Last es fs more bytes rest are = record {
     middle = are.0;
     read = vector_closed es bytes are.0 fs are.1 ∙ ap (λ es. after_value (Vector es) fs are.0) (placed_none es);

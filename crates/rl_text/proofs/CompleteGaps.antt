@@ -5,13 +5,13 @@ use Rattle.rl_tree.specs.Bytes.{is_blank}
 use Rattle.rl_text.specs.Byte.{Class, Blank, Percent, class_of}
 use Rattle.rl_text.specs.Datum.{Datum, quoted}
 use Rattle.rl_text.specs.Gap.{comment_after}
-use Rattle.rl_text.specs.Reader.{Dotted, Frame, Listing, Vectoring, Quoting, Mode, Gap, Comment, Ended, Whole, Inside, Lacks, value_ended, goes_after, goes_before, at_class, Outcome, Read, Stopped, ends_after, after_step, read_from}
+use Rattle.rl_text.specs.Reader.{Dotted, ReaderFrame, Listing, Vectoring, Quoting, Mode, Gap, Comment, Ended, Whole, Inside, Lacks, value_ended, goes_after, goes_before, at_class, ReaderOutcome, Read, Stopped, ends_after, after_step, read_from}
 use Rattle.rl_text.specs.Reading.{Items, plain}
 use Rattle.rl_text.proofs.Classes.{blank_class}
 
 -- what has begun where data are made
 abbrev pub Frames : Type 0
-Frames = List (Frame Items)
+Frames = List (ReaderFrame Items)
 
 -- how an element ends where data are made
 abbrev pub PlainEnded : Type 0
@@ -19,7 +19,7 @@ PlainEnded = Ended (Unit {0}) Datum Items ⊥
 
 -- what is read where data are made
 abbrev pub PlainOutcome : Type 0
-PlainOutcome = Outcome (Unit {0}) Datum ⊥
+PlainOutcome = ReaderOutcome (Unit {0}) Datum ⊥
 
 -- reading goes on with these bytes
 abbrev pub from : Mode → Frames → List ℕ → PlainOutcome

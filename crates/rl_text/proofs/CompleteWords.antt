@@ -4,14 +4,14 @@ use Rattle.std.specs.List.{list_all, flat_map}
 use Rattle.std.proofs.lemmas.Bool.{cases_Bool, cond-true, cond-false, and_parts, or_parts}
 use Rattle.std.proofs.lemmas.List.{append-nil}
 use Rattle.rl_tree.specs.Bytes.{is_letter, is_digit, is_name_byte, raised}
-use Rattle.rl_tree.specs.Digits.{number_after, number_of}
+use Rattle.rl_tree.specs.Digits.{number_after, digits_number}
 use Rattle.rl_tree.specs.Atoms.{doubled}
 use Rattle.rl_text.specs.Byte.{is_sign, is_special, Class, Letter, Digit, Special, class_of}
 use Rattle.rl_text.specs.Byte as byte
 use Rattle.rl_text.specs.Datum.{Datum, Int, Id, Str}
-use Rattle.rl_text.specs.Word.{Character, Plain, Escaped, Sign, Unsigned, Plus, Minus, Word, Number, Named, Single, Text, character_text, word_text, is_minus, signed, character_of, atom_of, datum_of_atom, is_in_range, IsNumber, continues_name, IsNamed, IsWord}
+use Rattle.rl_text.specs.Word.{Character, Plain, Escaped, Sign, Unsigned, Plus, Minus, Word, Number, Named, Single, Text, character_text, word_text, is_minus, signed, character_of, atom_of, datum_of_atom, is_in_range, AreIntegerDigits, continues_name, AreNameCharacters, IsWord}
 use Rattle.rl_text.specs.Spelling.{Spelled, EndsBefore, longer_with}
-use Rattle.rl_text.specs.Reader.{Mode, Gap, InName, InEscape, AfterSign, InNumber, InText, AfterQuote, admits, Step, Goes, Refuses, goes_before, in_word, at_class, step, ends_after, at_end, after_step, read_from}
+use Rattle.rl_text.specs.Reader.{Mode, Gap, InName, InEscape, AfterSign, InNumber, InText, AfterQuote, admits, ReaderStep, Goes, Refuses, goes_before, in_word, at_class, reader_step, ends_after, at_end, after_step, read_from}
 use Rattle.rl_text.specs.Reading.{Items, plain}
 use Rattle.rl_text.proofs.Classes.{letter_class, digit_class, sign_class, special_class}
 use Rattle.rl_text.proofs.CompleteGaps.{Frames, PlainOutcome, from, ending, after_value, ended_before, ended_after, ended_at_end, by_class}
@@ -23,18 +23,18 @@ Ends test (b ∷ bs) = test b ≡ false
 
 -- what a byte does where data are made
 abbrev PlainStep : Type 0
-PlainStep = Step (Unit {0}) Datum Items ⊥
+PlainStep = ReaderStep (Unit {0}) Datum Items ⊥
 
 -- reading goes on behind a byte
 abbrev after_byte : ℕ → List ℕ → PlainStep → PlainOutcome
 after_byte b bs taken = after_step b bs taken (λ mode fs s. read_from plain mode fs s bs)
 
 -- a byte is taken, and reading goes on in a new mode
-taken : (mode new : Mode) (fs : Frames) (b : ℕ) (bs : List ℕ) → step plain mode b fs tt ≡ Goes new fs tt → from mode fs (b ∷ bs) ≡ from new fs bs
+taken : (mode new : Mode) (fs : Frames) (b : ℕ) (bs : List ℕ) → reader_step plain mode b fs tt ≡ Goes new fs tt → from mode fs (b ∷ bs) ≡ from new fs bs
 taken mode new fs b bs e = ap (after_byte b bs) e
 
 -- a word ends before a byte with which it does not go on, or with the text
-word_ends : (mode : Mode) (v : Datum) (fs : Frames) (test : ℕ → Bool) (rest : List ℕ) → at_end plain mode fs tt ≡ ends_after (ending v fs) → ((b : ℕ) → test b ≡ false → step plain mode b fs tt ≡ goes_before plain b (ending v fs)) → Ends test rest → from mode fs rest ≡ after_value v fs rest
+word_ends : (mode : Mode) (v : Datum) (fs : Frames) (test : ℕ → Bool) (rest : List ℕ) → at_end plain mode fs tt ≡ ends_after (ending v fs) → ((b : ℕ) → test b ≡ false → reader_step plain mode b fs tt ≡ goes_before plain b (ending v fs)) → Ends test rest → from mode fs rest ≡ after_value v fs rest
 word_ends mode v fs test [] at before ends = at ∙ ended_at_end v fs
 word_ends mode v fs test (b ∷ bs) at before ends = ap (after_byte b bs) (before b ends) ∙ ended_before (ending v fs) b bs
 
@@ -75,19 +75,19 @@ number_read minus n (d ∷ ds) rest fs are fits ends =
     ∙ number_read minus m ds rest fs p.1 fits ends
 
 -- the first digit is the number so far
-number_begun : (minus : Bool) (d : ℕ) (ds rest : List ℕ) (fs : Frames) → list_all is_digit (d ∷ ds) ≡ true → is_in_range minus (number_of (d ∷ ds)) → Ends is_digit rest → from (InNumber minus (d - 48)) fs (ds ++ rest) ≡ after_value (Int (signed minus (number_of (d ∷ ds)))) fs rest
+number_begun : (minus : Bool) (d : ℕ) (ds rest : List ℕ) (fs : Frames) → list_all is_digit (d ∷ ds) ≡ true → is_in_range minus (digits_number (d ∷ ds)) → Ends is_digit rest → from (InNumber minus (d - 48)) fs (ds ++ rest) ≡ after_value (Int (signed minus (digits_number (d ∷ ds)))) fs rest
 number_begun minus d ds rest fs are fits ends =
     let first : d - 48 ≡ 10 * 0 + (d - 48) = omega arith in
     ap (λ n. from (InNumber minus n) fs (ds ++ rest)) first ∙ number_read minus (10 * 0 + (d - 48)) ds rest fs (and_parts (is_digit d) (list_all is_digit ds) are).1 fits ends
 
 -- digits behind a sign are read as the number with this sign
-sign_then : (c : ℕ) (d : ℕ) (ds rest : List ℕ) (fs : Frames) → list_all is_digit (d ∷ ds) ≡ true → is_in_range (c == 45) (number_of (d ∷ ds)) → Ends is_digit rest → from (AfterSign c) fs (d ∷ (ds ++ rest)) ≡ after_value (Int (signed (c == 45) (number_of (d ∷ ds)))) fs rest
+sign_then : (c : ℕ) (d : ℕ) (ds rest : List ℕ) (fs : Frames) → list_all is_digit (d ∷ ds) ≡ true → is_in_range (c == 45) (digits_number (d ∷ ds)) → Ends is_digit rest → from (AfterSign c) fs (d ∷ (ds ++ rest)) ≡ after_value (Int (signed (c == 45) (digits_number (d ∷ ds)))) fs rest
 sign_then c d ds rest fs are fits ends =
     taken (AfterSign c) (InNumber (c == 45) (d - 48)) fs d (ds ++ rest) (cond-true (is_digit d) _ _ (and_parts (is_digit d) (list_all is_digit ds) are).0)
     ∙ number_begun (c == 45) d ds rest fs are fits ends
 
 -- a number is read as its integer
-number_word : (sign : Sign) (digits rest : List ℕ) (fs : Frames) → admits fs ≡ true → IsNumber sign digits → Ends is_digit rest → from Gap fs (word_text (Number sign digits) ++ rest) ≡ after_value (Int (signed (is_minus sign) (number_of digits))) fs rest
+number_word : (sign : Sign) (digits rest : List ℕ) (fs : Frames) → admits fs ≡ true → AreIntegerDigits sign digits → Ends is_digit rest → from Gap fs (word_text (Number sign digits) ++ rest) ≡ after_value (Int (signed (is_minus sign) (digits_number digits))) fs rest
 number_word sign [] rest fs free is ends = absurd (let some = is.some in omega arith)
 number_word Unsigned (d ∷ ds) rest fs free is ends =
     word_begins (InNumber false (d - 48)) fs d (ds ++ rest) Digit (digit_class d (and_parts (is_digit d) (list_all is_digit ds) is.are_digits).0) refl free
@@ -108,7 +108,7 @@ shorter : (most : ℕ) (cs : List ℕ) (n : ℕ) → length cs + suc n ≤ most 
 shorter most cs n fits = let less : length cs < most = omega arith in lt-ltb (length cs) most less
 
 -- a name ends before a byte with which it does not go on
-name_before : (cs : List ℕ) (fs : Frames) (b : ℕ) → (is_name_byte b || b == 33) ≡ false → step plain (InName cs) b fs tt ≡ goes_before plain b (ending (Id cs) fs)
+name_before : (cs : List ℕ) (fs : Frames) (b : ℕ) → (is_name_byte b || b == 33) ≡ false → reader_step plain (InName cs) b fs tt ≡ goes_before plain b (ending (Id cs) fs)
 name_before cs fs b e = let p = or_parts (is_name_byte b) (b == 33) e in cond-false (is_name_byte b) _ _ p.0 ∙ cond-false (b == 33) _ _ p.1
 
 -- characters are read into the name that has begun
@@ -127,7 +127,7 @@ name_read cs (Escaped b ∷ more) rest fs are fits ends =
     ∙ ap (λ name. after_value (Id name) fs rest) (append_assoc cs (b ∷ []) (map character_of more))
 
 -- a name is read as its identifier
-name_word : (characters : List Character) (rest : List ℕ) (fs : Frames) → admits fs ≡ true → IsNamed characters → Ends (λ b. is_name_byte b || b == 33) rest → from Gap fs (word_text (Named characters) ++ rest) ≡ after_value (Id (map character_of characters)) fs rest
+name_word : (characters : List Character) (rest : List ℕ) (fs : Frames) → admits fs ≡ true → AreNameCharacters characters → Ends (λ b. is_name_byte b || b == 33) rest → from Gap fs (word_text (Named characters) ++ rest) ≡ after_value (Id (map character_of characters)) fs rest
 name_word [] rest fs free is ends = absurd (let some = is.name in cc)
 name_word (Plain b ∷ more) rest fs free is ends =
     let p = and_parts (is_letter b) (list_all continues_name more) is.name in
@@ -142,7 +142,7 @@ name_word (Escaped b ∷ more) rest fs free is ends =
 -- ---- strings
 
 -- a string ends before a byte other than `"`
-quote_before : (cs : List ℕ) (fs : Frames) (b : ℕ) → (b == 34) ≡ false → step plain (AfterQuote cs) b fs tt ≡ goes_before plain b (ending (Str cs) fs)
+quote_before : (cs : List ℕ) (fs : Frames) (b : ℕ) → (b == 34) ≡ false → reader_step plain (AfterQuote cs) b fs tt ≡ goes_before plain b (ending (Str cs) fs)
 quote_before cs fs b e = cond-false (b == 34) _ _ e
 
 -- bytes are read into the string that has begun, a `"` as two

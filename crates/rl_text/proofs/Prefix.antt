@@ -6,7 +6,7 @@ use Rattle.rl_text.specs.Datum.{Datum}
 use Rattle.rl_text.specs.Gap.{IsBlankText}
 use Rattle.rl_text.specs.Spelling.{IsSpelled}
 use Rattle.rl_text.specs.Refusal.{BeginsSpelling, IsRefusedAt}
-use Rattle.rl_text.specs.Reader.{Frame, Mode, Gap, Comment, InName, InEscape, AfterSign, InNumber, InText, AfterQuote, Ended, Whole, Inside, Lacks, Step, Goes, Done, Refuses, Halts, step, Outcome, Read, NoneLeft, Refused, Stopped, ends_after, at_end, after_step, read_from, read_by}
+use Rattle.rl_text.specs.Reader.{ReaderFrame, Mode, Gap, Comment, InName, InEscape, AfterSign, InNumber, InText, AfterQuote, Ended, Whole, Inside, Lacks, ReaderStep, Goes, Done, Refuses, Halts, reader_step, ReaderOutcome, Read, NoneLeft, Refused, Stopped, ends_after, at_end, after_step, read_from, read_by}
 use Rattle.rl_text.specs.Reading.{Items, plain, NoText, Unreadable, reading_of, reading}
 use Rattle.rl_text.proofs.Live.{live}
 
@@ -17,12 +17,12 @@ ends_after_refused (Whole v s) from refused = absurd cc
 ends_after_refused (Inside fs s) from refused = cc
 ends_after_refused (Lacks w s) from refused = absurd w
 
-between_refused : (fs : List (Frame Items)) (from : List ℕ) → at_end plain Gap fs tt ≡ Refused tt from → from ≡ []
+between_refused : (fs : List (ReaderFrame Items)) (from : List ℕ) → at_end plain Gap fs tt ≡ Refused tt from → from ≡ []
 between_refused [] from refused = absurd cc
 between_refused (f ∷ fs) from refused = cc
 
 -- at the end no byte is refused
-at_end_refused : (mode : Mode) (fs : List (Frame Items)) (from : List ℕ) → at_end plain mode fs tt ≡ Refused tt from → from ≡ []
+at_end_refused : (mode : Mode) (fs : List (ReaderFrame Items)) (from : List ℕ) → at_end plain mode fs tt ≡ Refused tt from → from ≡ []
 at_end_refused Gap fs from refused = between_refused fs from refused
 at_end_refused Comment fs from refused = between_refused fs from refused
 at_end_refused (InName cs) fs from refused = ends_after_refused _ from refused
@@ -33,52 +33,52 @@ at_end_refused (InText cs) fs from refused = cc
 at_end_refused (AfterQuote cs) fs from refused = ends_after_refused _ from refused
 
 -- all the bytes in front go on, whatever follows them, and the byte behind them is refused, whatever follows it
-record Stops (mode : Mode) (fs : List (Frame Items)) (bytes from : List ℕ) : Type 0 where
+record Stops (mode : Mode) (fs : List (ReaderFrame Items)) (bytes from : List ℕ) : Type 0 where
   front : List ℕ
   is : bytes ≡ front ++ from
   at : Mode
-  begun : List (Frame Items)
+  begun : List (ReaderFrame Items)
   goes : (more : List ℕ) → read_from plain mode fs tt (front ++ more) ≡ read_from plain at begun tt more
   refuses : (b : ℕ) (bs more : List ℕ) → from ≡ b ∷ bs → read_from plain at begun tt (b ∷ more) ≡ Refused tt (b ∷ more)
 
 -- reading goes on from a byte that leads there
-abbrev onward : List ℕ → Mode → List (Frame Items) → Unit {0} → Outcome (Unit {0}) Datum ⊥
+abbrev onward : List ℕ → Mode → List (ReaderFrame Items) → Unit {0} → ReaderOutcome (Unit {0}) Datum ⊥
 onward bs mode fs s = read_from plain mode fs s bs
 
 -- one byte more in front
-stops_behind : (mode : Mode) (fs : List (Frame Items)) (b : ℕ) (bs from : List ℕ) (next : Mode) (gs : List (Frame Items)) → step plain mode b fs tt ≡ Goes next gs tt → Stops next gs bs from → Stops mode fs (b ∷ bs) from
+stops_behind : (mode : Mode) (fs : List (ReaderFrame Items)) (b : ℕ) (bs from : List ℕ) (next : Mode) (gs : List (ReaderFrame Items)) → reader_step plain mode b fs tt ≡ Goes next gs tt → Stops next gs bs from → Stops mode fs (b ∷ bs) from
 stops_behind mode fs b bs from next gs goes stops = record {
   front = b ∷ stops.front;
   is = ap (λ (xs : List ℕ). b ∷ xs) stops.is;
   at = stops.at;
   begun = stops.begun;
-  goes = λ more. ap (λ (x : Step (Unit {0}) Datum Items ⊥). after_step b (stops.front ++ more) x (onward (stops.front ++ more))) goes ∙ stops.goes more;
+  goes = λ more. ap (λ (x : ReaderStep (Unit {0}) Datum Items ⊥). after_step b (stops.front ++ more) x (onward (stops.front ++ more))) goes ∙ stops.goes more;
   refuses = stops.refuses;
 }
 
 -- the byte is refused here
-stops_here : (mode : Mode) (fs : List (Frame Items)) (b : ℕ) (bs from : List ℕ) → step plain mode b fs tt ≡ Refuses tt → from ≡ b ∷ bs → Stops mode fs (b ∷ bs) from
+stops_here : (mode : Mode) (fs : List (ReaderFrame Items)) (b : ℕ) (bs from : List ℕ) → reader_step plain mode b fs tt ≡ Refuses tt → from ≡ b ∷ bs → Stops mode fs (b ∷ bs) from
 stops_here mode fs b bs from refuses is = record {
   front = [];
   is = sym is;
   at = mode;
   begun = fs;
   goes = λ more. refl;
-  refuses = λ c cs more e. let same : c ≡ b = cc in rw same (ap (λ (x : Step (Unit {0}) Datum Items ⊥). after_step b more x (onward more)) refuses);
+  refuses = λ c cs more e. let same : c ≡ b = cc in rw same (ap (λ (x : ReaderStep (Unit {0}) Datum Items ⊥). after_step b more x (onward more)) refuses);
 }
 
 -- by what the byte leads to
-stops_after : (mode : Mode) (fs : List (Frame Items)) (b : ℕ) (bs from : List ℕ) (x : Step (Unit {0}) Datum Items ⊥) → step plain mode b fs tt ≡ x → after_step b bs x (onward bs) ≡ Refused tt from → ((next : Mode) (gs : List (Frame Items)) → read_from plain next gs tt bs ≡ Refused tt from → Stops next gs bs from) → Stops mode fs (b ∷ bs) from
+stops_after : (mode : Mode) (fs : List (ReaderFrame Items)) (b : ℕ) (bs from : List ℕ) (x : ReaderStep (Unit {0}) Datum Items ⊥) → reader_step plain mode b fs tt ≡ x → after_step b bs x (onward bs) ≡ Refused tt from → ((next : Mode) (gs : List (ReaderFrame Items)) → read_from plain next gs tt bs ≡ Refused tt from → Stops next gs bs from) → Stops mode fs (b ∷ bs) from
 stops_after mode fs b bs from (Goes next gs s) e refused each = stops_behind mode fs b bs from next gs e (each next gs refused)
 stops_after mode fs b bs from (Done v used s) e refused each = absurd cc
 stops_after mode fs b bs from (Refuses s) e refused each = stops_here mode fs b bs from e cc
 stops_after mode fs b bs from (Halts w s) e refused each = absurd w
 
-stops : (mode : Mode) (fs : List (Frame Items)) (bytes from : List ℕ) → read_from plain mode fs tt bytes ≡ Refused tt from → Stops mode fs bytes from
+stops : (mode : Mode) (fs : List (ReaderFrame Items)) (bytes from : List ℕ) → read_from plain mode fs tt bytes ≡ Refused tt from → Stops mode fs bytes from
 stops mode fs [] from refused =
     let none = at_end_refused mode fs from refused in
     record { front = []; is = sym none; at = mode; begun = fs; goes = λ more. refl; refuses = λ b bs more e. absurd cc }
-stops mode fs (b ∷ bs) from refused = stops_after mode fs b bs from (step plain mode b fs tt) refl refused (λ next gs refused. stops next gs bs from refused)
+stops mode fs (b ∷ bs) from refused = stops_after mode fs b bs from (reader_step plain mode b fs tt) refl refused (λ next gs refused. stops next gs bs from refused)
 
 -- ---- which spellings begin with what
 
@@ -160,7 +160,7 @@ refused_at complete sound blank bytes from refused =
     subst (λ (k : ℕ). IsRefusedAt bytes k) place (refused_behind complete sound blank bytes from refused s)
 
 -- by what is read
-unreadable_is_refused : IsComplete → IsSound → PassesBlank → (bytes : List ℕ) (k : ℕ) (x : Outcome (Unit {0}) Datum ⊥) → read_by plain tt bytes ≡ x → reading_of bytes x ≡ Unreadable k → IsRefusedAt bytes k
+unreadable_is_refused : IsComplete → IsSound → PassesBlank → (bytes : List ℕ) (k : ℕ) (x : ReaderOutcome (Unit {0}) Datum ⊥) → read_by plain tt bytes ≡ x → reading_of bytes x ≡ Unreadable k → IsRefusedAt bytes k
 unreadable_is_refused complete sound blank bytes k (Read datum s rest) e unreadable = absurd cc
 unreadable_is_refused complete sound blank bytes k (NoneLeft s) e unreadable = absurd cc
 unreadable_is_refused complete sound blank bytes k (Refused s from) e unreadable =
@@ -168,7 +168,7 @@ unreadable_is_refused complete sound blank bytes k (Refused s from) e unreadable
     subst (λ (i : ℕ). IsRefusedAt bytes i) place (refused_at complete sound blank bytes from e)
 unreadable_is_refused complete sound blank bytes k (Stopped w s rest) e unreadable = absurd w
 
-refused_is_unreadable : IsComplete → IsSound → PassesBlank → PassesOnlyBlank → (bytes : List ℕ) (k : ℕ) (x : Outcome (Unit {0}) Datum ⊥) → read_by plain tt bytes ≡ x → IsRefusedAt bytes k → reading_of bytes x ≡ Unreadable k
+refused_is_unreadable : IsComplete → IsSound → PassesBlank → PassesOnlyBlank → (bytes : List ℕ) (k : ℕ) (x : ReaderOutcome (Unit {0}) Datum ⊥) → read_by plain tt bytes ≡ x → IsRefusedAt bytes k → reading_of bytes x ≡ Unreadable k
 refused_is_unreadable complete sound blank none bytes k (Read datum s rest) e refused = absurd (refused.unspelled datum rest (sound bytes datum rest e))
 refused_is_unreadable complete sound blank none bytes k (NoneLeft s) e refused = absurd (refused.some (none bytes (ap (reading_of bytes) e)))
 refused_is_unreadable complete sound blank none bytes k (Refused s from) e refused = ap Unreadable (same_place bytes (length bytes - length from) k (refused_at complete sound blank bytes from e) refused)

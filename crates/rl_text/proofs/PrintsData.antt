@@ -10,7 +10,7 @@ use Rattle.rl_tree.specs.Value.{Value, Ref}
 use Rattle.rl_tree.specs.Value as value
 use Rattle.rl_tree.specs.Printing.{Page}
 use Rattle.rl_tree.specs.Atoms.{Style, name_text}
-use Rattle.rl_tree.specs.Printing.{Setting, Progress, Ending, Whole, NoTurn, TooDeep, Job, Listed, dotted_atom, with_text, with_atom, and_then, goes_on, with_turn, with_turn_of, with_level, marked, job_printed, value_printed, object_printed, rest_printed, rest_object, vector_printed, places_printed, printed}
+use Rattle.rl_tree.specs.Printing.{Setting, Progress, Ending, Whole, NoTurn, TooDeep, PrintingJob, Listed, dotted_atom, with_text, with_atom, and_then, goes_on, with_turn, with_turn_of, with_level, marked, job_printed, value_printed, object_printed, rest_printed, rest_object, vector_printed, places_printed, printed}
 use Rattle.rl_tree.specs.Printing as job
 use Rattle.rl_text.specs.Datum.{Datum, Elements, Int, Id, Str, Pair, Vector, NoElements, Element}
 use Rattle.rl_text.specs.Printed.{Piece, Atom, Mark, with_piece, with_pieces, pieces_of, rest_pieces, first_pieces, further_pieces, with_datum}

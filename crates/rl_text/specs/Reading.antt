@@ -3,7 +3,7 @@ use Rattle.std.specs.Prelude.{ℕ, ◌-◌, List, [], ◌∷◌, ◌++◌, lengt
 use Rattle.rl_text.specs.Datum.{Datum, Vector, nil, quoted, listed, elements}
 use Rattle.rl_text.specs.Word.{datum_of_atom}
 use Rattle.rl_text.specs.Maker.{Has, Maker}
-use Rattle.rl_text.specs.Reader.{Outcome, Read, NoneLeft, Refused, Stopped, read_by}
+use Rattle.rl_text.specs.Reader.{ReaderOutcome, Read, NoneLeft, Refused, Stopped, read_by}
 
 -- a list that is not whole yet: its elements, and what stands behind them
 pub record Items : Type 0 where
@@ -35,7 +35,7 @@ pub data Reading : Type 0 where
   -- the number of bytes before the one that has no place
   Unreadable : ℕ → Reading
 
-abbrev pub reading_of : List ℕ → Outcome (Unit {0}) Datum ⊥ → Reading
+abbrev pub reading_of : List ℕ → ReaderOutcome (Unit {0}) Datum ⊥ → Reading
 reading_of bytes (Read datum s rest) = Found datum rest
 reading_of bytes (NoneLeft s) = NoText
 reading_of bytes (Refused s from) = Unreadable (length bytes - length from)

@@ -1,7 +1,7 @@
 -- Lisp text: which bytes spell which data, by cases of the spelling (Standard Lisp Report 1979, syntax of S-expressions).
 use Rattle.std.specs.Prelude.{◌≡◌, ℕ, Bool, false, List, [], ◌∷◌, ◌++◌}
 use Rattle.rl_text.specs.Byte.{Mark, Open, Close, Dot, Quote, OpenVector, CloseVector, mark_byte}
-use Rattle.rl_text.specs.Word.{Word, word_text, IsWord, goes_on, atom_of, datum_of_atom}
+use Rattle.rl_text.specs.Word.{Word, word_text, IsWord, spelling_goes_on, atom_of, datum_of_atom}
 use Rattle.rl_text.specs.Datum.{Datum, Elements, Pair, Vector, NoElements, Element, nil, quoted}
 use Rattle.rl_text.specs.Gap.{IsGap}
 
@@ -53,48 +53,48 @@ abbrev mutual
 
 -- ---- its tokens
 
-pub data Token : Type 0 where
-  Sign : Mark → Token
-  Spelled : Word → Token
+pub data LispToken : Type 0 where
+  Sign : Mark → LispToken
+  Spelled : Word → LispToken
 
 abbrev mutual
-  pub tokens_of : Spelling → List Token
+  pub tokens_of : Spelling → List LispToken
   tokens_of (Atom word) = Spelled word ∷ []
   tokens_of (Quoted e) = Sign Quote ∷ tokens_of e
   tokens_of Empty = Sign Open ∷ Sign Close ∷ []
   tokens_of (Listed e rest) = Sign Open ∷ (tokens_of e ++ rest_tokens rest)
   tokens_of (Vectored places) = Sign OpenVector ∷ places_tokens places
 
-  pub rest_tokens : Rest → List Token
+  pub rest_tokens : Rest → List LispToken
   rest_tokens End = Sign Close ∷ []
   rest_tokens (Dotted e) = Sign Dot ∷ (tokens_of e ++ Sign Close ∷ [])
   rest_tokens (Next e rest) = tokens_of e ++ rest_tokens rest
 
-  pub places_tokens : Places → List Token
+  pub places_tokens : Places → List LispToken
   places_tokens Last = Sign CloseVector ∷ []
   places_tokens (Place e places) = tokens_of e ++ places_tokens places
 
 -- ---- its bytes
 
-abbrev pub token_text : Token → List ℕ
+abbrev pub token_text : LispToken → List ℕ
 token_text (Sign mark) = mark_byte mark ∷ []
 token_text (Spelled word) = word_text word
 
-abbrev pub IsToken : Token → Type 0
+abbrev pub IsToken : LispToken → Type 0
 IsToken (Sign mark) = Unit {0}
 IsToken (Spelled word) = IsWord word
 
-abbrev pub longer_with : Token → ℕ → Bool
+abbrev pub longer_with : LispToken → ℕ → Bool
 longer_with (Sign mark) b = false
-longer_with (Spelled word) b = goes_on word b
+longer_with (Spelled word) b = spelling_goes_on word b
 
 -- the token is as long as it can be where this follows it
-abbrev pub EndsBefore : Token → List ℕ → Type 0
+abbrev pub EndsBefore : LispToken → List ℕ → Type 0
 EndsBefore token [] = Unit {0}
 EndsBefore token (b ∷ bs) = longer_with token b ≡ false
 
 -- blanks and comments, the token, and then the rest
-pub record IsFront (token : Token) (bytes rest : List ℕ) : Type 0 where
+pub record IsFront (token : LispToken) (bytes rest : List ℕ) : Type 0 where
   pub gap : List ℕ
   pub is_gap : IsGap gap
   pub is : bytes ≡ gap ++ (token_text token ++ rest)
@@ -102,7 +102,7 @@ pub record IsFront (token : Token) (bytes rest : List ℕ) : Type 0 where
   pub ends : EndsBefore token rest
 
 -- these tokens, one after another, and then the rest
-abbrev pub AreTokens : List Token → List ℕ → List ℕ → Type 0
+abbrev pub AreTokens : List LispToken → List ℕ → List ℕ → Type 0
 AreTokens [] bytes rest = bytes ≡ rest
 AreTokens (token ∷ tokens) bytes rest = (after : List ℕ) × IsFront token bytes after × AreTokens tokens after rest
 

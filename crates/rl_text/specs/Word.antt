@@ -3,7 +3,7 @@ use Rattle.std.specs.Prelude.{◌≡◌, ℕ, ℤ, pos, ◌^◌, ◌<◌, ◌≤
 use Rattle.std.specs.List.{list_all, flat_map}
 use Rattle.rl_tree.specs.Bytes.{is_letter, is_digit, is_name_byte, raised}
 use Rattle.rl_tree.specs.Name.{Name}
-use Rattle.rl_tree.specs.Digits.{number_of, negated}
+use Rattle.rl_tree.specs.Digits.{digits_number, negated}
 use Rattle.rl_tree.specs.Atoms.{doubled}
 use Rattle.rl_text.specs.Byte.{is_sign, is_special}
 use Rattle.rl_text.specs.Datum.{Datum}
@@ -68,7 +68,7 @@ character_of (Plain b) = raised b
 character_of (Escaped b) = b
 
 abbrev pub atom_of : Word → Atom
-atom_of (Number sign digits) = Integer (signed (is_minus sign) (number_of digits))
+atom_of (Number sign digits) = Integer (signed (is_minus sign) (digits_number digits))
 atom_of (Named characters) = Identifier (map character_of characters)
 atom_of (Single b) = Identifier (b ∷ [])
 atom_of (Text bytes) = String bytes
@@ -85,10 +85,10 @@ abbrev pub is_in_range : Bool → ℕ → Type 0
 is_in_range false n = n < 2 ^ 59
 is_in_range true n = n ≤ 2 ^ 59
 
-pub record IsNumber (sign : Sign) (digits : List ℕ) : Type 0 where
+pub record AreIntegerDigits (sign : Sign) (digits : List ℕ) : Type 0 where
   pub some : 0 < length digits
   pub are_digits : list_all is_digit digits ≡ true
-  pub in_range : is_in_range (is_minus sign) (number_of digits)
+  pub in_range : is_in_range (is_minus sign) (digits_number digits)
 
 -- a name begins with a letter or with `!` and any byte
 abbrev pub begins_name : Character → Bool
@@ -101,23 +101,23 @@ continues_name (Plain b) = is_name_byte b
 continues_name (Escaped b) = true
 
 -- characters of a name from its second one on
-abbrev pub is_name : List Character → Bool
-is_name [] = false
-is_name (c ∷ cs) = begins_name c && list_all continues_name cs
+abbrev pub are_name_characters : List Character → Bool
+are_name_characters [] = false
+are_name_characters (c ∷ cs) = begins_name c && list_all continues_name cs
 
-pub record IsNamed (characters : List Character) : Type 0 where
-  pub name : is_name characters ≡ true
+pub record AreNameCharacters (characters : List Character) : Type 0 where
+  pub name : are_name_characters characters ≡ true
   pub short : length characters ≤ 255
 
 abbrev pub IsWord : Word → Type 0
-IsWord (Number sign digits) = IsNumber sign digits
-IsWord (Named characters) = IsNamed characters
+IsWord (Number sign digits) = AreIntegerDigits sign digits
+IsWord (Named characters) = AreNameCharacters characters
 IsWord (Single b) = is_special b ≡ true
 IsWord (Text bytes) = length bytes ≤ 65535
 
 -- a byte with which the spelling would go on
-abbrev pub goes_on : Word → ℕ → Bool
-goes_on (Number sign digits) b = is_digit b
-goes_on (Named characters) b = is_name_byte b || b == 33
-goes_on (Single c) b = is_sign c && is_digit b
-goes_on (Text bytes) b = b == 34
+abbrev pub spelling_goes_on : Word → ℕ → Bool
+spelling_goes_on (Number sign digits) b = is_digit b
+spelling_goes_on (Named characters) b = is_name_byte b || b == 33
+spelling_goes_on (Single c) b = is_sign c && is_digit b
+spelling_goes_on (Text bytes) b = b == 34

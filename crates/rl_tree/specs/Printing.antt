@@ -76,13 +76,13 @@ with_level true (suc l) p next = next l p
 -- ---- the walk
 
 -- an element, or an element of a list and the rest behind it
-pub data Job : Type 0 where
-  Element : Value → Job
-  Listed : Value → Value → Job
+pub data PrintingJob : Type 0 where
+  Element : Value → PrintingJob
+  Listed : Value → Value → PrintingJob
 
 -- how jobs are printed, with so many levels left
 abbrev pub Printer : Type 0
-Printer = Job → ℕ → Progress → Progress
+Printer = PrintingJob → ℕ → Progress → Progress
 
 -- the places of a vector from one on, and its end
 abbrev pub places_printed : Printer → Bool → List Value → ℕ → Progress → Progress

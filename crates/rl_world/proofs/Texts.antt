@@ -4,7 +4,7 @@ use Rattle.std.specs.Prelude.{Result, IfOk, OnErr}
 use Rattle.std.proofs.lemmas.Bool.{cases_lt}
 use Rattle.std.proofs.lemmas.List.{get_or-set_same, get_or-set_other}
 use Rattle.rl_tags.specs.Tagged.{Tagged, IdAt, StrAt}
-use Rattle.rl_cells.specs.Cell.{Cell, Store, StrCell, bytes_of, grown, is_str, placed}
+use Rattle.rl_cells.specs.Cell.{Cell, CellStore, StrCell, bytes_of, grown, is_str, placed}
 use Rattle.rl_cells.specs.Laws.{IsAdded}
 use Rattle.rl_syms.specs.Frame.{KeepsBlocks}
 use Rattle.rl_syms.specs.Laws.{IsKept}
@@ -50,7 +50,7 @@ texts_more old new texts more n v b t l e string text =
       ];
     })
 
-string_adds : IsAdded → (old : Store) (bytes : List ℕ) → AddsTexts old.cells (grown old (StrCell bytes)).cells
+string_adds : IsAdded → (old : CellStore) (bytes : List ℕ) → AddsTexts old.cells (grown old (StrCell bytes)).cells
 string_adds law old bytes k h =
     let text = StrCell bytes in
     elim (cases_lt k (length old.cells)) [
@@ -62,7 +62,7 @@ string_adds law old bytes k h =
     ]
 
 -- where a string is made, and where there is no room for it
-pub text_adds : {E : Type 0} → IsAdded → (old new : Store) (bytes : List ℕ) (r : Result Tagged E) → IfOk r (λ v. new ≡ grown old (StrCell bytes)) → OnErr r (new ≡ old) → AddsTexts old.cells new.cells
+pub text_adds : {E : Type 0} → IsAdded → (old new : CellStore) (bytes : List ℕ) (r : Result Tagged E) → IfOk r (λ v. new ≡ grown old (StrCell bytes)) → OnErr r (new ≡ old) → AddsTexts old.cells new.cells
 text_adds law old new bytes (Ok v) made same = rw made (string_adds law old bytes)
 text_adds law old new bytes (Err f) made same = rw same (λ k h. h)
 

@@ -7,7 +7,7 @@ use Rattle.rl_world.specs.declared.stop.Stop.{Stop}
 use Rattle.rl_world.specs.declared.stop.Stop.TheVariants as stop
 
 -- the bounds on turns and on cells, the ticks of opening or None after it, the turns taken, the outermost expansion and how many are open, and what is set aside
-pub record Counts : Type 0 where
+pub record WorldCounts : Type 0 where
   pub bound : ℕ
   pub cells_bound : ℕ
   pub opening : Option ℕ
@@ -17,7 +17,7 @@ pub record Counts : Type 0 where
   pub aside : Option Aside
 
 -- before a run
-abbrev pub counts_at_opening : ℕ → ℕ → Counts
+abbrev pub counts_at_opening : ℕ → ℕ → WorldCounts
 counts_at_opening bound cells_bound = record { bound = bound; cells_bound = cells_bound; opening = Some 0; turns = 0; outermost = None; open_count = 0; aside = None }
 
 -- opening has 1000000 ticks, an expansion 100000 turns, and the run as many turns as its bound says
@@ -27,16 +27,16 @@ tick_stop_at None (Some e) turns bound = cond (nat_lt e.turns 100000) None (Some
 tick_stop_at None None turns bound = cond (nat_lt turns bound) None (Some stop.Turns)
 
 -- why another turn may not be taken
-abbrev pub tick_stop : Counts → Option Stop
+abbrev pub tick_stop : WorldCounts → Option Stop
 tick_stop c = tick_stop_at c.opening c.outermost c.turns c.bound
 
-abbrev pub ticked_at : Option ℕ → Option Expansion → Counts → Counts
+abbrev pub ticked_at : Option ℕ → Option Expansion → WorldCounts → WorldCounts
 ticked_at (Some n) e c = record c { opening = Some (n + 1) }
 ticked_at None (Some e) c = record c { outermost = Some (record e { turns = e.turns + 1 }) }
 ticked_at None None c = record c { turns = c.turns + 1 }
 
 -- another turn: of opening, of the outermost expansion, or of the run
-abbrev pub ticked : Counts → Counts
+abbrev pub ticked : WorldCounts → WorldCounts
 ticked c = ticked_at c.opening c.outermost c
 
 abbrev pub turns_left_at : Option ℕ → Option Expansion → ℕ → ℕ → ℕ
@@ -45,8 +45,8 @@ turns_left_at None (Some e) turns bound = 100000 - e.turns
 turns_left_at None None turns bound = bound - turns
 
 -- the turns that may still be taken: of opening, of the outermost expansion, or of the run
-abbrev pub turns_left : Counts → ℕ
-turns_left c = turns_left_at c.opening c.outermost c.turns c.bound
+abbrev pub count_turns_left : WorldCounts → ℕ
+count_turns_left c = turns_left_at c.opening c.outermost c.turns c.bound
 
 -- the run has as many cells as its bound says, but where a compilation expands
 abbrev pub cells_stop : Option Aside → ℕ → ℕ → ℕ → Option Stop
@@ -59,7 +59,7 @@ room_stop_at None aside used cost bound = cells_stop aside used cost bound
 room_stop_at (Some e) aside used cost bound = cond (nat_le (e.cells + cost) 1000000) (cells_stop aside used cost bound) (Some (stop.Expansion e.name))
 
 -- why an object of this cost may not be made, where so many cells are used
-abbrev pub room_stop : Counts → ℕ → ℕ → Option Stop
+abbrev pub room_stop : WorldCounts → ℕ → ℕ → Option Stop
 room_stop c used cost = room_stop_at c.outermost c.aside used cost c.cells_bound
 
 abbrev pub with_cells : ℕ → Option Expansion → Option Expansion
@@ -67,7 +67,7 @@ with_cells cost None = None
 with_cells cost (Some e) = Some (record e { cells = e.cells + cost })
 
 -- the cells count in the outermost expansion
-abbrev pub roomed : Counts → ℕ → Counts
+abbrev pub roomed : WorldCounts → ℕ → WorldCounts
 roomed c cost = record c { outermost = with_cells cost c.outermost }
 
 -- the outermost expansion stays the one that began first
@@ -75,20 +75,20 @@ abbrev pub outermost_with : Tagged → Option Expansion → Option Expansion
 outermost_with name None = Some (record { name = name; turns = 0; cells = 0 })
 outermost_with name (Some e) = Some e
 
-abbrev pub begun : Counts → Tagged → Counts
+abbrev pub begun : WorldCounts → Tagged → WorldCounts
 begun c name = record c { outermost = outermost_with name c.outermost; open_count = c.open_count + 1 }
 
-abbrev pub ended : Counts → Counts
-ended c = record c { outermost = cond (c.open_count == 1) None c.outermost; open_count = c.open_count - 1 }
+abbrev pub expansion_ended : WorldCounts → WorldCounts
+expansion_ended c = record c { outermost = cond (c.open_count == 1) None c.outermost; open_count = c.open_count - 1 }
 
-abbrev pub aside_of : Counts → Aside
+abbrev pub aside_of : WorldCounts → Aside
 aside_of c = record { turns = c.turns; outermost = c.outermost; open_count = c.open_count }
 
 -- no expansion counts as open
-abbrev pub set_aside : Counts → Counts
+abbrev pub set_aside : WorldCounts → WorldCounts
 set_aside c = record c { outermost = None; open_count = 0; aside = Some (aside_of c) }
 
-abbrev pub rejoined : Counts → Aside → Counts
+abbrev pub rejoined : WorldCounts → Aside → WorldCounts
 rejoined c a = record c { turns = a.turns; outermost = a.outermost; open_count = a.open_count; aside = None }
 
 -- some expansion is open exactly where there is an outermost one

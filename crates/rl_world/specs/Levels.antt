@@ -4,14 +4,14 @@ use Rattle.rl_world.specs.declared.stop.Stop.{Stop}
 use Rattle.rl_world.specs.declared.stop.Stop.TheVariants as stop
 
 -- the bound, the levels that are entered, what walks keep, the newest first, and the level that is set aside while a compilation expands
-pub record Levels : Type 0 where
+pub record WorldLevels : Type 0 where
   pub bound : ℕ
   pub level : ℕ
   pub walk : List (ℕ × ℕ × ℕ)
   pub aside : Option ℕ
 
 -- why n levels more may not be entered
-abbrev pub enter_stop : Levels → ℕ → Option Stop
+abbrev pub enter_stop : WorldLevels → ℕ → Option Stop
 enter_stop l n = cond (nat_le (l.level + n) l.bound) None (Some stop.Depth)
 
 -- the first n threes of words, the newest first
@@ -20,9 +20,9 @@ threes zero words = []
 threes (suc n) words = (slice_index words (3 * n), slice_index words (3 * n + 1), slice_index words (3 * n + 2)) ∷ threes n words
 
 -- what is set aside was within the bound
-abbrev pub IsWithin : ℕ → Option ℕ → Type 0
-IsWithin bound None = Unit {0}
-IsWithin bound (Some n) = n ≤ bound
+abbrev pub IsAsideWithin : ℕ → Option ℕ → Type 0
+IsAsideWithin bound None = Unit {0}
+IsAsideWithin bound (Some n) = n ≤ bound
 
 -- there are words for as many threes as there may be levels
 pub record HasWords (words : List ℕ) (bound level kept : ℕ) (aside : Option ℕ) : Type 0 where
@@ -30,4 +30,4 @@ pub record HasWords (words : List ℕ) (bound level kept : ℕ) (aside : Option 
   pub bounded : bound ≤ 500000
   pub level_within : level ≤ bound
   pub kept_within : kept ≤ level
-  pub aside_within : IsWithin bound aside
+  pub aside_within : IsAsideWithin bound aside

@@ -1,6 +1,6 @@
 //! The counts of turns, expansions and their cells.
 ghost use Rattle.std.specs.Prelude.{◌≡◌, ◌+◌, ◌<◌, ◌^◌, None, Some, OnOk, IfErr};
-ghost use Rattle.rl_world.specs.Counts.{aside_of, begun, counts_at_opening, ended, rejoined, room_stop, roomed, set_aside, tick_stop, ticked};
+ghost use Rattle.rl_world.specs.Counts.{aside_of, begun, counts_at_opening, expansion_ended, rejoined, room_stop, roomed, set_aside, tick_stop, ticked};
 
 use crate::stop::Stop;
 use rl_tags::Val;
@@ -44,9 +44,9 @@ pub struct Counts {
 }
 
 impl Model for Counts {
-    ghost use Rattle.rl_world.specs.Counts.{Counts, IsAside, IsOpen};
+    ghost use Rattle.rl_world.specs.Counts.{WorldCounts, IsAside, IsOpen};
 
-    ghost Value = { Counts };
+    ghost Value = { WorldCounts };
 
     ghost view = { λ a. record { bound = a.bound; cells_bound = a.cells_bound; opening = a.opening; turns = a.turns; outermost = a.outermost; open_count = a.open_count; aside = a.aside } };
 
@@ -182,7 +182,7 @@ impl Counts {
     /// Ends the newest open expansion.
     pub(crate) fn end(&mut self)
         requires { 0 < self.old.open_count }
-        ensures { self.new ≡ ended self.old }
+        ensures { self.new ≡ expansion_ended self.old }
     {
         self.open_count -= 1;
         if self.open_count == 0 {

@@ -20,9 +20,9 @@ pub struct Levels {
 }
 
 impl Model for Levels {
-    ghost use Rattle.rl_world.specs.Levels.{Levels, HasWords, threes};
+    ghost use Rattle.rl_world.specs.Levels.{WorldLevels, HasWords, threes};
 
-    ghost Value = { Levels };
+    ghost Value = { WorldLevels };
 
     ghost view = { λ a. record { bound = a.bound; level = a.level; walk = threes a.kept a.words; aside = a.aside } };
 

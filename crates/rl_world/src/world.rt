@@ -7,7 +7,7 @@ ghost use Rattle.rl_cells.specs.Cell.{bytes_of, is_str, used_of};
 ghost use Rattle.rl_syms.specs.Table.{IsTable, IsNamed};
 ghost use Rattle.rl_syms.specs.Made.{IsOpening};
 ghost use Rattle.rl_syms.specs.Opened.{IsOpened};
-ghost use Rattle.rl_world.specs.Counts.{aside_of, begun, counts_at_opening, ended, rejoined, room_stop, roomed, set_aside, tick_stop, ticked};
+ghost use Rattle.rl_world.specs.Counts.{aside_of, begun, counts_at_opening, expansion_ended, rejoined, room_stop, roomed, set_aside, tick_stop, ticked};
 ghost use Rattle.rl_world.specs.Errors.{AreTexts, error_text};
 ghost use Rattle.rl_world.specs.Levels.{enter_stop};
 
@@ -133,7 +133,7 @@ impl World {
     /// Ends the newest open expansion.
     pub fn end_expansion(&mut self)
         requires { 0 < self.old.counts.open_count }
-        ensures { self.new ≡ record self.old { counts = ended self.old.counts } }
+        ensures { self.new ≡ record self.old { counts = expansion_ended self.old.counts } }
     {
         self.counts.end();
     }

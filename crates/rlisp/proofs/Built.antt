@@ -6,14 +6,14 @@ use Rattle.std.proofs.lemmas.Bool.{cases_Bool}
 use Rattle.std.proofs.lemmas.Bool.Decides.{Decides-eqb}
 use Rattle.rl_tags.specs.Tagged.{Tagged, Number, IdAt, StrAt, PairAt, VectorAt, BigAt, FunAt, index_of, word_of}
 use Rattle.rl_cells.specs.Cell.{Cell}
-use Rattle.rl_syms.specs.Table.{IsTable, Among, name_at, ids_from}
+use Rattle.rl_syms.specs.Table.{IsTable, Among, name_in_cells, ids_from}
 use Rattle.rl_tree.specs.Name.{Name, nil_name, t_name, quote_name, cons_name, print_name}
 use Rattle.rl_text.specs.Datum.{Datum, Int, Id, Str, Pair, Vector, nil}
 use Rattle.rl_read.specs.Data.{IsDatumWithin, datum_within}
 use Rattle.rl_world.specs.declared.world.World.{World}
 use Rattle.rlisp.specs.Evaluation.{is_built, prin1_name, prin2_name, terpri_name}
 use Rattle.rlisp.specs.World.{IsKnown, IsNameOf, datum_in}
-use Rattle.rlisp.specs.Forms.{is_name, is_plain, IsConstant}
+use Rattle.rlisp.specs.Forms.{is_name_datum, is_plain, IsConstant}
 
 -- ---- names
 
@@ -32,7 +32,7 @@ pub record IsIdentifier (cells : List Cell) (head : Option Tagged) (v : Tagged) 
   pub place : ℕ
   pub is : v ≡ IdAt place
   pub among : Among place (ids_from cells head)
-  pub named : name_at cells place ≡ name
+  pub named : name_in_cells cells place ≡ name
 
 identifier_within : (n : ℕ) (cells : List Cell) (head : Option Tagged) (v : Tagged) (name : Name) → IsDatumWithin n cells head v → datum_within n cells v ≡ Id name → IsIdentifier cells head v name
 identifier_within n cells head (IdAt k) name d e = record { place = k; is = refl; among = d.1; named = cc }
@@ -97,7 +97,7 @@ nil_constant d e = rw e (record { built = refl; same = λ page. refl })
 pub t_constant : (d : Datum) → d ≡ Id t_name → IsConstant d
 t_constant d e = rw e (record { built = refl; same = λ page. refl })
 
-pub name_unbuilt : (d : Datum) → is_name d ≡ true → (d ≡ Id nil_name → ⊥) → (d ≡ Id t_name → ⊥) → is_built d ≡ false
+pub name_unbuilt : (d : Datum) → is_name_datum d ≡ true → (d ≡ Id nil_name → ⊥) → (d ≡ Id t_name → ⊥) → is_built d ≡ false
 name_unbuilt (Id name) h p q = rw (other_bytes name nil_name p, other_bytes name t_name q) refl
 name_unbuilt (Int z) h p q = absurd (cc)
 name_unbuilt (Str bytes) h p q = absurd (cc)
@@ -119,7 +119,7 @@ plain_behind (Pair a d) list h = refl
 plain_behind (Vector es) list h = refl
 
 -- a name that is not NIL
-pub name_behind : (head list : Datum) → is_name list ≡ true → (list ≡ nil → ⊥) → is_built (Pair head list) ≡ false
+pub name_behind : (head list : Datum) → is_name_datum list ≡ true → (list ≡ nil → ⊥) → is_built (Pair head list) ≡ false
 name_behind (Id f) (Int z) h p = refl
 name_behind (Id f) (Id name) h p = rw (other_bytes name nil_name p) refl
 name_behind (Id f) (Str bytes) h p = refl
@@ -141,7 +141,7 @@ plain_second (Str bytes) first rest h = refl
 plain_second (Pair a d) first rest h = refl
 plain_second (Vector es) first rest h = refl
 
-pub name_second : (head first rest : Datum) → is_name rest ≡ true → (rest ≡ nil → ⊥) → is_built (Pair head (Pair first rest)) ≡ false
+pub name_second : (head first rest : Datum) → is_name_datum rest ≡ true → (rest ≡ nil → ⊥) → is_built (Pair head (Pair first rest)) ≡ false
 name_second (Id f) first (Int z) h p = refl
 name_second (Id f) first (Id name) h p = rw (other_bytes name nil_name p) refl
 name_second (Id f) first (Str bytes) h p = refl

@@ -13,11 +13,11 @@ use Rattle.rl_world.specs.Output.{Output}
 use Rattle.rl_world.specs.Waiting.{Follows, IsCutOff}
 use Rattle.rl_world.specs.declared.world.World.{World}
 use Rattle.rlisp.specs.Evaluation.{page_after}
-use Rattle.rlisp.specs.Meaning.{Meaning, Finished, Unbuilt, data_in, meaning, meaning_of_forms, nothing_printed, empty_page, IsUnbuilt}
+use Rattle.rlisp.specs.Meaning.{Meaning, Finished, Unbuilt, data_in, file_meaning, meaning_of_forms, nothing_printed, empty_page, IsUnbuilt}
 use Rattle.rlisp.specs.World.{IsBeginning, datum_in}
 use Rattle.rlisp.specs.Forms.{are_built}
 use Rattle.rlisp.specs.Appending.{Appended, AppendedFront}
-use Rattle.rlisp.specs.Pages.{page_in, Prints, Halts, Cuts, IsFront}
+use Rattle.rlisp.specs.Pages.{page_in, PrintsOnPage, HaltsPage, CutsPage, IsFrontOfPage}
 use Rattle.rlisp.specs.Tasks.{page_of_forms}
 use Rattle.rlisp.specs.Outputs.{AreRead}
 use Rattle.rlisp.specs.Status.{is_silent}
@@ -57,30 +57,30 @@ some_text : (p q : Page) → Some p ≡ Some q → p.text ≡ q.text
 some_text p q e = let same : p ≡ q = cc in ap (λ (p : Page). p.text) same
 
 -- all that was printed
-all_bytes : (a b : Option (List ℕ)) (w v : World) (vs : List Tagged) → IsBeginning w → (p : Prints a b w.output.waiting v.output.waiting (page_of_forms w vs) (λ t. Some (page_in v t))) → output_of w vs ≡ p.bytes
+all_bytes : (a b : Option (List ℕ)) (w v : World) (vs : List Tagged) → IsBeginning w → (p : PrintsOnPage a b w.output.waiting v.output.waiting (page_of_forms w vs) (λ t. Some (page_in v t))) → output_of w vs ≡ p.bytes
 all_bytes a b w v vs is p = some_text (page_after (map (datum_in w) vs) empty_page) (page_in v p.bytes) (sym (forms_text w vs is) ∙ p.means [])
 
-front_bytes : (w : World) (vs : List Tagged) (bytes : List ℕ) → IsBeginning w → IsFront (page_of_forms w vs) bytes → (rest : List ℕ) × (output_of w vs ≡ bytes ++ rest)
+front_bytes : (w : World) (vs : List Tagged) (bytes : List ℕ) → IsBeginning w → IsFrontOfPage (page_of_forms w vs) bytes → (rest : List ℕ) × (output_of w vs ≡ bytes ++ rest)
 front_bytes w vs bytes is h =
     let r = h.more [] in
     (r.0, ap (λ p. (page_after (map (datum_in w) vs) p).text) (sym (begun_page w is)) ∙ r.1)
 
 -- ---- how a run ends
 
-pub done : (a b c : Option (List ℕ)) (w v : World) (vs : List Tagged) → IsBeginning w → Prints a b w.output.waiting v.output.waiting (page_of_forms w vs) (λ t. Some (page_in v t)) → Follows b v.output.waiting c [] [] → Appended a c (output_of w vs)
+pub done : (a b c : Option (List ℕ)) (w v : World) (vs : List Tagged) → IsBeginning w → PrintsOnPage a b w.output.waiting v.output.waiting (page_of_forms w vs) (λ t. Some (page_in v t)) → Follows b v.output.waiting c [] [] → Appended a c (output_of w vs)
 done a b c w v vs is p q =
     let whole : Follows a [] c [] (p.bytes ++ []) = follows_more a b c [] v.output.waiting [] p.bytes [] (rw is.waiting at p.follows) q in
     rw (all_bytes a b w v vs is p, ← append-nil p.bytes) (follows_all a c (p.bytes ++ []) whole)
 
-pub cut_at_end : (a b c : Option (List ℕ)) (w v : World) (vs : List Tagged) → IsBeginning w → Prints a b w.output.waiting v.output.waiting (page_of_forms w vs) (λ t. Some (page_in v t)) → IsCutOff b c v.output.waiting → AppendedFront a c (output_of w vs)
+pub cut_at_end : (a b c : Option (List ℕ)) (w v : World) (vs : List Tagged) → IsBeginning w → PrintsOnPage a b w.output.waiting v.output.waiting (page_of_forms w vs) (λ t. Some (page_in v t)) → IsCutOff b c v.output.waiting → AppendedFront a c (output_of w vs)
 cut_at_end a b c w v vs is p q = rw (all_bytes a b w v vs is p) (flushed_front a b c v.output.waiting p.bytes (rw is.waiting at p.follows) q)
 
-pub halted : (a b c : Option (List ℕ)) (w v : World) (vs : List Tagged) → IsBeginning w → Halts a b w.output.waiting v.output.waiting (page_of_forms w vs) → IsCutOff b c v.output.waiting → AppendedFront a c (output_of w vs)
+pub halted : (a b c : Option (List ℕ)) (w v : World) (vs : List Tagged) → IsBeginning w → HaltsPage a b w.output.waiting v.output.waiting (page_of_forms w vs) → IsCutOff b c v.output.waiting → AppendedFront a c (output_of w vs)
 halted a b c w v vs is h q =
     let front = front_bytes w vs h.bytes is h.front in
     front_of a c h.bytes front.0 (output_of w vs) (flushed_front a b c v.output.waiting h.bytes (rw is.waiting at h.follows) q) front.1
 
-pub cut_off : (a c : Option (List ℕ)) (w : World) (vs : List Tagged) → IsBeginning w → Cuts a c w.output.waiting (page_of_forms w vs) → AppendedFront a c (output_of w vs)
+pub cut_off : (a c : Option (List ℕ)) (w : World) (vs : List Tagged) → IsBeginning w → CutsPage a c w.output.waiting (page_of_forms w vs) → AppendedFront a c (output_of w vs)
 cut_off a c w vs is h =
     let front = front_bytes w vs h.bytes is h.front in
     front_of a c h.bytes front.0 (output_of w vs) (rw is.waiting at h.cut) front.1
@@ -95,13 +95,13 @@ rose_out a b (inr h) = absurd (omega arith)
 short : (n : ℕ) → n ≤ 4096 → nat_lt 4096 n ≡ false
 short n h = grind (arith, nat_tests)
 
-meaning_is : (file : List ℕ) → length file ≤ 4096 → meaning (Some file) ≡ meaning_of_forms (data_in file)
+meaning_is : (file : List ℕ) → length file ≤ 4096 → file_meaning (Some file) ≡ meaning_of_forms (data_in file)
 meaning_is file h = rw (short (length file) h) refl
 
-pub unread : (file : List ℕ) → length file ≤ 4096 → None ≡ data_in file → meaning (Some file) ≡ nothing_printed Unbuilt
+pub unread : (file : List ℕ) → length file ≤ 4096 → None ≡ data_in file → file_meaning (Some file) ≡ nothing_printed Unbuilt
 unread file h e = meaning_is file h ∙ ap meaning_of_forms (sym e)
 
-pub not_built : (file : List ℕ) (w : World) (vs : List Tagged) → length file ≤ 4096 → Some (map (datum_in w) vs) ≡ data_in file → are_built w vs ≡ false → meaning (Some file) ≡ nothing_printed Unbuilt
+pub not_built : (file : List ℕ) (w : World) (vs : List Tagged) → length file ≤ 4096 → Some (map (datum_in w) vs) ≡ data_in file → are_built w vs ≡ false → file_meaning (Some file) ≡ nothing_printed Unbuilt
 not_built file w vs h e b = meaning_is file h ∙ (ap meaning_of_forms (sym e) ∙ rw b refl)
 
 pub are_forms : (file : List ℕ) (w v : World) (vs : List Tagged) → length file ≤ 4096 → IsBeginning w → AreRead w v vs → Some (map (datum_in v) vs) ≡ data_in file → are_built v vs ≡ true → AreForms file v vs
@@ -119,12 +119,12 @@ are_forms file w v vs h is r e b = record {
 -- ---- the rule
 
 -- a file that is not built is too long, or spells no built forms
-pub unbuilt_rule : FindsSpelled → FindsNone → (file : List ℕ) → (meaning (Some file)).outcome ≡ Unbuilt → IsUnbuilt file
+pub unbuilt_rule : FindsSpelled → FindsNone → (file : List ℕ) → (file_meaning (Some file)).outcome ≡ Unbuilt → IsUnbuilt file
 unbuilt_rule finds none file e = elim (cases_Bool (nat_lt 4096 (length file))) [
   | inl long ↦ inl (ltb-true 4096 (length file) long)
   | inr small ↦ inr (λ forms spelled built.
       let found : data_in file ≡ Some forms = spelled_found finds none forms file spelled in
-      let ends : (meaning (Some file)).outcome ≡ Finished = rw (small, found, built) refl in
+      let ends : (file_meaning (Some file)).outcome ≡ Finished = rw (small, found, built) refl in
       cc)
 ]
 

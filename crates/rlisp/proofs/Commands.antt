@@ -2,12 +2,12 @@
 use Rattle.std.proofs.Common.{Bool, true, false, ◌≡◌, ◌≢◌, ℕ, zero, suc, ◌<◌, ◌≤◌, List, [], ◌∷◌, ◌++◌, length, take, refl, sym, ap, ◌∙◌, arith, get_or, inl, inr, rules, subst, append_assoc}
 use Rattle.std.proofs.lemmas.Bool.{cases_lt}
 use Rattle.std.specs.Global.{Vec}
-use Rattle.rl_tree.specs.Command.{Word, run_word, IsPath, IsCommand, BeginsCommand, StopsAt}
+use Rattle.rl_tree.specs.Command.{CommandWord, run_word, IsPath, IsCommand, BeginsCommand, StopsAt}
 use Rattle.rlisp.specs.Texts.{texts_of}
 
 -- ---- where they stop
 
-abbrev a_path : Word
+abbrev a_path : CommandWord
 a_path = 65 ∷ []
 
 command : IsCommand (run_word ∷ a_path ∷ []) a_path
@@ -20,32 +20,32 @@ begins_none = record { more = run_word ∷ a_path ∷ []; path = a_path; command
 begins_run : BeginsCommand (run_word ∷ [])
 begins_run = record { more = a_path ∷ []; path = a_path; command = command }
 
-begins_path : (path : Word) → IsPath path → BeginsCommand (run_word ∷ path ∷ [])
+begins_path : (path : CommandWord) → IsPath path → BeginsCommand (run_word ∷ path ∷ [])
 begins_path path p = record { more = []; path = path; command = record { are = refl; path_is = p } }
 
 -- the first word of a command
-first_run : (w : Word) (ws : List Word) → BeginsCommand (w ∷ ws) → w ≡ run_word
+first_run : (w : CommandWord) (ws : List CommandWord) → BeginsCommand (w ∷ ws) → w ≡ run_word
 first_run w ws b = let e = b.command.are in cc
 
-second_path : (w x : Word) (ws : List Word) → BeginsCommand (w ∷ x ∷ ws) → IsPath x
+second_path : (w x : CommandWord) (ws : List CommandWord) → BeginsCommand (w ∷ x ∷ ws) → IsPath x
 second_path w x ws b = let e = b.command.are in let same : x ≡ b.path = cc in rw same b.command.path_is
 
-no_third : (w x y : Word) (ws : List Word) → BeginsCommand (w ∷ x ∷ y ∷ ws) → ⊥
+no_third : (w x y : CommandWord) (ws : List CommandWord) → BeginsCommand (w ∷ x ∷ y ∷ ws) → ⊥
 no_third w x y ws b = let e = b.command.are in cc
 
 pub stops_empty : StopsAt [] 0
 stops_empty = record { within = omega arith; begins = begins_none; stops = λ l _. omega arith; not_whole = λ path c. let e = c.are in cc }
 
-pub stops_first : (w : Word) (ws : List Word) → w ≢ run_word → StopsAt (w ∷ ws) 0
+pub stops_first : (w : CommandWord) (ws : List CommandWord) → w ≢ run_word → StopsAt (w ∷ ws) 0
 stops_first w ws n = record { within = omega arith; begins = begins_none; stops = λ _ b. n (first_run w [] b); not_whole = λ path c. n (let e = c.are in cc) }
 
 pub stops_run : StopsAt (run_word ∷ []) 1
 stops_run = record { within = omega arith; begins = begins_run; stops = λ l _. omega arith; not_whole = λ path c. let e = c.are in cc }
 
-pub stops_second : (x : Word) (ws : List Word) → (IsPath x → ⊥) → StopsAt (run_word ∷ x ∷ ws) 1
+pub stops_second : (x : CommandWord) (ws : List CommandWord) → (IsPath x → ⊥) → StopsAt (run_word ∷ x ∷ ws) 1
 stops_second x ws n = record { within = omega arith; begins = begins_run; stops = λ _ b. n (second_path run_word x [] b); not_whole = λ path c. let e = c.are in let same : x ≡ path = cc in n (rw same c.path_is) }
 
-pub stops_third : (x y : Word) (ws : List Word) → IsPath x → StopsAt (run_word ∷ x ∷ y ∷ ws) 2
+pub stops_third : (x y : CommandWord) (ws : List CommandWord) → IsPath x → StopsAt (run_word ∷ x ∷ y ∷ ws) 2
 stops_third x y ws p = record { within = omega arith; begins = begins_path x p; stops = λ _ b. no_third run_word x y [] b; not_whole = λ path c. let e = c.are in cc }
 
 -- ---- for the words in memory
@@ -71,8 +71,8 @@ run_stops (x ∷ y ∷ rest) u l e n = absurd (omega arith)
 pub path_stops : (words : List (Vec ℕ)) (u v : Vec ℕ) → length words ≢ 0 → length words ≢ 1 → u ≡ get_or words 0 u → v ≡ get_or words 1 v → u.items ≡ run_word → (IsPath v.items → ⊥) → StopsAt (texts_of words) 1
 path_stops words u v l m e f n p =
     let r = first_two words u v l m e f in
-    let are : texts_of words ≡ run_word ∷ v.items ∷ texts_of r.0 = ap texts_of r.1 ∙ ap (λ (w : Word). w ∷ v.items ∷ texts_of r.0) n in
-    subst (λ (ws : List Word). StopsAt ws 1) (sym are) (stops_second v.items (texts_of r.0) p)
+    let are : texts_of words ≡ run_word ∷ v.items ∷ texts_of r.0 = ap texts_of r.1 ∙ ap (λ (w : CommandWord). w ∷ v.items ∷ texts_of r.0) n in
+    subst (λ (ws : List CommandWord). StopsAt ws 1) (sym are) (stops_second v.items (texts_of r.0) p)
 
 pub more_stops : (words : List (Vec ℕ)) (u v : Vec ℕ) → 2 < length words → u ≡ get_or words 0 u → v ≡ get_or words 1 v → u.items ≡ run_word → IsPath v.items → StopsAt (texts_of words) 2
 more_stops [] u v l e f n p = absurd (omega arith)
@@ -88,23 +88,23 @@ two_run (x ∷ y ∷ z ∷ rest) u v l m k e f n p = absurd (omega arith)
 
 -- ---- a command stops at one word
 
-begins_front : (xs ys : List Word) → BeginsCommand (xs ++ ys) → BeginsCommand xs
+begins_front : (xs ys : List CommandWord) → BeginsCommand (xs ++ ys) → BeginsCommand xs
 begins_front xs ys b = record { more = ys ++ b.more; path = b.path; command = rw (← append_assoc) b.command }
 
 -- the first j words come first among the first k
-fewer_first : (words : List Word) (j k : ℕ) → j ≤ k → (rest : List Word) × (take k words ≡ take j words ++ rest)
+fewer_first : (words : List CommandWord) (j k : ℕ) → j ≤ k → (rest : List CommandWord) × (take k words ≡ take j words ++ rest)
 fewer_first words zero k l = (take k words, refl)
 fewer_first words (suc j) zero l = absurd (omega arith)
 fewer_first [] (suc j) (suc k) l = ([], refl)
-fewer_first (w ∷ ws) (suc j) (suc k) l = let r = fewer_first ws j k (omega arith) in (r.0, ap (λ (vs : List Word). w ∷ vs) r.1)
+fewer_first (w ∷ ws) (suc j) (suc k) l = let r = fewer_first ws j k (omega arith) in (r.0, ap (λ (vs : List CommandWord). w ∷ vs) r.1)
 
-begins_fewer : (words : List Word) (j k : ℕ) → j ≤ k → BeginsCommand (take k words) → BeginsCommand (take j words)
+begins_fewer : (words : List CommandWord) (j k : ℕ) → j ≤ k → BeginsCommand (take k words) → BeginsCommand (take j words)
 begins_fewer words j k l b = let r = fewer_first words j k l in begins_front (take j words) r.0 (subst BeginsCommand r.1 b)
 
-no_later : (words : List Word) (j k : ℕ) → StopsAt words j → StopsAt words k → j < k → ⊥
+no_later : (words : List CommandWord) (j k : ℕ) → StopsAt words j → StopsAt words k → j < k → ⊥
 no_later words j k a b l = a.stops (omega (arith, b.within)) (begins_fewer words (suc j) k (omega arith) b.begins)
 
-pub stops_once : (words : List Word) (j k : ℕ) → StopsAt words j → StopsAt words k → j ≡ k
+pub stops_once : (words : List CommandWord) (j k : ℕ) → StopsAt words j → StopsAt words k → j ≡ k
 stops_once words j k a b =
     elim (cases_lt j k) [
       | inl l ↦ absurd (no_later words j k a b l)

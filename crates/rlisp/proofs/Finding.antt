@@ -11,7 +11,7 @@ use Rattle.rl_text.specs.Datum.{Datum}
 use Rattle.rl_text.specs.Gap.{comment_after, IsBlankText}
 use Rattle.rl_text.specs.Word.{Word, Number, Named, Single, Text, Plain, Escaped, Character, word_text, character_text, IsWord}
 use Rattle.rl_text.specs.Word as word
-use Rattle.rl_text.specs.Spelling.{Token, Sign, Spelled, token_text, IsToken, AreTokens, IsSpelled, Spelling, Atom, Quoted, Empty, Listed, Vectored, tokens_of, rest_tokens, places_tokens}
+use Rattle.rl_text.specs.Spelling.{LispToken, Sign, Spelled, token_text, IsToken, AreTokens, IsSpelled, Spelling, Atom, Quoted, Empty, Listed, Vectored, tokens_of, rest_tokens, places_tokens}
 use Rattle.rl_text.specs.Laws.{FindsSpelled, FindsNone}
 use Rattle.rl_text.specs.Reader.{Gap, Comment, Mode, NoneLeft, read_from, read_by}
 use Rattle.rl_text.specs.Reading.{Reading, Found, NoText, Unreadable, reading}
@@ -25,12 +25,12 @@ sign_some word.Unsigned digits h = h
 sign_some word.Plus digits h = omega arith
 sign_some word.Minus digits h = omega arith
 
-named_some : (cs : List Character) → word.is_name cs ≡ true → 0 < length (word_text (Named cs))
+named_some : (cs : List Character) → word.are_name_characters cs ≡ true → 0 < length (word_text (Named cs))
 named_some [] h = absurd (cc)
 named_some (Plain b ∷ cs) h = omega arith
 named_some (Escaped b ∷ cs) h = omega arith
 
-token_some : (token : Token) → IsToken token → 0 < length (token_text token)
+token_some : (token : LispToken) → IsToken token → 0 < length (token_text token)
 token_some (Sign mark) h = omega arith
 token_some (Spelled (Number sign digits)) h = sign_some sign digits h.some
 token_some (Spelled (Named cs)) h = named_some cs h.name
@@ -40,14 +40,14 @@ token_some (Spelled (Text bytes)) h = omega arith
 front_shorter : (gap text rest : List ℕ) → 0 < length text → length rest < length (gap ++ (text ++ rest))
 front_shorter gap text rest some = omega (arith, length-append gap (text ++ rest), length-append text rest)
 
-tokens_shorter : (tokens : List Token) (bytes rest : List ℕ) → AreTokens tokens bytes rest → length rest ≤ length bytes
+tokens_shorter : (tokens : List LispToken) (bytes rest : List ℕ) → AreTokens tokens bytes rest → length rest ≤ length bytes
 tokens_shorter [] bytes rest h = omega (arith, ap length h)
 tokens_shorter (token ∷ tokens) bytes rest h =
     let more = tokens_shorter tokens h.0 rest h.2 in
     let less : length h.0 < length bytes = rw h.1.is (front_shorter h.1.gap (token_text token) h.0 (token_some token h.1.token_is)) in
     omega (arith, more, less)
 
-some_shorter : (token : Token) (tokens : List Token) (bytes rest : List ℕ) → AreTokens (token ∷ tokens) bytes rest → length rest < length bytes
+some_shorter : (token : LispToken) (tokens : List LispToken) (bytes rest : List ℕ) → AreTokens (token ∷ tokens) bytes rest → length rest < length bytes
 some_shorter token tokens bytes rest h =
     let more = tokens_shorter tokens h.0 rest h.2 in
     let less : length h.0 < length bytes = rw h.1.is (front_shorter h.1.gap (token_text token) h.0 (token_some token h.1.token_is)) in

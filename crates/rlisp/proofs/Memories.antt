@@ -13,12 +13,12 @@ use Rattle.rl_read.specs.Data.{IsDatumWithin, datum_within}
 use Rattle.rl_read.specs.Laws.{PairsAreData}
 use Rattle.rl_world.specs.Output.{Output}
 use Rattle.rl_world.specs.declared.world.World.{World}
-use Rattle.rlisp.specs.World.{IsKnown, IsNameOf, IsRunning, IsBeginning, Keeps, Stands, datum_in}
-use Rattle.rlisp.specs.Forms.{is_name, is_plain}
+use Rattle.rlisp.specs.World.{IsKnown, IsNameOf, IsRunning, IsBeginning, KeepsKnown, StandsForDatum, datum_in}
+use Rattle.rlisp.specs.Forms.{is_name_datum, is_plain}
 
 -- ---- what a value is, by its tag
 
-pub id_seen : (w : World) (v : Tagged) → Tag.Id ≡ tag_of v → is_name (datum_in w v) ≡ true
+pub id_seen : (w : World) (v : Tagged) → Tag.Id ≡ tag_of v → is_name_datum (datum_in w v) ≡ true
 unfolding datum_in
 id_seen w (IdAt k) t = refl
 id_seen w (Number z) t = cc
@@ -85,14 +85,14 @@ grown_running kept leave w a d is = record {
   line = is.line;
 }
 
-pub grown_keeps : PairsAreData → (w : World) (a d : Tagged) → IsRunning w → Keeps w (grown_world w a d)
+pub grown_keeps : PairsAreData → (w : World) (a d : Tagged) → IsRunning w → KeepsKnown w (grown_world w a d)
 unfolding datum_in
 grown_keeps law w a d is = record {
   known = λ v h. record { is = law.kept w.cells.cells w.syms.head a d v is.table h.is };
   datum = λ v h. law.same w.cells.cells w.syms.head a d v is.table h.is;
 }
 
-pub grown_stands : PairsAreData → (w : World) (a d : Tagged) → IsRunning w → IsKnown w a → IsKnown w d → Stands (grown_world w a d) (PairAt (length w.cells.cells)) (Pair (datum_in w a) (datum_in w d))
+pub grown_stands : PairsAreData → (w : World) (a d : Tagged) → IsRunning w → IsKnown w a → IsKnown w d → StandsForDatum (grown_world w a d) (PairAt (length w.cells.cells)) (Pair (datum_in w a) (datum_in w d))
 unfolding datum_in
 grown_stands law w a d is ka kd = record {
   known = record { is = law.made w.cells.cells w.syms.head a d is.table ka.is kd.is };

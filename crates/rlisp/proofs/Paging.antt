@@ -14,11 +14,11 @@ use Rattle.rl_text.specs.Printed.{Piece, Atom, Mark, pieces_of, with_piece, with
 use Rattle.rl_read.specs.Laws.{MeansDatum}
 use Rattle.rl_world.specs.declared.stop.Stop.{Stop}
 use Rattle.rl_world.specs.declared.world.World.{World}
-use Rattle.rl_print.specs.Walk.{IsPrinted, IsPrinting, levels_left, progress_in, setting_in, whole_printed}
+use Rattle.rl_print.specs.Walk.{IsPrinted, IsPrinting, levels_left, progress_in_world, setting_in_world, whole_printed}
 use Rattle.rl_print.specs.Walk as walk
 use Rattle.rlisp.specs.Evaluation.{line_length}
 use Rattle.rlisp.specs.World.{IsKnown, IsRunning, datum_in}
-use Rattle.rlisp.specs.Pages.{page_in, Prints, IsFront, Halts, Cuts, KeepsObjects}
+use Rattle.rlisp.specs.Pages.{page_in, PrintsOnPage, IsFrontOfPage, HaltsPage, CutsPage, KeepsObjects}
 
 -- ---- a page behind a text
 
@@ -53,7 +53,7 @@ datum_apart style n d page = pieces_apart n (pieces_of style d) page
 
 -- ---- what PRIN1 and PRIN2 print
 
-stored : MeansDatum → (w : World) (v : Tagged) → IsRunning w → IsKnown w v → (style : atoms.Style) → let g = setting_in style w in IsStored g.store g.names g.nil (value_of w.cells.cells v) (datum_in w v)
+stored : MeansDatum → (w : World) (v : Tagged) → IsRunning w → IsKnown w v → (style : atoms.Style) → let g = setting_in_world style w in IsStored g.store g.names g.nil (value_of w.cells.cells v) (datum_in w v)
 unfolding datum_in
 stored law w v is known style = law w.cells.cells w.syms.head v is.table is.nil known.is
 
@@ -66,10 +66,10 @@ line_is style w v page is = ap (λ n. with_datum style n (datum_in w v) page) is
 
 -- where all is printed
 pub all_shown : MeansDatum → PrintsData → (before now : Option (List ℕ)) (style : atoms.Style) (old new : World) (v : Tagged) → IsRunning old → IsKnown old v → IsPrinted before now style old new v
-    → Prints before now old.output.waiting new.output.waiting (λ text. Some (shown style old v text)) (λ text. Some (page_in new text))
+    → PrintsOnPage before now old.output.waiting new.output.waiting (λ text. Some (shown style old v text)) (λ text. Some (page_in new text))
 all_shown means law before now style old new v is known h =
     let all = whole_printed style old v [] in
-    let alone : all.page ≡ with_datum style old.output.line_length (datum_in old v) (blank old.output.column) = law.whole (setting_in style old) (value_of old.cells.cells v) (datum_in old v) (levels_left old) (progress_in old []) refl (stored means old v is known style) h.whole in
+    let alone : all.page ≡ with_datum style old.output.line_length (datum_in old v) (blank old.output.column) = law.whole (setting_in_world style old) (value_of old.cells.cells v) (datum_in old v) (levels_left old) (progress_in_world old []) refl (stored means old v is known style) h.whole in
     let page : with_datum style line_length (datum_in old v) (blank old.output.column) ≡ all.page = sym (alone ∙ line_is style old v (blank old.output.column) is) in
     record {
       bytes = all.page.text;
@@ -78,19 +78,19 @@ all_shown means law before now style old new v is known h =
     }
 
 -- a front of what the walk prints is one of what is printed of the datum
-front_shown : MeansDatum → PrintsData → (style : atoms.Style) (old : World) (v : Tagged) (bytes : List ℕ) → IsRunning old → IsKnown old v → ((text : List ℕ) → (rest : List ℕ) × ((whole_printed style old v text).page.text ≡ (text ++ bytes) ++ rest)) → IsFront (λ text. Some (shown style old v text)) bytes
+front_shown : MeansDatum → PrintsData → (style : atoms.Style) (old : World) (v : Tagged) (bytes : List ℕ) → IsRunning old → IsKnown old v → ((text : List ℕ) → (rest : List ℕ) × ((whole_printed style old v text).page.text ≡ (text ++ bytes) ++ rest)) → IsFrontOfPage (λ text. Some (shown style old v text)) bytes
 front_shown means law style old v bytes is known more = record {
   more = λ text.
       let first = more text in
-      let next = law.front (setting_in style old) (value_of old.cells.cells v) (datum_in old v) (levels_left old) (progress_in old text) refl (stored means old v is known style) in (
+      let next = law.front (setting_in_world style old) (value_of old.cells.cells v) (datum_in old v) (levels_left old) (progress_in_world old text) refl (stored means old v is known style) in (
         first.0 ++ next.0,
         ap (λ (p : Page). p.text) (sym (line_is style old v (page_in old text) is)) ∙ (next.1 ∙ (ap (λ t. t ++ next.0) first.1 ∙ append_assoc (text ++ bytes) first.0 next.0)),
       );
 }
 
 -- where a turn or a level was wanting
-pub front_halts : MeansDatum → PrintsData → (before now : Option (List ℕ)) (style : atoms.Style) (old new : World) (v : Tagged) (s : Stop) → IsRunning old → IsKnown old v → walk.Halts before now old new (whole_printed style old v) s
-    → Halts before now old.output.waiting new.output.waiting (λ text. Some (shown style old v text))
+pub front_halts : MeansDatum → PrintsData → (before now : Option (List ℕ)) (style : atoms.Style) (old new : World) (v : Tagged) (s : Stop) → IsRunning old → IsKnown old v → walk.HaltsPrinting before now old new (whole_printed style old v) s
+    → HaltsPage before now old.output.waiting new.output.waiting (λ text. Some (shown style old v text))
 front_halts means law before now style old new v s is known h = record {
   bytes = h.prints.bytes;
   follows = h.prints.follows;
@@ -98,8 +98,8 @@ front_halts means law before now style old new v s is known h = record {
 }
 
 -- where the output failed
-pub front_cut : MeansDatum → PrintsData → (before now : Option (List ℕ)) (style : atoms.Style) (old : World) (v : Tagged) → IsRunning old → IsKnown old v → walk.Cuts before now old.output.waiting (whole_printed style old v)
-    → Cuts before now old.output.waiting (λ text. Some (shown style old v text))
+pub front_cut : MeansDatum → PrintsData → (before now : Option (List ℕ)) (style : atoms.Style) (old : World) (v : Tagged) → IsRunning old → IsKnown old v → walk.CutsPrinting before now old.output.waiting (whole_printed style old v)
+    → CutsPage before now old.output.waiting (λ text. Some (shown style old v text))
 front_cut means law before now style old v is known h = record {
   bytes = h.bytes;
   cut = h.cut;

@@ -15,7 +15,7 @@ use Rattle.rl_read.specs.Reads.{IsRefusedText}
 use Rattle.rl_read.specs.Laws.{ReadsText, ReadsData, IsNamedStock}
 use Rattle.rl_world.specs.declared.world.World.{World}
 use Rattle.rlisp.specs.Meaning.{data_in}
-use Rattle.rlisp.specs.World.{IsKnown, IsRunning, Keeps, datum_in}
+use Rattle.rlisp.specs.World.{IsKnown, IsRunning, KeepsKnown, datum_in}
 use Rattle.rlisp.proofs.Evaluating.{kept_values}
 use Rattle.rlisp.proofs.Finding.{data_found, data_none, data_refused, blank_stock, spelled_shorter}
 use Rattle.rlisp.proofs.Testing.{known_seam}
@@ -24,7 +24,7 @@ named_stock : (w : World) → IsRunning w → IsNamedStock (stock_of w)
 named_stock w is = record { table = is.table; nil = is.nil }
 
 -- names and the line length stay
-pub read_running : (w v : World) → IsRunning w → IsTable v.cells.cells v.syms.head → reads.Keeps w v → IsRunning v
+pub read_running : (w v : World) → IsRunning w → IsTable v.cells.cells v.syms.head → reads.KeepsByReading w v → IsRunning v
 read_running w v is table k = record {
   table = table;
   nil = k.names _ _ is.nil;
@@ -39,7 +39,7 @@ read_running w v is table k = record {
 }
 
 -- nothing is printed
-pub read_output : (w v : World) → reads.Keeps w v → v.output.waiting ≡ w.output.waiting → v.output ≡ w.output
+pub read_output : (w v : World) → reads.KeepsByReading w v → v.output.waiting ≡ w.output.waiting → v.output ≡ w.output
 read_output w v k e = ap (λ (w : World). w.output) k.world ∙ ap (λ bytes. record w.output { waiting = bytes }) e
 
 -- ---- a form
@@ -48,7 +48,7 @@ read_output w v k e = ap (λ (w : World). w.output) k.world ∙ ap (λ bytes. re
 abbrev pub IsRead : World → World → Tagged → List ℕ → List ℕ → Type 0
 IsRead w v x before now = read_by (in_stock false) (stock_of w) before ≡ Read x (stock_of v) now
 
-pub read_keeps : ReadsData → (w v : World) (x : Tagged) (before now : List ℕ) → IsRunning w → IsRead w v x before now → Keeps w v
+pub read_keeps : ReadsData → (w v : World) (x : Tagged) (before now : List ℕ) → IsRunning w → IsRead w v x before now → KeepsKnown w v
 unfolding datum_in
 read_keeps law w v x before now is e =
     let k = law.keeps false (stock_of w) (stock_of v) before now x (named_stock w is) e in
@@ -81,7 +81,7 @@ read_more law finds w v x file before now vs new is e known push h =
 abbrev pub IsEnd : World → World → List ℕ → Type 0
 IsEnd w v before = read_by (in_stock false) (stock_of w) before ≡ NoneLeft (stock_of v)
 
-end_keeps : ReadsText → (w v : World) (before : List ℕ) → IsEnd w v before → Keeps w v
+end_keeps : ReadsText → (w v : World) (before : List ℕ) → IsEnd w v before → KeepsKnown w v
 unfolding datum_in
 end_keeps law w v before e =
     let same = blank_stock (stock_of w) (stock_of v) before (law.none false (stock_of w) (stock_of v) before e) e in

@@ -9,7 +9,7 @@ use Rattle.rl_text.specs.Datum.{Datum}
 use Rattle.rl_world.specs.declared.world.World.{World}
 use Rattle.rlisp.specs.Evaluation.{is_built}
 use Rattle.rlisp.specs.World.{IsKnown, datum_in}
-use Rattle.rlisp.specs.Forms.{call, cons_call, printer_name, pairs_of, tests_left, are_built, IsTested}
+use Rattle.rlisp.specs.Forms.{call, cons_call, printer_name, pairs_of_datum, tests_left, are_built, IsTested}
 use Rattle.rlisp.specs.declared.forms.Printer.{Printer}
 use Rattle.rlisp.specs.declared.forms.Printer.TheVariants as printer
 
@@ -36,11 +36,11 @@ and_turn false b false = refl
 pub built_seam : (w : World) (vs : List Tagged) (v : Tagged) → are_built w (vs ++ v ∷ []) ≡ (are_built w vs && is_built (datum_in w v))
 built_seam w vs v = ap (list_all is_built) (map-append (datum_in w) vs (v ∷ [])) ∙ (list_all-append is_built (map (datum_in w) vs) (datum_in w v ∷ []) ∙ ap (λ b. are_built w vs && b) (and_true (is_built (datum_in w v))))
 
-tests_seam : (ds : List Datum) (d : Datum) → tests_left (ds ++ d ∷ []) ≡ tests_left ds + (pairs_of d + 1)
+tests_seam : (ds : List Datum) (d : Datum) → tests_left (ds ++ d ∷ []) ≡ tests_left ds + (pairs_of_datum d + 1)
 tests_seam [] d = omega arith
 tests_seam (x ∷ xs) d = let rest = tests_seam xs d in omega (arith, rest)
 
-left_seam : (w : World) (vs : List Tagged) (v : Tagged) → tests_left (map (datum_in w) (vs ++ v ∷ [])) ≡ tests_left (map (datum_in w) vs) + (pairs_of (datum_in w v) + 1)
+left_seam : (w : World) (vs : List Tagged) (v : Tagged) → tests_left (map (datum_in w) (vs ++ v ∷ [])) ≡ tests_left (map (datum_in w) vs) + (pairs_of_datum (datum_in w v) + 1)
 left_seam w vs v = ap tests_left (map-append (datum_in w) vs (v ∷ [])) ∙ tests_seam (map (datum_in w) vs) (datum_in w v)
 
 pub known_seam : (w : World) (vs : List Tagged) (v : Tagged) → All (IsKnown w) vs → IsKnown w v → All (IsKnown w) (vs ++ v ∷ [])
@@ -55,7 +55,7 @@ printer_built printer.Prin2 a = refl
 
 pub print_tested : (w : World) (d : Datum) (f : Printer) (a : Tagged) (old new : List Tagged) → All (IsKnown w) old → IsKnown w a × (d ≡ call (printer_name f) (datum_in w a)) → new ≡ old ++ a ∷ [] → IsTested w d old new
 print_tested w d f a old new known h e =
-    let pairs : pairs_of d ≡ pairs_of (call (printer_name f) (datum_in w a)) = ap pairs_of h.1 in
+    let pairs : pairs_of_datum d ≡ pairs_of_datum (call (printer_name f) (datum_in w a)) = ap pairs_of_datum h.1 in
     let left = left_seam w old a in
     rw e (record {
       same = ap (λ x. is_built x && are_built w old) h.1 ∙ (ap (λ b. b && are_built w old) (printer_built f (datum_in w a)) ∙ (and_swap (is_built (datum_in w a)) (are_built w old) ∙ sym (built_seam w old a)));
@@ -65,7 +65,7 @@ print_tested w d f a old new known h e =
 
 pub cons_tested : (w : World) (d : Datum) (a b : Tagged) (old mid new : List Tagged) → All (IsKnown w) old → IsKnown w a × IsKnown w b × (d ≡ cons_call (datum_in w a) (datum_in w b)) → mid ≡ old ++ a ∷ [] → new ≡ mid ++ b ∷ [] → IsTested w d old new
 cons_tested w d a b old mid new known h e1 e2 =
-    let pairs : pairs_of d ≡ pairs_of (cons_call (datum_in w a) (datum_in w b)) = ap pairs_of h.2 in
+    let pairs : pairs_of_datum d ≡ pairs_of_datum (cons_call (datum_in w a) (datum_in w b)) = ap pairs_of_datum h.2 in
     let first = left_seam w old a in
     let second = left_seam w (old ++ a ∷ []) b in
     let x = is_built (datum_in w a) in
@@ -90,7 +90,7 @@ taken_built w all vs new v e h = sym h.same ∙ (and_swap (is_built (datum_in w 
 
 pub taken_fewer : (w : World) (all vs new : List Tagged) (v : Tagged) → all ≡ vs ++ v ∷ [] → IsTested w (datum_in w v) vs new → tests_left (map (datum_in w) new) < tests_left (map (datum_in w) all)
 taken_fewer w all vs new v e h =
-    let left : tests_left (map (datum_in w) all) ≡ tests_left (map (datum_in w) vs) + (pairs_of (datum_in w v) + 1) = ap (λ vs. tests_left (map (datum_in w) vs)) e ∙ left_seam w vs v in
+    let left : tests_left (map (datum_in w) all) ≡ tests_left (map (datum_in w) vs) + (pairs_of_datum (datum_in w v) + 1) = ap (λ vs. tests_left (map (datum_in w) vs)) e ∙ left_seam w vs v in
     omega (arith, left, h.fewer)
 
 -- one that is not built is enough

@@ -34,8 +34,8 @@ abbrev pub is_printer : Name → Bool
 is_printer f = bytes_eq f print_name || (bytes_eq f prin1_name || bytes_eq f prin2_name)
 
 -- PRIN1 and PRIN2 of a datum; PRINT is PRIN1 and an end of line
-abbrev pub printed_by : Name → Datum → Page → Page
-printed_by f d page =
+abbrev pub printed_on_page : Name → Datum → Page → Page
+printed_on_page f d page =
     if bytes_eq f prin2_name then with_datum Prin2 line_length d page
     else (if bytes_eq f prin1_name then with_datum Prin1 line_length d page
     else with_end_of_line (with_datum Prin1 line_length d page))
@@ -56,7 +56,7 @@ abbrev pub evaluated : Datum → Page → Valued
 evaluated (Pair (Id f) (Id end)) page = record { value = nil; page = with_end_of_line page }
 evaluated (Pair (Id f) (Pair a (Id end))) page =
     if bytes_eq f quote_name then record { value = a; page = page }
-    else (let x = evaluated a page in record { value = x.value; page = printed_by f x.value x.page })
+    else (let x = evaluated a page in record { value = x.value; page = printed_on_page f x.value x.page })
 evaluated (Pair (Id f) (Pair a (Pair b (Id end)))) page =
     let x = evaluated a page in let y = evaluated b x.page in record { value = Pair x.value y.value; page = y.page }
 evaluated form page = record { value = form; page = page }

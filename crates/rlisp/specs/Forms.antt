@@ -15,12 +15,12 @@ use Rattle.rlisp.specs.declared.forms.Printer.TheVariants as printer
 use Rattle.rlisp.specs.declared.forms.Form.{Form}
 use Rattle.rlisp.specs.declared.forms.Form.TheVariants as form
 
-abbrev pub is_name : Datum → Bool
-is_name (Int z) = false
-is_name (Id name) = true
-is_name (Str bytes) = false
-is_name (Pair a d) = false
-is_name (Vector es) = false
+abbrev pub is_name_datum : Datum → Bool
+is_name_datum (Int z) = false
+is_name_datum (Id name) = true
+is_name_datum (Str bytes) = false
+is_name_datum (Pair a d) = false
+is_name_datum (Vector es) = false
 
 -- neither a name nor a pair
 abbrev pub is_plain : Datum → Bool
@@ -71,17 +71,17 @@ IsForm w d form.Unbuilt = is_built d ≡ false
 -- ---- the test
 
 -- the pairs of a datum, but for those in its vectors
-abbrev pub pairs_of : Datum → ℕ
-pairs_of (Int z) = 0
-pairs_of (Id name) = 0
-pairs_of (Str bytes) = 0
-pairs_of (Vector es) = 0
-pairs_of (Pair a d) = pairs_of a + pairs_of d + 1
+abbrev pub pairs_of_datum : Datum → ℕ
+pairs_of_datum (Int z) = 0
+pairs_of_datum (Id name) = 0
+pairs_of_datum (Str bytes) = 0
+pairs_of_datum (Vector es) = 0
+pairs_of_datum (Pair a d) = pairs_of_datum a + pairs_of_datum d + 1
 
 -- more than the tests that are left
 abbrev pub tests_left : List Datum → ℕ
 tests_left [] = 0
-tests_left (d ∷ ds) = pairs_of d + 1 + tests_left ds
+tests_left (d ∷ ds) = pairs_of_datum d + 1 + tests_left ds
 
 abbrev pub are_built : World → List Tagged → Bool
 are_built w vs = list_all is_built (map (datum_in w) vs)
@@ -90,7 +90,7 @@ are_built w vs = list_all is_built (map (datum_in w) vs)
 pub record IsTested (w : World) (d : Datum) (old new : List Tagged) : Type 0 where
   pub same : (is_built d && are_built w old) ≡ are_built w new
   pub known : All (IsKnown w) new
-  pub fewer : tests_left (map (datum_in w) new) < pairs_of d + 1 + tests_left (map (datum_in w) old)
+  pub fewer : tests_left (map (datum_in w) new) < pairs_of_datum d + 1 + tests_left (map (datum_in w) old)
 
 -- one test: there is more to be seen, or the form is not built
 abbrev pub IsTest : World → Datum → List Tagged → List Tagged → Bool → Type 0

@@ -15,17 +15,17 @@ Loads file Fault = Unit {0}
 Loads file OutOfMemory = Unit {0}
 
 -- only a file that is not too long is handed out
-abbrev pub IsShort : Loaded → Type 0
-IsShort (File bytes) = length bytes.items ≤ longest_file
-IsShort Long = Unit {0}
-IsShort Missing = Unit {0}
-IsShort Fault = Unit {0}
-IsShort OutOfMemory = Unit {0}
+abbrev pub IsShortFile : Loaded → Type 0
+IsShortFile (File bytes) = length bytes.items ≤ longest_file
+IsShortFile Long = Unit {0}
+IsShortFile Missing = Unit {0}
+IsShortFile Fault = Unit {0}
+IsShortFile OutOfMemory = Unit {0}
 
 -- the count of faults rose for a fault, and stayed for any other answer
-abbrev pub Counts : ℕ → ℕ → Loaded → Type 0
-Counts before now Fault = Rose before now
-Counts before now (File bytes) = now ≡ before
-Counts before now Long = now ≡ before
-Counts before now Missing = now ≡ before
-Counts before now OutOfMemory = now ≡ before
+abbrev pub FaultsCounted : ℕ → ℕ → Loaded → Type 0
+FaultsCounted before now Fault = Rose before now
+FaultsCounted before now (File bytes) = now ≡ before
+FaultsCounted before now Long = now ≡ before
+FaultsCounted before now Missing = now ≡ before
+FaultsCounted before now OutOfMemory = now ≡ before

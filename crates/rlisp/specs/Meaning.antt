@@ -32,14 +32,14 @@ data_in bytes = data_within (length bytes) bytes
 -- ---- a run
 
 -- the source was read to its end; there is no such file; or it has something that is not built yet
-pub data Outcome : Type 0 where
-  Finished : Outcome
-  Missing : Outcome
-  Unbuilt : Outcome
+pub data FileOutcome : Type 0 where
+  Finished : FileOutcome
+  Missing : FileOutcome
+  Unbuilt : FileOutcome
 
 -- how a run ends, and the bytes that it printed
 pub record Meaning : Type 0 where
-  pub outcome : Outcome
+  pub outcome : FileOutcome
   pub output : List ℕ
 
 -- bytes of the longest file that is built
@@ -49,7 +49,7 @@ longest_file = 4096
 abbrev pub empty_page : Page
 empty_page = record { text = []; column = 0 }
 
-abbrev pub nothing_printed : Outcome → Meaning
+abbrev pub nothing_printed : FileOutcome → Meaning
 nothing_printed outcome = record { outcome = outcome; output = [] }
 
 -- the whole file is tested first: where it has a form that is not built, nothing is printed
@@ -59,9 +59,9 @@ meaning_of_forms (Some forms) =
     if list_all is_built forms then record { outcome = Finished; output = (page_after forms empty_page).text } else nothing_printed Unbuilt
 
 -- the meaning of a run over the bytes of its file, or over no file
-abbrev pub meaning : Option (List ℕ) → Meaning
-meaning None = nothing_printed Missing
-meaning (Some file) = if nat_lt longest_file (length file) then nothing_printed Unbuilt else meaning_of_forms (data_in file)
+abbrev pub file_meaning : Option (List ℕ) → Meaning
+file_meaning None = nothing_printed Missing
+file_meaning (Some file) = if nat_lt longest_file (length file) then nothing_printed Unbuilt else meaning_of_forms (data_in file)
 
 -- the file is too long, or its bytes spell no list of built forms
 abbrev pub IsUnbuilt : List ℕ → Type 0

@@ -13,26 +13,26 @@ abbrev pub Told : Type 0
 Told = List ℕ → Option Page
 
 -- some bytes were printed, and behind them comes what came of all before
-pub record Prints (before now : Option (List ℕ)) (waited waiting : List ℕ) (old new : Told) : Type 0 where
+pub record PrintsOnPage (before now : Option (List ℕ)) (waited waiting : List ℕ) (old new : Told) : Type 0 where
   pub bytes : List ℕ
   pub follows : Follows before waited now waiting bytes
   pub means : (text : List ℕ) → old text ≡ new (text ++ bytes)
 
 -- the bytes are a front of what is printed
-pub record IsFront (whole : Told) (bytes : List ℕ) : Type 0 where
+pub record IsFrontOfPage (whole : Told) (bytes : List ℕ) : Type 0 where
   pub more : (text : List ℕ) → IfSome (whole text) (λ page. (rest : List ℕ) × (page.text ≡ (text ++ bytes) ++ rest))
 
 -- a front of what is printed follows what waited
-pub record Halts (before now : Option (List ℕ)) (waited waiting : List ℕ) (whole : Told) : Type 0 where
+pub record HaltsPage (before now : Option (List ℕ)) (waited waiting : List ℕ) (whole : Told) : Type 0 where
   pub bytes : List ℕ
   pub follows : Follows before waited now waiting bytes
-  pub front : IsFront whole bytes
+  pub front : IsFrontOfPage whole bytes
 
 -- a front of what waited and of what is printed came to the sink
-pub record Cuts (before now : Option (List ℕ)) (waited : List ℕ) (whole : Told) : Type 0 where
+pub record CutsPage (before now : Option (List ℕ)) (waited : List ℕ) (whole : Told) : Type 0 where
   pub bytes : List ℕ
   pub cut : IsCutOff before now (waited ++ bytes)
-  pub front : IsFront whole bytes
+  pub front : IsFrontOfPage whole bytes
 
 -- of the world only turns, levels and what is printed have changed
 pub record KeepsObjects (old new : World) : Type 0 where

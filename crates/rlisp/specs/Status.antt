@@ -1,22 +1,22 @@
 -- How a run ends, as its status says it.
 use Rattle.std.specs.Prelude.{ℕ, zero, suc, List, [], ◌∷◌, ◌++◌, Option, Some, None, Bool, true, false, codes, decimal}
-use Rattle.rlisp.specs.Meaning.{Outcome, Finished}
+use Rattle.rlisp.specs.Meaning.{FileOutcome, Finished}
 use Rattle.rlisp.specs.Meaning as meaning
 use Rattle.rlisp.specs.declared.status.Status.{Status}
 use Rattle.rlisp.specs.declared.status.Status.TheVariants.{Done, Usage, Missing, WriteFault, FileFault, OutOfMemory, Unbuilt}
 
 -- the number by which a program ends with it
-abbrev pub number_of : Status → ℕ
-number_of Done = 0
-number_of (Usage word) = 2
-number_of (Missing name) = 3
-number_of WriteFault = 5
-number_of FileFault = 6
-number_of OutOfMemory = 12
-number_of Unbuilt = 13
+abbrev pub status_number : Status → ℕ
+status_number Done = 0
+status_number (Usage word) = 2
+status_number (Missing name) = 3
+status_number WriteFault = 5
+status_number FileFault = 6
+status_number OutOfMemory = 12
+status_number Unbuilt = 13
 
 -- the outcome that it tells of; None where the words, a fault or want of memory ended the run
-abbrev pub outcome_told : Status → Option Outcome
+abbrev pub outcome_told : Status → Option FileOutcome
 outcome_told Done = Some Finished
 outcome_told (Usage word) = None
 outcome_told (Missing name) = Some meaning.Missing
@@ -31,7 +31,7 @@ report_of_number zero = []
 report_of_number (suc n) = codes "rlisp: status " ++ (decimal (suc n) ++ 10 ∷ [])
 
 abbrev pub report_of : Status → List ℕ
-report_of status = report_of_number (number_of status)
+report_of status = report_of_number (status_number status)
 
 -- a run with this status appended nothing to its output
 abbrev pub is_silent : Status → Bool

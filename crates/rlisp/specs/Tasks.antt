@@ -10,8 +10,8 @@ use Rattle.rl_print.specs.AtomText.{style_of}
 use Rattle.rl_world.specs.declared.world.World.{World}
 use Rattle.rlisp.specs.Evaluation.{line_length, is_built, evaluated, page_after, with_end_of_line}
 use Rattle.rlisp.specs.World.{IsKnown, datum_in}
-use Rattle.rlisp.specs.Forms.{pairs_of}
-use Rattle.rlisp.specs.Pages.{Prints, page_in}
+use Rattle.rlisp.specs.Forms.{pairs_of_datum}
+use Rattle.rlisp.specs.Pages.{PrintsOnPage, page_in}
 use Rattle.rl_print.specs.declared.atom.Style.TheVariants as style
 use Rattle.rlisp.specs.declared.forms.Printer.{Printer}
 use Rattle.rlisp.specs.declared.forms.Printer.TheVariants as printer
@@ -65,42 +65,42 @@ pub record AreKnown (w : World) (k : Stacks) : Type 0 where
 
 -- more than the turns that are left
 abbrev pub weight_of : Step → ℕ
-weight_of (Evaluate d) = 2 * pairs_of d + 1
+weight_of (Evaluate d) = 2 * pairs_of_datum d + 1
 weight_of Cons = 1
 weight_of (Print style) = 1
 weight_of EndLine = 1
 
-abbrev pub weight : List Step → ℕ
-weight [] = 0
-weight (step ∷ steps) = weight_of step + weight steps
+abbrev pub tasks_weight : List Step → ℕ
+tasks_weight [] = 0
+tasks_weight (step ∷ steps) = weight_of step + tasks_weight steps
 
 -- a task further on, with some bytes printed
 pub record IsFurther (before now : Option (List ℕ)) (old : World) (k : Stacks) (new : World) (l : Stacks) : Type 0 where
-  pub prints : Prints before now old.output.waiting new.output.waiting (page_at_end old k) (page_at_end new l)
+  pub prints : PrintsOnPage before now old.output.waiting new.output.waiting (page_at_end old k) (page_at_end new l)
   pub known : AreKnown new l
-  pub lighter : weight (steps_of new l) < weight (steps_of old k)
+  pub lighter : tasks_weight (steps_of new l) < tasks_weight (steps_of old k)
 
 -- the evaluation can't end
 abbrev pub IsStuck : World → Stacks → Type 0
 IsStuck w k = (text : List ℕ) → page_at_end w k text ≡ None
 
 -- one turn: there is more to be seen, or the evaluation can't end
-abbrev pub IsTurn : Option (List ℕ) → Option (List ℕ) → World → Stacks → World → Stacks → Bool → Type 0
-IsTurn before now old k new l more = MatchBool more (IsFurther before now old k new l) (IsStuck old k)
+abbrev pub IsTurnOfTasks : Option (List ℕ) → Option (List ℕ) → World → Stacks → World → Stacks → Bool → Type 0
+IsTurnOfTasks before now old k new l more = MatchBool more (IsFurther before now old k new l) (IsStuck old k)
 
 -- one turn that prints nothing
 abbrev pub IsQuietTurn : World → Stacks → World → Stacks → Bool → Type 0
-IsQuietTurn old k new l more = (told : Option (List ℕ)) → IsTurn told told old k new l more
+IsQuietTurn old k new l more = (told : Option (List ℕ)) → IsTurnOfTasks told told old k new l more
 
 abbrev pub with_task : Task → Stacks → Stacks
 with_task task k = record k { tasks = task ∷ k.tasks }
 
-abbrev pub with_value : Tagged → Stacks → Stacks
-with_value v k = record k { values = v ∷ k.values }
+abbrev pub stacks_with_value : Tagged → Stacks → Stacks
+stacks_with_value v k = record k { values = v ∷ k.values }
 
 -- the newest value
 abbrev pub IsNewest : Tagged → Stacks → Type 0
-IsNewest v k = (l : Stacks) × (k ≡ with_value v l)
+IsNewest v k = (l : Stacks) × (k ≡ stacks_with_value v l)
 
 -- this is evaluated, and then printed as the function does
 abbrev pub with_print : Printer → Tagged → Stacks → Stacks
@@ -113,5 +113,5 @@ abbrev pub page_of_forms : World → List Tagged → List ℕ → Option Page
 page_of_forms w forms text = Some (page_after (map (datum_in w) forms) (page_in w text))
 
 -- forms, and no values yet
-abbrev pub begun : List Tagged → Stacks
-begun forms = record { tasks = map (λ v. task.Evaluate v) forms; values = [] }
+abbrev pub tasks_begun : List Tagged → Stacks
+tasks_begun forms = record { tasks = map (λ v. task.Evaluate v) forms; values = [] }

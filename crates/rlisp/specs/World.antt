@@ -41,11 +41,11 @@ pub record IsBeginning (w : World) : Type 0 where
   pub column : w.output.column ≡ 0
 
 -- what was known is known, and is the same datum
-pub record Keeps (old new : World) : Type 0 where
+pub record KeepsKnown (old new : World) : Type 0 where
   pub known : (v : Tagged) → IsKnown old v → IsKnown new v
   pub datum : (v : Tagged) → IsKnown old v → datum_in new v ≡ datum_in old v
 
 -- a value of this world that is the datum
-pub record Stands (w : World) (v : Tagged) (d : Datum) : Type 0 where
+pub record StandsForDatum (w : World) (v : Tagged) (d : Datum) : Type 0 where
   pub known : IsKnown w v
   pub datum : datum_in w v ≡ d

@@ -4,8 +4,8 @@ ghost use Rattle.std.specs.List.{All};
 ghost use Rattle.rl_io.specs.Faults.{Rose};
 ghost use Rattle.rlisp.specs.World.{IsKnown, IsRunning};
 ghost use Rattle.rlisp.specs.Forms.{are_built};
-ghost use Rattle.rlisp.specs.Pages.{Cuts, Halts, Prints, page_in};
-ghost use Rattle.rlisp.specs.Tasks.{AreKnown, IsNewest, IsQuietTurn, IsTurn, begun, page_at_end, page_of_forms, with_print, with_task, with_value};
+ghost use Rattle.rlisp.specs.Pages.{CutsPage, HaltsPage, PrintsOnPage, page_in};
+ghost use Rattle.rlisp.specs.Tasks.{AreKnown, IsNewest, IsQuietTurn, IsTurnOfTasks, tasks_begun, page_at_end, page_of_forms, with_print, with_task, stacks_with_value};
 ghost use Rattle.rlisp.specs.declared.evaluator.Task.TheVariants as task;
 ghost use Rattle.rlisp.specs.declared.printing.Fault.TheVariants.{NoMemory, Write};
 
@@ -47,7 +47,7 @@ impl Model for Work {
 impl Work {
     /// Forms to evaluate, the first of them first.
     fn of(alloc: Global, forms: &[Val]) -> Result<Work, OutOfMemory>
-        ensures { IfOk result (λ work. work ≡ begun forms.now) }
+        ensures { IfOk result (λ work. work ≡ tasks_begun forms.now) }
     {
         let mut tasks = tasks_of(alloc, forms)?;
         tasks.reverse();
@@ -72,7 +72,7 @@ impl Work {
     }
 
     fn give(&mut self, v: Val) -> Result<(), OutOfMemory>
-        ensures { OnOk result (self.new ≡ with_value v self.old) }
+        ensures { OnOk result (self.new ≡ stacks_with_value v self.old) }
     {
         self.values.push(v)?;
         Ok(())
@@ -80,7 +80,7 @@ impl Work {
 
     /// The newest value, which goes.
     fn take(&mut self) -> Option<Val>
-        ensures { MatchOption result (self.old.values ≡ []) (λ v. self.old ≡ with_value v self.new) }
+        ensures { MatchOption result (self.old.values ≡ []) (λ v. self.old ≡ stacks_with_value v self.new) }
     {
         self.values.pop()
     }
@@ -101,9 +101,9 @@ impl Work {
     ) -> Result<bool, Fault>
         requires running { IsRunning world.old }
         requires known { AreKnown world.old (with_task task self.old) }
-        ensures turn { IfOk result (λ more. IsTurn (O.contents io.old.out.now) (O.contents io.new.out.now) world.old (with_task task self.old) world.new self.new more) }
-        ensures halts { result ≡ Err NoMemory → Halts (O.contents io.old.out.now) (O.contents io.new.out.now) world.old.output.waiting world.new.output.waiting (page_at_end world.old (with_task task self.old)) }
-        ensures cut { result ≡ Err Write → Cuts (O.contents io.old.out.now) (O.contents io.new.out.now) world.old.output.waiting (page_at_end world.old (with_task task self.old)) }
+        ensures turn { IfOk result (λ more. IsTurnOfTasks (O.contents io.old.out.now) (O.contents io.new.out.now) world.old (with_task task self.old) world.new self.new more) }
+        ensures halts { result ≡ Err NoMemory → HaltsPage (O.contents io.old.out.now) (O.contents io.new.out.now) world.old.output.waiting world.new.output.waiting (page_at_end world.old (with_task task self.old)) }
+        ensures cut { result ≡ Err Write → CutsPage (O.contents io.old.out.now) (O.contents io.new.out.now) world.old.output.waiting (page_at_end world.old (with_task task self.old)) }
         ensures failed { result ≡ Err Write → Rose (O.faults io.old.out.now) (O.faults io.new.out.now) }
         ensures steady { result ≢ Err Write → O.faults io.new.out.now ≡ O.faults io.old.out.now }
         ensures running { IsRunning world.new }
@@ -210,9 +210,9 @@ impl Work {
     ) -> Result<bool, Fault>
         requires running { IsRunning world.old }
         requires known { AreKnown world.old self.old }
-        ensures turn { IfOk result (λ more. IsTurn (O.contents io.old.out.now) (O.contents io.new.out.now) world.old (with_task (task.Print style) self.old) world.new self.new more) }
-        ensures halts { result ≡ Err NoMemory → Halts (O.contents io.old.out.now) (O.contents io.new.out.now) world.old.output.waiting world.new.output.waiting (page_at_end world.old (with_task (task.Print style) self.old)) }
-        ensures cut { result ≡ Err Write → Cuts (O.contents io.old.out.now) (O.contents io.new.out.now) world.old.output.waiting (page_at_end world.old (with_task (task.Print style) self.old)) }
+        ensures turn { IfOk result (λ more. IsTurnOfTasks (O.contents io.old.out.now) (O.contents io.new.out.now) world.old (with_task (task.Print style) self.old) world.new self.new more) }
+        ensures halts { result ≡ Err NoMemory → HaltsPage (O.contents io.old.out.now) (O.contents io.new.out.now) world.old.output.waiting world.new.output.waiting (page_at_end world.old (with_task (task.Print style) self.old)) }
+        ensures cut { result ≡ Err Write → CutsPage (O.contents io.old.out.now) (O.contents io.new.out.now) world.old.output.waiting (page_at_end world.old (with_task (task.Print style) self.old)) }
         ensures failed { result ≡ Err Write → Rose (O.faults io.old.out.now) (O.faults io.new.out.now) }
         ensures steady { result ≢ Err Write → O.faults io.new.out.now ≡ O.faults io.old.out.now }
         ensures running { IsRunning world.new }
@@ -251,9 +251,9 @@ pub(crate) fn evaluate_all<I: Source, O: Sink, N: Sink, F: Files>(
     requires running { IsRunning world.old }
     requires known { All (IsKnown world.old) forms.now }
     requires built { are_built world.old forms.now ≡ true }
-    ensures ok { OnOk result (Prints (O.contents io.old.out.now) (O.contents io.new.out.now) world.old.output.waiting world.new.output.waiting (page_of_forms world.old forms.now) (λ text. Some (page_in world.new text))) }
-    ensures halts { result ≡ Err NoMemory → Halts (O.contents io.old.out.now) (O.contents io.new.out.now) world.old.output.waiting world.new.output.waiting (page_of_forms world.old forms.now) }
-    ensures cut { result ≡ Err Write → Cuts (O.contents io.old.out.now) (O.contents io.new.out.now) world.old.output.waiting (page_of_forms world.old forms.now) }
+    ensures ok { OnOk result (PrintsOnPage (O.contents io.old.out.now) (O.contents io.new.out.now) world.old.output.waiting world.new.output.waiting (page_of_forms world.old forms.now) (λ text. Some (page_in world.new text))) }
+    ensures halts { result ≡ Err NoMemory → HaltsPage (O.contents io.old.out.now) (O.contents io.new.out.now) world.old.output.waiting world.new.output.waiting (page_of_forms world.old forms.now) }
+    ensures cut { result ≡ Err Write → CutsPage (O.contents io.old.out.now) (O.contents io.new.out.now) world.old.output.waiting (page_of_forms world.old forms.now) }
     ensures failed { result ≡ Err Write → Rose (O.faults io.old.out.now) (O.faults io.new.out.now) }
     ensures steady { result ≢ Err Write → O.faults io.new.out.now ≡ O.faults io.old.out.now }
     ensures same_out { io.new.out.ghost_name ≡ io.old.out.ghost_name }

@@ -4,7 +4,7 @@ ghost use Rattle.std.specs.List.{All, list_all};
 ghost use Rattle.rl_text.specs.Datum.{Pair, nil};
 ghost use Rattle.rlisp.specs.Evaluation.{is_built};
 ghost use Rattle.rlisp.specs.World.{IsKnown, IsRunning, datum_in};
-ghost use Rattle.rlisp.specs.Forms.{IsForm, IsListOf, IsTest, is_name};
+ghost use Rattle.rlisp.specs.Forms.{IsForm, IsListOf, IsTest, is_name_datum};
 
 use crate::memory::{Look, look_at};
 use rl_io::OutOfMemory;
@@ -96,7 +96,7 @@ pub(crate) fn form_of(world: &World, form: Val) -> Form
 fn name_form(world: &World, name: Val) -> Form
     requires running { IsRunning world.now }
     requires known { IsKnown world.now name }
-    requires name { is_name (datum_in world.now name) ≡ true }
+    requires name { is_name_datum (datum_in world.now name) ≡ true }
     ensures { IsForm world.now (datum_in world.now name) result }
 {
     let _ = world;

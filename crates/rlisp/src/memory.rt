@@ -2,7 +2,7 @@
 ghost use Rattle.std.specs.Prelude.{◌≡◌, IfOk, OnErr, is_ok};
 ghost use Rattle.rl_cells.specs.Cell.{has_room};
 ghost use Rattle.rl_text.specs.Datum.{Pair};
-ghost use Rattle.rlisp.specs.World.{IsBeginning, IsKnown, IsRunning, Keeps, Stands, datum_in};
+ghost use Rattle.rlisp.specs.World.{IsBeginning, IsKnown, IsRunning, KeepsKnown, StandsForDatum, datum_in};
 ghost use Rattle.rlisp.specs.Looks.{Sees};
 
 use rl_io::OutOfMemory;
@@ -63,8 +63,8 @@ pub(crate) fn cons(world: &mut World, car: Val, cdr: Val) -> Result<Val, OutOfMe
     requires cdr_known { IsKnown world.old cdr }
     ensures full { is_ok result ≡ has_room world.old.cells 1 }
     ensures err { OnErr result (world.new ≡ world.old) }
-    ensures stands { IfOk result (λ v. Stands world.new v (Pair (datum_in world.old car) (datum_in world.old cdr))) }
-    ensures keeps { Keeps world.old world.new }
+    ensures stands { IfOk result (λ v. StandsForDatum world.new v (Pair (datum_in world.old car) (datum_in world.old cdr))) }
+    ensures keeps { KeepsKnown world.old world.new }
     ensures running { IsRunning world.new }
     ensures output { world.new.output ≡ world.old.output }
 {

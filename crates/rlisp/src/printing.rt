@@ -6,7 +6,7 @@ ghost use Rattle.rl_text.specs.Printed.{with_datum};
 ghost use Rattle.rl_world.specs.declared.stop.Stop.TheVariants as stop;
 ghost use Rattle.rlisp.specs.Evaluation.{line_length, with_end_of_line};
 ghost use Rattle.rlisp.specs.World.{IsKnown, IsRunning, datum_in};
-ghost use Rattle.rlisp.specs.Pages.{Cuts, Halts, KeepsObjects, Prints, page_in};
+ghost use Rattle.rlisp.specs.Pages.{CutsPage, HaltsPage, KeepsObjects, PrintsOnPage, page_in};
 ghost use Rattle.rlisp.specs.declared.printing.Fault.TheVariants.{NoMemory, Write};
 
 use rl_io::{Files, Io, Sink, Source};
@@ -32,9 +32,9 @@ pub(crate) fn print<I: Source, O: Sink, N: Sink, F: Files>(
 ) -> Result<(), Fault>
     requires running { IsRunning world.old }
     requires known { IsKnown world.old v }
-    ensures ok { OnOk result (Prints (O.contents io.old.out.now) (O.contents io.new.out.now) world.old.output.waiting world.new.output.waiting (λ text. Some (with_datum (style_of style) line_length (datum_in world.old v) (page_in world.old text))) (λ text. Some (page_in world.new text))) }
-    ensures halts { result ≡ Err NoMemory → Halts (O.contents io.old.out.now) (O.contents io.new.out.now) world.old.output.waiting world.new.output.waiting (λ text. Some (with_datum (style_of style) line_length (datum_in world.old v) (page_in world.old text))) }
-    ensures cut { result ≡ Err Write → Cuts (O.contents io.old.out.now) (O.contents io.new.out.now) world.old.output.waiting (λ text. Some (with_datum (style_of style) line_length (datum_in world.old v) (page_in world.old text))) }
+    ensures ok { OnOk result (PrintsOnPage (O.contents io.old.out.now) (O.contents io.new.out.now) world.old.output.waiting world.new.output.waiting (λ text. Some (with_datum (style_of style) line_length (datum_in world.old v) (page_in world.old text))) (λ text. Some (page_in world.new text))) }
+    ensures halts { result ≡ Err NoMemory → HaltsPage (O.contents io.old.out.now) (O.contents io.new.out.now) world.old.output.waiting world.new.output.waiting (λ text. Some (with_datum (style_of style) line_length (datum_in world.old v) (page_in world.old text))) }
+    ensures cut { result ≡ Err Write → CutsPage (O.contents io.old.out.now) (O.contents io.new.out.now) world.old.output.waiting (λ text. Some (with_datum (style_of style) line_length (datum_in world.old v) (page_in world.old text))) }
     ensures failed { result ≡ Err Write → Rose (O.faults io.old.out.now) (O.faults io.new.out.now) }
     ensures steady { result ≢ Err Write → O.faults io.new.out.now ≡ O.faults io.old.out.now }
     ensures keeps { KeepsObjects world.old world.new }
@@ -61,9 +61,9 @@ pub(crate) fn end_line<I: Source, O: Sink, N: Sink, F: Files>(
     world: &mut World,
     io: &mut Io<'_, I, O, N, F>,
 ) -> Result<(), Fault>
-    ensures ok { OnOk result (Prints (O.contents io.old.out.now) (O.contents io.new.out.now) world.old.output.waiting world.new.output.waiting (λ text. Some (with_end_of_line (page_in world.old text))) (λ text. Some (page_in world.new text))) }
+    ensures ok { OnOk result (PrintsOnPage (O.contents io.old.out.now) (O.contents io.new.out.now) world.old.output.waiting world.new.output.waiting (λ text. Some (with_end_of_line (page_in world.old text))) (λ text. Some (page_in world.new text))) }
     ensures no_halt { result ≢ Err NoMemory }
-    ensures cut { result ≡ Err Write → Cuts (O.contents io.old.out.now) (O.contents io.new.out.now) world.old.output.waiting (λ text. Some (with_end_of_line (page_in world.old text))) }
+    ensures cut { result ≡ Err Write → CutsPage (O.contents io.old.out.now) (O.contents io.new.out.now) world.old.output.waiting (λ text. Some (with_end_of_line (page_in world.old text))) }
     ensures failed { result ≡ Err Write → Rose (O.faults io.old.out.now) (O.faults io.new.out.now) }
     ensures steady { result ≢ Err Write → O.faults io.new.out.now ≡ O.faults io.old.out.now }
     ensures keeps { KeepsObjects world.old world.new }

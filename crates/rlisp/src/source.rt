@@ -1,6 +1,6 @@
 //! The source: a file that is read whole.
 ghost use Rattle.std.specs.Prelude.{◌≡◌, ◌≤◌, ◌<◌, ◌+◌, length, vec_len, IfSome, take};
-ghost use Rattle.rlisp.specs.Loads.{Loads, IsShort, Counts};
+ghost use Rattle.rlisp.specs.Loads.{Loads, IsShortFile, FaultsCounted};
 
 use rl_io::{FileRead, Files};
 use std::alloc::Global;
@@ -25,8 +25,8 @@ pub(crate) enum Loaded {
 pub(crate) fn load<F: Files>(alloc: Global, files: &mut F, path: &[u8]) -> Loaded
     ensures unchanged { F.contents files.new ≡ F.contents files.old }
     ensures loaded { IfSome (F.contents files.old) (λ folder. Loads (folder path.now) result) }
-    ensures short { IsShort result }
-    ensures counts { Counts (F.faults files.old) (F.faults files.new) result }
+    ensures short { IsShortFile result }
+    ensures counts { FaultsCounted (F.faults files.old) (F.faults files.new) result }
 {
     let mut bytes = Vec::new(alloc);
     while bytes.len() <= LONGEST_FILE {

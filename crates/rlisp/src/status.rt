@@ -1,6 +1,6 @@
 //! How a run ends.
 ghost use Rattle.std.specs.Prelude.{◌≡◌, ◌≤◌, length};
-ghost use Rattle.rlisp.specs.Status.{number_of};
+ghost use Rattle.rlisp.specs.Status.{status_number};
 
 use arrayvec::ArrayVec;
 use std::marker::Model;
@@ -62,7 +62,7 @@ pub enum Status {
 impl Status {
     /// The number by which a program ends with this status.
     pub fn number(&self) -> u8
-        ensures { result ≡ number_of self.now }
+        ensures { result ≡ status_number self.now }
     {
         match self {
             Status::Done => 0,

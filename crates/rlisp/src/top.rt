@@ -4,7 +4,7 @@ ghost use Rattle.std.specs.List.{All};
 ghost use Rattle.std.specs.Option.{IsSomeAnd};
 ghost use Rattle.rl_io.specs.Faults.{Rose};
 ghost use Rattle.rl_tree.specs.Command.{IsCommand, IsPath, StopsAt};
-ghost use Rattle.rlisp.specs.Meaning.{meaning, IsUnbuilt};
+ghost use Rattle.rlisp.specs.Meaning.{file_meaning, IsUnbuilt};
 ghost use Rattle.rlisp.specs.Texts.{texts_of};
 ghost use Rattle.rlisp.specs.Status.{is_silent};
 ghost use Rattle.rlisp.specs.Appending.{AppendedFront};
@@ -55,7 +55,7 @@ pub fn rlisp<I: Source, O: Sink, N: Sink, F: Files>(
     ensures steady_files { result ≢ Status.FileFault → F.faults files.new ≡ F.faults files.old }
     // However the run ends, it printed a front of what the forms print, and nothing but with Done, WriteFault and OutOfMemory.
     ensures front { OfFile (texts_of words.now) (F.contents files.old)
-        (λ file. AppendedFront (O.contents out.old) (O.contents out.new) (meaning file).output) }
+        (λ file. AppendedFront (O.contents out.old) (O.contents out.new) (file_meaning file).output) }
     ensures silent { IsTrue (is_silent result) → out.new ≡ out.old }
     // Where no count rose, the status is that of the meaning, or there was no memory.
     ensures complete { (Rose (O.faults out.old) (O.faults out.new) → ⊥) → (Rose (F.faults files.old) (F.faults files.new) → ⊥)
@@ -104,7 +104,7 @@ fn run_path<I: Source, O: Sink, F: Files>(
     ensures ends { IfSome (F.contents io.old.files.now)
         (λ file_of. Ends (file_of path.now) (O.contents io.old.out.now) (O.contents io.new.out.now) result) }
     ensures front { IfSome (F.contents io.old.files.now)
-        (λ file_of. AppendedFront (O.contents io.old.out.now) (O.contents io.new.out.now) (meaning (file_of path.now)).output) }
+        (λ file_of. AppendedFront (O.contents io.old.out.now) (O.contents io.new.out.now) (file_meaning (file_of path.now)).output) }
     ensures unbuilt { result ≡ Status.Unbuilt → IfSome (F.contents io.old.files.now)
         (λ file_of. IsSomeAnd (file_of path.now) IsUnbuilt) }
     ensures named { (name : List ℕ) → result ≡ Status.Missing name → name ≡ path.now }

@@ -1,12 +1,12 @@
 use Rattle.std.proofs.Common.{List, sym, ap, ◌∙◌}
 use Rattle.rl_grammar.specs.Token.{Token}
-use Rattle.rl_grammar.specs.Tree.{Body}
+use Rattle.rl_grammar.specs.Tree.{StatementBody}
 use Rattle.rl_grammar.specs.Form.{meant}
 use Rattle.rl_grammar.specs.Statement.{Result, Parsed, Syntax}
 use Rattle.rl_grammar.proofs.Whole.{statement_is_parsed}
 use Rattle.rl_grammar.proofs.laws.means_one.Goals as goal
 
-abbrev body_or : Body → Result → Body
+abbrev body_or : StatementBody → Result → StatementBody
 body_or other (Parsed b s rest) = b
 body_or other (Syntax from) = other
 

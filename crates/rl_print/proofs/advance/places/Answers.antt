@@ -5,7 +5,7 @@ use Rattle.rl_tags.specs.Ids.{nil_id}
 use Rattle.rl_cells.specs.Cell.{is_vector, vector_of}
 use Rattle.rl_tree.specs.Printing.{NoTurn, marked}
 use Rattle.rl_world.specs.declared.world.World.{World}
-use Rattle.rl_print.specs.Walk.{place_in}
+use Rattle.rl_print.specs.Walk.{walk_place_in}
 use Rattle.rl_print.specs.declared.walk.Cursor.TheVariants as cursor
 use Rattle.rl_print.specs.declared.walk.State.TheVariants as state
 use Rattle.rl_print.proofs.Reached.{Turned, done_means, end_of, places_mean, places_no_turn, pop_less, ready_turned, turn_less}
@@ -13,7 +13,7 @@ use Rattle.rl_print.proofs.advance.places.Goals as goal
 
 pub returns-then-i-from-clause-ok : goal.returns-then-i-from-clause-ok
 returns-then-i-from-clause-ok c = record {
-  means = λ style text. done_means c.args.base c.args.w.now c.pop.new.w c.pop.result (place_in c.args.w.now.cells.cells (cursor.Places c.args.v c.args.i c.args.dotted)) style (marked c.end_mark.result.now) text c.pop.ensures.world (c.pop.ensures.means style)
+  means = λ style text. done_means c.args.base c.args.w.now c.pop.new.w c.pop.result (walk_place_in c.args.w.now.cells.cells (cursor.Places c.args.v c.args.i c.args.dotted)) style (marked c.end_mark.result.now) text c.pop.ensures.world (c.pop.ensures.means style)
       (end_of style c.args.w.now c.args.v c.args.i c.args.dotted c.end_mark.result.now text (omega (arith, c.if-i-from.true, c.from.ensures, c.vector_len.ensures)) c.end_mark.ensures) refl;
   ready = c.pop.ensures.ready;
   next_is = c.pop.ensures.next;

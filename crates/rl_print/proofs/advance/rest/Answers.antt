@@ -3,7 +3,7 @@ use Rattle.rl_tree.specs.Printing.{dotted_atom, marked}
 use Rattle.rl_syms.specs.Contents.{value_of}
 use Rattle.rl_print.specs.AtomText.{is_atom}
 use Rattle.rl_world.specs.declared.world.World.{World}
-use Rattle.rl_print.specs.Walk.{continued, place_in, progress_in, setting_in}
+use Rattle.rl_print.specs.Walk.{continued, walk_place_in, progress_in_world, setting_in_world}
 use Rattle.rl_print.specs.declared.walk.Cursor.TheVariants as cursor
 use Rattle.rl_print.specs.declared.walk.State.TheVariants as state
 use Rattle.rl_print.proofs.Reached.{atom_is_last, done_means, is_nil, is_other, live_atom, live_vector, nil_last, pop_less, rest_vector_means, world_popped}
@@ -13,7 +13,7 @@ pub returns-then-eq-clause-ok : goal.returns-then-eq-clause-ok
 returns-then-eq-clause-ok c =
     let nil = is_nil c.args.d (sym c.eq.ensures ∙ c.if-eq.true) in
     record {
-      means = λ style text. done_means c.args.base c.args.w.now c.pop.new.w c.pop.result (place_in c.args.w.now.cells.cells (cursor.Rest c.args.d)) style (marked (41 ∷ [])) text c.pop.ensures.world (c.pop.ensures.means style) (nil_last style c.args.w.now c.args.d text nil) refl;
+      means = λ style text. done_means c.args.base c.args.w.now c.pop.new.w c.pop.result (walk_place_in c.args.w.now.cells.cells (cursor.Rest c.args.d)) style (marked (41 ∷ [])) text c.pop.ensures.world (c.pop.ensures.means style) (nil_last style c.args.w.now c.args.d text nil) refl;
       ready = c.pop.ensures.ready;
       next_is = c.pop.ensures.next;
       piece_is = tt;
@@ -39,8 +39,8 @@ returns-in_default c =
     let p = c.pop-in_default in
     record {
       ok = record {
-        means = λ style text. done_means c.args.base c.args.w.now p.new.w p.result (place_in cells (cursor.Rest c.args.d)) style (dotted_atom (setting_in style c.args.w.now) (value_of cells c.args.d)) text p.ensures.world (p.ensures.means style) (atom_is_last style c.args.w.now c.args.d text atom other) refl
-            ∙ ap (λ (w : World). continued style p.new.w c.args.base p.result (dotted_atom (setting_in style w) (value_of w.cells.cells c.args.d) (progress_in p.new.w text))) (sym p.ensures.world);
+        means = λ style text. done_means c.args.base c.args.w.now p.new.w p.result (walk_place_in cells (cursor.Rest c.args.d)) style (dotted_atom (setting_in_world style c.args.w.now) (value_of cells c.args.d)) text p.ensures.world (p.ensures.means style) (atom_is_last style c.args.w.now c.args.d text atom other) refl
+            ∙ ap (λ (w : World). continued style p.new.w c.args.base p.result (dotted_atom (setting_in_world style w) (value_of w.cells.cells c.args.d) (progress_in_world p.new.w text))) (sym p.ensures.world);
         ready = p.ensures.ready;
         next_is = p.ensures.next;
         piece_is = ap (λ (w : World). is_atom w.cells.cells c.args.d) p.ensures.world ∙ atom;

@@ -1,6 +1,6 @@
 use Rattle.std.proofs.Common.{◌≡◌, length}
 use Rattle.rl_print.specs.AtomText.{style_of}
-use Rattle.rl_print.specs.Walk.{Goes, IsPrinting, weight, whole_printed}
+use Rattle.rl_print.specs.Walk.{Goes, IsPrinting, walk_weight, whole_printed}
 use Rattle.rl_print.proofs.print.print.Given as goal
 
 abbrev pub invariant-loop-at : goal.invariant-loop-at
@@ -14,4 +14,4 @@ invariant-loop-at g l = record {
 }
 
 abbrev pub decreases-loop-at : goal.decreases-loop-at
-decreases-loop-at g l = weight l.w l.at
+decreases-loop-at g l = walk_weight l.w l.at

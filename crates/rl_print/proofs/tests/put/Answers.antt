@@ -3,7 +3,7 @@ use Rattle.std.proofs.Common.{◌≡◌, ◌<◌, ℕ, true, false, List, length
 use Rattle.std.proofs.lemmas.Bool.{cases_lt}
 use Rattle.std.proofs.lemmas.List.{get_or_past, length-set}
 use Rattle.rl_tags.specs.Tagged.{Tagged, VectorAt}
-use Rattle.rl_cells.specs.Cell.{Cell, More, Store, VectorCell, cell_at, changed_at, is_vector, is_vector_cell, vector_in, vector_of}
+use Rattle.rl_cells.specs.Cell.{Cell, More, CellStore, VectorCell, cell_at, changed_at, is_vector, is_vector_cell, vector_in, vector_of}
 use Rattle.rl_cells.specs.Laws as laws
 use Rattle.rl_print.proofs.tests.put.Goals as goal
 
@@ -28,15 +28,15 @@ pub returns-clause-table : goal.returns-clause-table
 returns-clause-table c =
     let cells = c.args.w.now.cells.cells in
     let xs = slice_set (vector_of cells c.args.v) c.args.i c.args.x in
-    c.table_is_kept.ensures.table _ _ _ (rw (ap (λ (s : Store). s.cells) c.put.ensures.changed) (c.others_leave_blocks.ensures.vector cells c.args.v xs c.requires.vector (length-set (vector_of cells c.args.v) c.args.i c.args.x))) c.requires.table
+    c.table_is_kept.ensures.table _ _ _ (rw (ap (λ (s : CellStore). s.cells) c.put.ensures.changed) (c.others_leave_blocks.ensures.vector cells c.args.v xs c.requires.vector (length-set (vector_of cells c.args.v) c.args.i c.args.x))) c.requires.table
 
 pub returns-clause-vector : goal.returns-clause-vector
 returns-clause-vector c =
     let cells = c.args.w.now.cells.cells in
-    rw (ap (λ (s : Store). s.cells) c.put.ensures.changed) (still_vector c.objects_are_changed.ensures cells c.args.v (slice_set (vector_of cells c.args.v) c.args.i c.args.x) c.requires.vector)
+    rw (ap (λ (s : CellStore). s.cells) c.put.ensures.changed) (still_vector c.objects_are_changed.ensures cells c.args.v (slice_set (vector_of cells c.args.v) c.args.i c.args.x) c.requires.vector)
 
 pub returns-clause-long : goal.returns-clause-long
 returns-clause-long c =
     let cells = c.args.w.now.cells.cells in
     let xs = slice_set (vector_of cells c.args.v) c.args.i c.args.x in
-    rw (ap (λ (s : Store). s.cells) c.put.ensures.changed) (ap length (holds c.objects_are_changed.ensures cells c.args.v xs c.requires.vector) ∙ length-set (vector_of cells c.args.v) c.args.i c.args.x)
+    rw (ap (λ (s : CellStore). s.cells) c.put.ensures.changed) (ap length (holds c.objects_are_changed.ensures cells c.args.v xs c.requires.vector) ∙ length-set (vector_of cells c.args.v) c.args.i c.args.x)

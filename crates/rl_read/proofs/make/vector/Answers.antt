@@ -5,7 +5,7 @@ use Rattle.rl_tags.specs.Tagged.{Tagged, VectorAt}
 use Rattle.rl_cells.specs.Cell.{VectorCell, cost_of, grown, has_room, placed, used_of}
 use Rattle.rl_world.specs.Counts.{roomed}
 use Rattle.rl_world.specs.declared.world.World.{World}
-use Rattle.rl_read.specs.Stock.{elements_from, first_of, stock_of}
+use Rattle.rl_read.specs.Stock.{elements_from, first_of_chain, stock_of}
 use Rattle.rl_read.specs.Frames.{chain_of}
 use Rattle.rl_read.proofs.Counted.{room_counted}
 use Rattle.rl_read.proofs.MadeLists.{elements_counted, elements_few, first_live, vector_few, vector_lacks, vector_many, vector_world}
@@ -42,7 +42,7 @@ count-n-requires c = rw c.first_of-list.ensures (first_live c.args.w.now.cells.c
 pub fill-requires-clause-list : goal.fill-requires-clause-list
 fill-requires-clause-list c =
     rw (c.in-Ok.ensures.ok, c.in_default.ensures.counted, c.first_of-list.ensures)
-    (c.objects_are_added.ensures.live c.args.w.now.cells.cells (placed (VectorCell (replicate c.count-n.result nil_id))) (first_of (chain_of c.args.chain.now))
+    (c.objects_are_added.ensures.live c.args.w.now.cells.cells (placed (VectorCell (replicate c.count-n.result nil_id))) (first_of_chain (chain_of c.args.chain.now))
     (first_live c.args.w.now.cells.cells c.args.w.now.syms.head c.args.chain.now c.requires.table c.requires.chain))
 
 pub fill-requires-clause-elements : goal.fill-requires-clause-elements

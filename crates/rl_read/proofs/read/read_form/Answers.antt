@@ -22,7 +22,7 @@ use Rattle.rl_read.proofs.read.read_form.Goals as goal
 use Rattle.rl_read.proofs.read.read_form.Goals.{then-not-used, else-not-used}
 use Rattle.rl_world.specs.declared.world.World.{World}
 use Rattle.rl_world.specs.Input.{Input}
-use Rattle.rl_world.specs.Counts.{turns_left}
+use Rattle.rl_world.specs.Counts.{count_turns_left}
 use Rattle.std.specs.Prelude.{Option, IsSome}
 
 -- where the form has ended, a byte alone may have been put back
@@ -170,7 +170,7 @@ pub returns-in-Refuses-clause-keeps : goal.returns-in-Refuses-clause-keeps
 returns-in-Refuses-clause-keeps g c = keeps_trans c.args.w.now c.read_byte.new.w c.refused.new.w (keeps_trans c.args.w.now c.next.new.w c.read_byte.new.w (keeps_trans c.args.w.now c.loop-b.w c.next.new.w c.loop-b.invariant.keeps (keeps_given c.loop-b.w c.next.new.w c.next.ensures.world)) (keeps_read c.walk_len-base.result c.next.new.w c.read_byte.new.w c.read_byte.ensures.reading)) (keeps_levels c.read_byte.new.w c.refused.new.w c.refused.ensures.world)
 
 pub loop-b-smaller : goal.loop-b-smaller
-loop-b-smaller g c = measure_falls (g.T.Bytes.takes_turns c.loop-b.text) (g.T.Bytes.takes_turns c.next.new.self) (turns_left c.loop-b.w.counts) (turns_left c.read_byte.new.w.counts) (g.T.Bytes.number c.loop-b.text c.loop-b.w.input) (g.T.Bytes.number c.next.new.self c.read_byte.new.w.input) c.next.ensures.same
+loop-b-smaller g c = measure_falls (g.T.Bytes.takes_turns c.loop-b.text) (g.T.Bytes.takes_turns c.next.new.self) (count_turns_left c.loop-b.w.counts) (count_turns_left c.read_byte.new.w.counts) (g.T.Bytes.number c.loop-b.text c.loop-b.w.input) (g.T.Bytes.number c.next.new.self c.read_byte.new.w.input) c.next.ensures.same
     (λ takes. turns_fall (g.T.Bytes.takes_turns c.loop-b.text) c.loop-b.w c.next.new.w c.read_byte.new.w c.in-Ok-Some.field-0 c.in-Ok-Some.b c.in-Ok-Some.field-0-is takes c.in-Ok-Some.ensures.turn
     (goes_left (g.T.Bytes.takes_turns c.args.text.now) (mode_of c.loop-b.mode c.loop-b.word.items) (mode_of c.in-Goes.next c.read_byte.new.word.items) c.in-Ok-Some.b (frames_in c.walk_len-base.result c.next.new.w c.loop-b.group) (frames_in c.walk_len-base.result c.read_byte.new.w c.in-Goes.inside) (stock_of c.next.new.w) (stock_of c.read_byte.new.w) (c.in-Ok.ensures.ok (g.T.Bytes.takes_turns c.args.text.now) ∙ ap (λ x. step_of c.walk_len-base.result c.read_byte.new.w c.read_byte.new.word.items x) c.in-Goes.is)))
     (λ none. subst (λ (i : Input). g.T.Bytes.number c.next.new.self i < g.T.Bytes.number c.loop-b.text c.loop-b.w.input) (sym (read_input c.walk_len-base.result c.next.new.w c.read_byte.new.w c.read_byte.ensures.reading)) (c.in-Ok-Some.ensures.lower (subst (λ (o : Option ℕ). IsSome o) (sym c.in-Ok-Some.field-0-is) refl) none))

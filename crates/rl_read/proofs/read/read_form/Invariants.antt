@@ -1,11 +1,11 @@
 use Rattle.std.proofs.Common.{◌≡◌, length}
 use Rattle.rl_io.specs.Told.{WhereTold}
 use Rattle.rl_read.specs.Stock.{stock_of}
-use Rattle.rl_read.specs.Frames.{IsReady, frames_in}
+use Rattle.rl_read.specs.Frames.{IsReadyToRead, frames_in}
 use Rattle.rl_read.specs.Steps.{IsMode, mode_of}
-use Rattle.rl_read.specs.Reads.{Keeps}
+use Rattle.rl_read.specs.Reads.{KeepsByReading}
 use Rattle.std.specs.Prelude.{if◌then◌else◌}
-use Rattle.rl_world.specs.Counts.{turns_left}
+use Rattle.rl_world.specs.Counts.{count_turns_left}
 use Rattle.rl_read.specs.Reads.{IsGoing}
 use Rattle.rl_read.proofs.read.read_form.Given as goal
 use Rattle.rl_world.specs.Walks.{IsSteady}
@@ -13,7 +13,7 @@ use Rattle.rl_world.specs.Walks.{IsSteady}
 abbrev pub invariant-loop-b : goal.invariant-loop-b
 invariant-loop-b g l = record {
   base : l.base ≡ length l.fn.w.levels.walk;
-  ready : IsReady l.base l.w l.group;
+  ready : IsReadyToRead l.base l.w l.group;
   word : IsMode l.mode l.word.items;
   turns : g.T.Bytes.takes_turns l.text ≡ g.T.Bytes.takes_turns l.fn.text;
   goes : WhereTold (g.T.Bytes.left l.fn.text l.fn.w.input) (g.T.Bytes.left l.text l.w.input) (λ before now. IsGoing (g.T.Bytes.takes_turns l.fn.text) l.fn.w (mode_of l.mode l.word.items) (frames_in l.base l.w l.group) (stock_of l.w) l.k before now);
@@ -21,9 +21,9 @@ invariant-loop-b g l = record {
   reads : g.T.Bytes.reads l.text ≡ g.T.Bytes.reads l.fn.text;
   writes : g.T.Bytes.writes l.text ≡ g.T.Bytes.writes l.fn.text;
   kept : g.T.Bytes.kept l.text ≡ g.T.Bytes.kept l.fn.text;
-  keeps : Keeps l.fn.w l.w;
+  keeps : KeepsByReading l.fn.w l.w;
   steady : IsSteady l.base l.fn.w.levels l.w.levels;
 }
 
 abbrev pub decreases-loop-b : goal.decreases-loop-b
-decreases-loop-b g l = if g.T.Bytes.takes_turns l.text then turns_left l.w.counts else g.T.Bytes.number l.text l.w.input
+decreases-loop-b g l = if g.T.Bytes.takes_turns l.text then count_turns_left l.w.counts else g.T.Bytes.number l.text l.w.input

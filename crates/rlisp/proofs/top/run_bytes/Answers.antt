@@ -1,11 +1,11 @@
 use Rattle.std.proofs.Common.{Some, refl}
-use Rattle.rlisp.specs.Meaning.{meaning}
+use Rattle.rlisp.specs.Meaning.{file_meaning}
 use Rattle.rlisp.proofs.Closing.{forms_end, never_silent}
 use Rattle.rlisp.proofs.Endings.{front_none}
 use Rattle.rlisp.proofs.top.run_bytes.Goals as goal
 
 pub returns-in-Err-built_forms-clause-ends : goal.returns-in-Err-built_forms-clause-ends
-returns-in-Err-built_forms-clause-ends g c = front_none (g.O.Sink.contents c.args.io.now.out.now) (g.O.Sink.contents c.args.io.now.out.now) (meaning (Some c.args.file.now)).output refl
+returns-in-Err-built_forms-clause-ends g c = front_none (g.O.Sink.contents c.args.io.now.out.now) (g.O.Sink.contents c.args.io.now.out.now) (file_meaning (Some c.args.file.now)).output refl
 
 pub print_forms-requires-clause-known : goal.print_forms-requires-clause-known
 print_forms-requires-clause-known g c =

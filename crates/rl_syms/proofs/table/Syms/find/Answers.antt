@@ -1,7 +1,7 @@
 use Rattle.std.proofs.Common.{◌≡◌, ◌≢◌, ◌<◌, true, false, length, sym, ◌∙◌, arith, Some}
 use Rattle.rl_tags.specs.Tagged.{index_of}
 use Rattle.rl_cells.specs.Cell.{words_of}
-use Rattle.rl_syms.specs.Table.{name_at, next_at, rank_of}
+use Rattle.rl_syms.specs.Table.{name_in_cells, next_at, rank_of}
 use Rattle.rl_syms.proofs.Chained.{Unnamed, looking_some, looking_id, looking_here, looking_next, free_end, name_here, next_here, falls_to, six_words}
 use Rattle.rl_syms.proofs.table.Syms.find.Goals as goal
 
@@ -40,7 +40,7 @@ loop-at-preserved c =
     let l = looking_some cells (Unnamed cells c.args.name.now) c.args.self.now.head c.loop-at.at v c.in-Some.is c.loop-at.invariant in
     let a = looking_id cells (Unnamed cells c.args.name.now) c.args.self.now.head v l in
     let name = name_here cells v (index_of v) c.word.result c.read.result c.unwrap-text.result a c.word.ensures.value c.read.ensures.back c.unwrap-text.ensures in
-    let other : name_at cells (index_of v) ≢ c.args.name.now = λ e. let yes : c.has_bytes.result ≡ true = c.has_bytes.ensures.1 (sym name ∙ e) in let z : true ≡ false = sym yes ∙ c.if-has_bytes.false in cc in
+    let other : name_in_cells cells (index_of v) ≢ c.args.name.now = λ e. let yes : c.has_bytes.result ≡ true = c.has_bytes.ensures.1 (sym name ∙ e) in let z : true ≡ false = sym yes ∙ c.if-has_bytes.false in cc in
     let next : next_at cells (index_of v) ≡ c.read-at.result = next_here cells v (index_of v) c.word-in-Some.result c.read-at.result a c.word-in-Some.ensures.value c.read-at.ensures.back in
     rw (← next) (looking_next cells (Unnamed cells c.args.name.now) c.args.self.now.head v (index_of v) c.requires l a other)
 
