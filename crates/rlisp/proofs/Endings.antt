@@ -2,9 +2,9 @@
 use Rattle.std.proofs.Common.{◌≡◌, ℕ, true, List, Option, Some, None, IfSome, refl, ap, subst}
 use Rattle.std.specs.Option.{IsSomeAnd}
 use Rattle.rl_tree.specs.Command.{CommandWord, StopsAt}
-use Rattle.rl_run.specs.Meaning.{file_meaning, IsUnbuilt}
-use Rattle.rl_run.specs.Appended.{AppendedFront}
-use Rattle.rl_run.specs.Laws.{AllAndNothingAreFronts, UnbuiltMeansUnspelled}
+use Rattle.rl_forms.specs.Meaning.{file_meaning, IsUnbuilt}
+use Rattle.rl_forms.specs.Appended.{AppendedFront}
+use Rattle.rl_forms.specs.Laws.{AllAndNothingAreFronts, UnbuiltMeansUnspelled}
 use Rattle.rlisp.specs.Status.{is_silent}
 use Rattle.rlisp.specs.Headline.{Folder}
 use Rattle.rlisp.specs.EndsAsStatus.{EndsAsStatus}

@@ -1,8 +1,8 @@
 -- What the number of a status says of the status.
 use Rattle.std.proofs.Common.{◌≡◌, ◌≢◌, ◌⊎◌, ℕ, true, List, Option, Some, None, IfSome, refl, sym, ap, ◌∙◌, inl, inr}
 use Rattle.rl_tree.specs.Command.{CommandWord, IsCommand}
-use Rattle.rl_run.specs.Meaning.{FileOutcome, Finished, file_meaning}
-use Rattle.rl_run.specs.Meaning as meaning
+use Rattle.rl_forms.specs.Meaning.{FileOutcome, Finished, file_meaning}
+use Rattle.rl_forms.specs.Meaning as meaning
 use Rattle.rlisp.specs.Status.{status_number, outcome_told, outcome_number, is_silent}
 use Rattle.rlisp.specs.Headline.{Folder, OfFile, Agrees, NumberAgrees}
 use Rattle.rlisp.specs.declared.status.Status.{Status}

@@ -1,10 +1,10 @@
 -- What each status says of the file of a run, and of what was appended to its output.
 use Rattle.std.specs.Prelude.{◌≡◌, ℕ, List, Option, Some, None}
 use Rattle.std.specs.Option.{IsSomeAnd}
-use Rattle.rl_run.specs.Appended.{AppendedFront}
-use Rattle.rl_run.specs.Meaning.{file_meaning}
-use Rattle.rl_run.specs.Meaning as meaning
-use Rattle.rl_run.specs.RunEnds.{PrintsMeaning}
+use Rattle.rl_forms.specs.Appended.{AppendedFront}
+use Rattle.rl_forms.specs.Meaning.{file_meaning}
+use Rattle.rl_forms.specs.Meaning as meaning
+use Rattle.rl_forms.specs.RunEnds.{PrintsMeaning}
 use Rattle.rlisp.specs.declared.status.Status.{Status}
 use Rattle.rlisp.specs.declared.status.Status.TheVariants.{Done, Usage, Missing, WriteFault, FileFault, OutOfMemory, Unbuilt}
 

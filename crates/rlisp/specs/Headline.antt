@@ -1,7 +1,7 @@
 -- What the status of a run says of the file that the words name, against the meaning of that file.
 use Rattle.std.specs.Prelude.{◌≡◌, ◌⊎◌, ℕ, List, Option, Some, None, IfSome}
 use Rattle.rl_tree.specs.Command.{CommandWord, IsCommand}
-use Rattle.rl_run.specs.Meaning.{file_meaning}
+use Rattle.rl_forms.specs.Meaning.{file_meaning}
 use Rattle.rlisp.specs.Status.{outcome_told, outcome_number}
 use Rattle.rlisp.specs.declared.status.Status.{Status}
 use Rattle.rlisp.specs.declared.status.Status.TheVariants.{OutOfMemory}

@@ -1,9 +1,9 @@
 -- How a run ends, as its status says it.
 use Rattle.std.specs.Prelude.{◌≡◌, ◌⊎◌, ℕ, zero, suc, List, [], ◌∷◌, ◌++◌, Option, Some, None, Bool, true, false, codes, decimal}
 use Rattle.rl_io.specs.Faults.{Rose}
-use Rattle.rl_run.specs.Appended.{Appended, AppendedFront}
-use Rattle.rl_run.specs.Meaning.{FileOutcome, Finished}
-use Rattle.rl_run.specs.Meaning as meaning
+use Rattle.rl_forms.specs.Appended.{Appended, AppendedFront}
+use Rattle.rl_forms.specs.Meaning.{FileOutcome, Finished}
+use Rattle.rl_forms.specs.Meaning as meaning
 use Rattle.rlisp.specs.declared.status.Status.{Status}
 use Rattle.rlisp.specs.declared.status.Status.TheVariants.{Done, Usage, Missing, WriteFault, FileFault, OutOfMemory, Unbuilt}
 

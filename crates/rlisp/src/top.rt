@@ -3,9 +3,9 @@ ghost use Rattle.std.specs.Prelude.{◌≡◌, ◌≢◌, ◌↔◌, ◌≤◌, 
 ghost use Rattle.std.specs.Option.{IsSomeAnd};
 ghost use Rattle.rl_io.specs.Faults.{Rose};
 ghost use Rattle.rl_tree.specs.Command.{IsPath, StopsAt};
-ghost use Rattle.rl_run.specs.Appended.{AppendedFront};
-ghost use Rattle.rl_run.specs.Meaning.{IsUnbuilt, file_meaning};
-ghost use Rattle.rl_run.specs.RunEnds.{PrintsMeaning};
+ghost use Rattle.rl_forms.specs.Appended.{AppendedFront};
+ghost use Rattle.rl_forms.specs.Meaning.{IsUnbuilt, file_meaning};
+ghost use Rattle.rl_forms.specs.RunEnds.{PrintsMeaning};
 ghost use Rattle.rlisp.specs.Texts.{texts_of};
 ghost use Rattle.rlisp.specs.Status.{is_silent};
 ghost use Rattle.rlisp.specs.Headline.{Agrees, NamesNoFile, OfFile};
@@ -15,8 +15,8 @@ use crate::source::{Loaded, load};
 use crate::status::{FileName, Status};
 use crate::words::path_of;
 use rl_io::{Files, Io, NullSink, Sink, Source};
-use rl_run::laws::{all_and_nothing_are_fronts, unbuilt_files_spell_no_built_forms};
-use rl_run::{Ending, run_forms};
+use rl_forms::laws::{all_and_nothing_are_fronts, unbuilt_files_spell_no_built_forms};
+use rl_forms::{Ending, run_forms};
 use std::alloc::Global;
 
 /// Runs the command that the words are: `sl PATH` evaluates the forms of a file of Standard Lisp in turn.

@@ -1,5 +1,0 @@
-use Rattle.rl_run.proofs.Memories.{opened_beginning}
-use Rattle.rl_run.proofs.memory.open.Goals as goal
-
-pub returns : goal.returns
-returns c = rw c.opened.ensures (opened_beginning c.in_ok-world.world c.in_ok-world.ensures.table c.in_ok-world.ensures.names c.in_ok-world.ensures.output)
