@@ -16,7 +16,7 @@ use Rattle.rl_meaning.specs.Evaluation.{with_expansion, walked}
 use Rattle.rl_meaning.specs.Machine.{run_code}
 use Rattle.rl_meaning.specs.Jobs.{job, jobs, the_compiler}
 use Rattle.rl_meaning.specs.Opening.{bare_state, state_of}
-use Rattle.rl_meaning.specs.Seen.{run_from, lines, of_name, pointer_of_name, WrittenCode, with_code, rests_on_nothing, state_after, after_with_code, printed_from}
+use Rattle.rl_meaning.specs.Seen.{run_from, lines, of_name, pointer_of_name, WrittenCode, with_code, rests_on_nothing, state_behind, after_with_code, printed_from}
 
 abbrev eight_code : WrittenCode
 eight_code s i = Entry i 0 ∷ Load 1 (Constant (Int (pos 8))) ∷ Exit ∷ []
@@ -62,7 +62,7 @@ held_in other = record { kind = Expr; parameters = []; body = Atom nil_value_of_
 -- turns of the expansion that are left behind F by its walk, and by its code
 abbrev left_in_expansion : ℕ × ℕ
 left_in_expansion =
-    let s = with_expansion 0 (state_after (codes "(DM M1 (U) 7) (DE F NIL (M1))")) in
+    let s = with_expansion 0 (state_behind (codes "(DM M1 (U) 7) (DE F NIL (M1))")) in
     let i = of_name s (codes "F") in
     let p = pointer_of_name s i in
     let held = held_in (function_at s p) in
@@ -101,7 +101,7 @@ refused_definitions = refl
 -- ---- dependencies
 
 abbrev resting_on : (State → List Dependency) → State
-resting_on rests_on = with_code (codes "F") eight_code rests_on (state_after seven)
+resting_on rests_on = with_code (codes "F") eight_code rests_on (state_behind seven)
 
 abbrev whole : Kind → List ℕ → State → List Dependency
 whole kind name s = let i = of_name s name in Whole i kind (pointer_of_name s i) ∷ []
@@ -143,7 +143,7 @@ running = codes "(DM M1 (U) 7) (DE R NIL (DM M1 (U) 9)) (DE F NIL (PROGN (R) (M1
 abbrev running_code : WrittenCode
 running_code s i = Entry i 0 ∷ Link (of_name s (codes "R")) 0 ∷ Load 1 (Constant (Int (pos 8))) ∷ Exit ∷ []
 
-code_goes_on : printed_from (with_code (codes "F") running_code (whole Macro (codes "M1")) (state_after running)) (codes "(PRINT (F)) (PRINT (F))") ≡ lines (codes "8" ∷ codes "9" ∷ [])
+code_goes_on : printed_from (with_code (codes "F") running_code (whole Macro (codes "M1")) (state_behind running)) (codes "(PRINT (F)) (PRINT (F))") ≡ lines (codes "8" ∷ codes "9" ∷ [])
 unfolding bare_state opening_rows byte_names special_rows native_rows digits error_texts job
 code_goes_on = refl
 
@@ -157,16 +157,16 @@ counting_code s i =
     Label 1 ∷ JumpNe 2 (Constant (Int (pos 2))) ∷ Link (of_name s (codes "R")) 0 ∷ Load 1 (Constant (Int (pos 1))) ∷ Self 1 0 ∷
     Label 2 ∷ CallNative (of_name s (codes "SUB1")) 1 ∷ Self 1 0 ∷ []
 
-code_without_its_dependency : printed_from (with_code (codes "C") counting_code (whole Macro (codes "M1")) (state_after (counting (codes "(DM M1 (U) ''NEW)")))) (codes "(PRINT (C 1)) (PRINT (C 3)) (PRINT (C 1))") ≡ lines (codes "OLD" ∷ codes "OLD" ∷ codes "NEW" ∷ [])
+code_without_its_dependency : printed_from (with_code (codes "C") counting_code (whole Macro (codes "M1")) (state_behind (counting (codes "(DM M1 (U) ''NEW)")))) (codes "(PRINT (C 1)) (PRINT (C 3)) (PRINT (C 1))") ≡ lines (codes "OLD" ∷ codes "OLD" ∷ codes "NEW" ∷ [])
 unfolding bare_state opening_rows byte_names special_rows native_rows digits error_texts job
 code_without_its_dependency = refl
 
 -- here M1 is another macro before, so that code and walk differ
-code_of_a_function_that_was_given_back : printed_from (with_code (codes "C") counting_code rests_on_nothing (state_after (counting (codes "(PUTD 'C 'EXPR (CDR (GETD 'C)))")))) (codes "(DM M1 (U) ''NEW) (PRINT (C 1)) (PRINT (C 3)) (PRINT (C 1))") ≡ lines (codes "OLD" ∷ codes "OLD" ∷ codes "NEW" ∷ [])
+code_of_a_function_that_was_given_back : printed_from (with_code (codes "C") counting_code rests_on_nothing (state_behind (counting (codes "(PUTD 'C 'EXPR (CDR (GETD 'C)))")))) (codes "(DM M1 (U) ''NEW) (PRINT (C 1)) (PRINT (C 3)) (PRINT (C 1))") ≡ lines (codes "OLD" ∷ codes "OLD" ∷ codes "NEW" ∷ [])
 unfolding bare_state opening_rows byte_names special_rows native_rows digits error_texts job
 code_of_a_function_that_was_given_back = refl
 
 -- with an equal definition the name has another function
-code_behind_an_equal_definition : printed_from (with_code (codes "C") counting_code rests_on_nothing (state_after (counting (codes "(DE C (N) (COND ((EQ N 0) (M1)) ((EQ N 2) (PROGN (R) (C 1))) (T (C (SUB1 N)))))")))) (codes "(DM M1 (U) ''NEW) (PRINT (C 1)) (PRINT (C 3))") ≡ lines (codes "OLD" ∷ codes "NEW" ∷ [])
+code_behind_an_equal_definition : printed_from (with_code (codes "C") counting_code rests_on_nothing (state_behind (counting (codes "(DE C (N) (COND ((EQ N 0) (M1)) ((EQ N 2) (PROGN (R) (C 1))) (T (C (SUB1 N)))))")))) (codes "(DM M1 (U) ''NEW) (PRINT (C 1)) (PRINT (C 3))") ≡ lines (codes "OLD" ∷ codes "NEW" ∷ [])
 unfolding bare_state opening_rows byte_names special_rows native_rows digits error_texts job
 code_behind_an_equal_definition = refl
