@@ -80,7 +80,7 @@ module _ {freely : Bool} {P : State → State → Type 0} (steps : StepsAt freel
     extended = λ chain v place good h. made_gives P r (Good P r) place.levels _ (extended_makes steps chain v place.state good h);
     ended = λ chain v place good h. made_gives P r (Good P r) place.levels _ (ended_chain_makes steps chain v place.state good h);
     vector = λ chain place h. made_gives P r _ place.levels _ (makes_any _ (vector_of_leads steps chain place.state h));
-    quoted_value = λ v place h. made_gives P r _ place.levels _ (makes_any _ (quoted_leads steps v place.state h));
+    quoted = λ v place h. made_gives P r _ place.levels _ (makes_any _ (quoted_leads steps v place.state h));
   }
 
 module _ {freely : Bool} {P : State → State → Type 0} (steps : StepsAt freely P) {position : Position} {r : State} where

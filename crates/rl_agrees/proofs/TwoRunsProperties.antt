@@ -7,7 +7,7 @@ use Rattle.rl_meaning.specs.Symbols.{nil_value_of_state, truth, same, car_at, cd
 use Rattle.rl_meaning.specs.Errors.{fail, wrong_type}
 use Rattle.rl_meaning.specs.Walks.{Further, Goes}
 use Rattle.rl_meaning.specs.Properties.{nowhere, looked_at, look_for, is_property, is_flag, value_at, of_identifier, properties, with_properties, get, is_there, flagp, add_first, put_at, for_identifier, put, taken_out, without, remprop, or_list, at_list_end, for_each, flag_at, for_flag, flag, remflag}
-use Rattle.rl_meaning.specs.Properties.{EntryPlace as Spot}
+use Rattle.rl_meaning.specs.Properties.{PropertyPlace as Spot}
 use Rattle.rl_meaning.specs.TwoRunsValues.{Names, Grows, Maybe, nothing, just, SameValue, same_int, same_id, same_str, same_ref, same_fun, SameParts, same_parts, SameSymbol, same_symbol}
 use Rattle.rl_meaning.specs.TwoRunsStates.{Bounds, EntryPlace, Like}
 use Rattle.rl_agrees.proofs.TwoRunsGrowth.{grows_refl, grows_trans, value_grows}

@@ -14,7 +14,7 @@ use Rattle.rl_meaning.specs.Outcome.{Outcome, Stop, Turns, Levels}
 use Rattle.rl_meaning.specs.Symbols.{nil_value_of_state, nil_number, end_of_line_id, of_byte}
 use Rattle.rl_meaning.specs.Errors.{unreadable}
 use Rattle.rl_meaning.specs.Lists.{Chain}
-use Rattle.rl_meaning.specs.Input.{EntryPlace as Spot, made_in, made_atom, byte_turn, entered_from, enter, outer_levels, leave, first_pair_of, ended_chain, vector_of_chain, quoted_value, in_state, FormReading, Form, End, Unreadable, form_reading_of, read_bytes, with_input, byte_number, read_ended, read, character, readch_of, readch}
+use Rattle.rl_meaning.specs.Input.{ReadingPlace as Spot, made_in, made_atom, byte_turn, entered_from, enter, outer_levels, leave, first_pair_of, ended_chain, vector_of_chain, quoted_value, in_state, FormReading, Form, End, Unreadable, form_reading_of, read_bytes, with_input, byte_number, read_ended, read, character, readch_of, readch}
 use Rattle.rl_meaning.specs.TwoRunsValues.{Names, Grows, Maybe, nothing, just, Each, end, more, SameValue, same_int, same_id}
 use Rattle.rl_meaning.specs.TwoRunsStates.{Bounds, EntryPlace, Like, Roomier}
 use Rattle.rl_meaning.specs.TwoRunsEnds.{IsLackingBound, IsMeeting, SameStop, done, failed, went, returned, stopped, parted}
