@@ -3,6 +3,7 @@ mod RowsCoded
 mod Spending
 mod SpendingObjects
 mod SpendingWalks
+mod UnboundedWalks
 mod SpendingHolding
 mod SpendingVariables
 mod SpendingNatives

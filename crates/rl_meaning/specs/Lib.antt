@@ -36,4 +36,5 @@ pub mod Right
 pub mod Tidy
 pub mod Run
 pub mod Laws
+pub mod WalkLaws
 pub mod Seen
