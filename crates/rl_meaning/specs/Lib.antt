@@ -2,6 +2,7 @@ pub mod Names
 pub mod CMacros
 pub mod State
 pub mod Outcome
+pub mod WiderBounds
 pub mod Symbols
 pub mod Errors
 pub mod Events
@@ -26,6 +27,7 @@ pub mod Evaluation
 pub mod Machine
 pub mod HeadCases
 pub mod Jobs
+pub mod LesserJobs
 pub mod Opening
 pub mod TwoRunsLinks
 pub mod TwoRunsValues
