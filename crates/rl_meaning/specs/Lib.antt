@@ -4,6 +4,7 @@ pub mod State
 pub mod Outcome
 pub mod WiderBounds
 pub mod Symbols
+pub mod System
 pub mod Errors
 pub mod Events
 pub mod Constants
