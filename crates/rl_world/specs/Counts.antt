@@ -1,7 +1,7 @@
 -- What a run counts: turns, expansions and cells, and what each call does to the counts.
 use Rattle.std.specs.Prelude.{◌≡◌, ℕ, ◌+◌, ◌-◌, ◌==◌, ◌<◌, nat_le, nat_lt, cond, length, Option, Some, None}
 use Rattle.rl_tags.specs.Tagged.{Tagged}
-use Rattle.rl_cells.specs.Cell.{Store, used_of}
+use Rattle.rl_cells.specs.Cell.{CellStore, used_of}
 use Rattle.rl_world.specs.declared.counts.Aside.{Aside}
 use Rattle.rl_world.specs.declared.counts.Expansion.{Expansion}
 use Rattle.rl_world.specs.declared.stop.Stop.{Stop}
@@ -50,7 +50,7 @@ abbrev pub count_turns_left : WorldCounts → ℕ
 count_turns_left c = turns_left_at c.opening c.outermost c.turns c.bound
 
 -- the cells that count: in opening all, and after it those that were taken since
-abbrev pub cells_taken : Option ℕ → Store → ℕ
+abbrev pub cells_taken : Option ℕ → CellStore → ℕ
 cells_taken None cells = used_of cells
 cells_taken (Some ticks) cells = length cells.cells
 
@@ -70,7 +70,7 @@ room_stop_at None aside taken cost bound = cells_stop aside taken cost bound
 room_stop_at (Some e) aside taken cost bound = cond (nat_le (e.cells + cost) 1000000) (cells_stop aside taken cost bound) (Some (stop.Expansion e.name))
 
 -- why an object of this cost may not be made in these cells
-abbrev pub room_stop : WorldCounts → Store → ℕ → Option Stop
+abbrev pub room_stop : WorldCounts → CellStore → ℕ → Option Stop
 room_stop c cells cost = room_stop_at c.outermost c.aside (cells_taken c.opening cells) cost (cells_bound_at c.opening c.cells_bound)
 
 abbrev pub with_cells : ℕ → Option Expansion → Option Expansion

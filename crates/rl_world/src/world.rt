@@ -10,7 +10,7 @@ ghost use Rattle.rl_syms.specs.Opened.{IsOpened};
 ghost use Rattle.rl_world.specs.Counts.{aside_of, begun, counts_at_opening, expansion_ended, rejoined, room_stop, roomed, set_aside, tick_stop, ticked};
 ghost use Rattle.rl_tree.specs.ErrorTexts.{error_text};
 ghost use Rattle.rl_world.specs.Errors.{AreTexts};
-ghost use Rattle.rl_world.specs.Levels.{enter_stop};
+ghost use Rattle.rl_world.specs.Levels.{AreLevels, enter_stop, levels_below};
 
 use crate::buffer::Buffer;
 use crate::counts::{Aside, Counts};
@@ -193,9 +193,10 @@ impl World {
         self.levels.leave(n);
     }
 
-    /// The levels that are entered.
+    /// The levels that are entered: within the bound, and no fewer than walks keep.
     pub fn level(&self) -> u32
-        ensures { result ≡ self.now.levels.level }
+        ensures level { result ≡ self.now.levels.level }
+        ensures levels { AreLevels self.now.levels }
     {
         self.levels.level()
     }
@@ -246,22 +247,24 @@ impl World {
         self.input.put_back(b);
     }
 
-    /// Enters a level and keeps three words of a walk. After a stop the world is as before.
+    /// Enters a level and keeps three words of a walk; the levels below the walks stay. After a stop the world is as before.
     pub fn walk_push(&mut self, a: u64, b: u64, c: u64) -> Result<(), Stop>
         ensures ok { OnOk result (enter_stop self.old.levels 1 ≡ None) }
         ensures entered { OnOk result (self.new ≡ record self.old { levels = record self.old.levels { level = self.old.levels.level + 1; walk = (a, b, c) ∷ self.old.levels.walk } }) }
+        ensures below { levels_below self.new.levels ≡ levels_below self.old.levels }
         ensures stop { IfErr result (λ s. enter_stop self.old.levels 1 ≡ Some s) }
         ensures err { IfErr result (λ s. self.new ≡ self.old) }
     {
         self.levels.push(a, b, c)
     }
 
-    /// Gives the three newest words of a walk back, and leaves their level.
+    /// Gives the three newest words of a walk back, and leaves their level; the levels below the walks stay.
     pub fn walk_pop(&mut self) -> (u64, u64, u64)
         requires { 1 ≤ length self.old.levels.walk }
         ensures popped { self.old.levels.walk ≡ result ∷ self.new.levels.walk }
         ensures within { self.old.levels.level ≤ self.old.levels.bound }
         ensures entered { 1 ≤ self.old.levels.level }
+        ensures below { levels_below self.new.levels ≡ levels_below self.old.levels }
         ensures left { self.new ≡ record self.old { levels = record self.old.levels { level = self.old.levels.level - 1; walk = self.new.levels.walk } } }
     {
         self.levels.pop()
