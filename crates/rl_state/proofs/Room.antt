@@ -15,7 +15,8 @@ use Rattle.rl_meaning.specs.Outcome.{Outcome, Done, Stopped, Cells, room, turn, 
 use Rattle.rl_state.specs.Numbered.{ids_before}
 use Rattle.rl_state.specs.ShownState.{ShowsState, counts_in, expansion_in}
 use Rattle.rl_state.specs.Worlds.{IsWorld, AreRunCounts, WorldGrows}
-use Rattle.rl_state.specs.Ending.{StopsWith, MeansDone, StaysBeside, stop_in}
+use Rattle.rl_state.specs.Beside.{StaysBeside}
+use Rattle.rl_state.specs.Ending.{StopsWith, MeansDone, stop_in}
 
 -- what is left in a run
 abbrev pub left : ℕ → ℕ → ℕ → Option Expansion → Counts

@@ -43,6 +43,10 @@ pub record WorldGrows (old new : World) : Type 0 where
   pub live : (v : Tagged) → is_live old.cells.cells v ≡ true → is_live new.cells.cells v ≡ true
   pub values : (v : Tagged) → is_live old.cells.cells v ≡ true → value_in new.cells.cells v ≡ value_in old.cells.cells v
 
+-- of a world nothing but objects, names and counts has changed: levels, output, input and notes are as they were
+pub record ObjectsAlone (old new : World) : Type 0 where
+  pub rest : new ≡ record old { cells = new.cells; syms = new.syms; counts = new.counts }
+
 -- what no world determines: functions and compilation, bindings and the values below them, what is watched, files, and what was read, printed and noted
 pub record SameBesideWorld (s t : State) : Type 0 where
   pub functions : s.functions ≡ t.functions
