@@ -1,13 +1,14 @@
 -- A new object that is no block: the world is one of a run, what was there stays, and the new state is shown.
-use Rattle.std.proofs.Common.{◌≡◌, ℕ, zero, suc, ◌+◌, ◌-◌, ◌/◌, ◌<◌, Bool, true, List, [], ◌∷◌, ◌++◌, length, map, Option, Some, None, Ok, Err, refl, sym, ap, subst, ◌∙◌, arith}
+use Rattle.std.proofs.Common.{◌≡◌, ℕ, zero, suc, ◌+◌, ◌-◌, ◌/◌, ◌<◌, Bool, true, false, List, [], ◌∷◌, ◌++◌, length, map, Option, Some, None, Result, Ok, Err, refl, sym, ap, subst, ◌∙◌, arith}
 use Rattle.std.specs.Prelude.{replicate, slice_index_or}
 use Rattle.std.specs.List.{list_all}
+use Rattle.std.specs.Result.{IsOk, is_ok}
 use Rattle.std.proofs.lemmas.List.{map-append, length-map}
 use Rattle.rl_tags.specs.Tagged.{Tagged, Number, IdAt, StrAt, PairAt, VectorAt, BigAt, FunAt, index_of}
 use Rattle.rl_tags.specs.Ids.{nil_id}
 use Rattle.rl_tree.specs.Value.{Value, Id, Str, Ref, Pair, Vector, Store, cons_store, new_value}
 use Rattle.rl_cells.specs.Cell as cell
-use Rattle.rl_cells.specs.Cell.{Cell, PairCell, StrCell, VectorCell, IsClosed, cost_of, grown, placed, is_live, is_str, used_of}
+use Rattle.rl_cells.specs.Cell.{Cell, PairCell, StrCell, VectorCell, IsClosed, cost_of, grown, has_room, placed, is_live, is_str, used_of}
 use Rattle.rl_syms.specs.Contents.{object_count, value_of, store_of}
 use Rattle.rl_syms.specs.Frame.{KeepsBlocks, block_in}
 use Rattle.rl_syms.specs.Laws.{IsKept, MakesMeaning, LeaveBlocks}
@@ -26,7 +27,7 @@ use Rattle.rl_state.specs.ShownState.{ShowsState, counts_in, expansion_in}
 use Rattle.rl_state.specs.Worlds.{IsWorld, AreRunCounts, HasNumber, ObjectsAlone, WorldGrows}
 use Rattle.rl_state.specs.Ending.{MeansValue}
 use Rattle.rl_state.proofs.Kept.{id_same, ids_same, numbers_same, objects_same, symbols_kept, value_same}
-use Rattle.rl_state.proofs.Room.{left, left_in, room_done, room_full, roomed_in}
+use Rattle.rl_state.proofs.Room.{left, left_in, room_done, room_fits, room_full, roomed_in}
 
 string_kept : (old new : List Cell) (v : Tagged) → KeepsBlocks old new → is_str old v ≡ true → is_str new v ≡ true
 string_kept old new (StrAt k) b h = b.live (StrAt k) h
@@ -57,6 +58,7 @@ world_kept law w c k b r i = record {
   message = numbered_kept law w.cells.cells c.cells _ 3 b i.message;
   texts = texts_kept w.cells.cells c.cells w.texts b i.texts;
   running = r;
+  levels = i.levels;
 }
 
 -- ---- a new object
@@ -273,3 +275,12 @@ rest_trans w x y a b = record { rest = b.rest ∙ ap (λ (z : World). record z {
 
 pub rest_counts : (w x : World) (k : counted.WorldCounts) → x ≡ record w { counts = k } → ObjectsAlone w x
 rest_counts w x k e = record { rest = subst (λ (y : World). y ≡ record w { cells = y.cells; syms = y.syms; counts = y.counts }) (sym e) refl }
+
+-- ---- room that was counted is there
+
+pub has_counted : (w r : World) (k : counted.WorldCounts) (cost : ℕ) → r ≡ record w { counts = k } → IsWorld w → room_stop w.counts (used_of w.cells) cost ≡ None → has_room r.cells cost ≡ true
+has_counted w r k cost e i h = subst (λ (x : World). has_room x.cells cost ≡ true) (sym e) (room_fits w.cells w.counts cost i.running h)
+
+pub is_made : {T E : Type 0} (r : Result T E) (b : Bool) → is_ok r ≡ b → b ≡ true → IsOk r
+is_made (Ok x) b e h = tt
+is_made (Err x) b e h = absurd (cc)

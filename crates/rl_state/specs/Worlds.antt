@@ -36,6 +36,7 @@ pub record IsWorld (w : World) : Type 0 where
   pub message : HasNumber w.cells.cells emsg_star_id 3
   pub texts : AreTexts w.cells.cells w.texts 14
   pub running : AreRunCounts w.cells w.counts
+  pub levels : w.levels.level ≤ w.levels.bound
 
 -- what was live is live, and means what it meant
 pub record WorldGrows (old new : World) : Type 0 where
