@@ -2,7 +2,6 @@
 use Rattle.std.proofs.Common.{◌≡◌, ℕ, zero, suc, ◌+◌, ◌-◌, ◌/◌, ◌<◌, Bool, true, false, List, [], ◌∷◌, ◌++◌, length, map, Option, Some, None, Result, Ok, Err, refl, sym, ap, subst, ◌∙◌, arith}
 use Rattle.std.specs.Prelude.{replicate, slice_index_or}
 use Rattle.std.specs.List.{list_all}
-use Rattle.std.specs.Result.{IsOk, is_ok}
 use Rattle.std.proofs.lemmas.List.{map-append, length-map}
 use Rattle.rl_tags.specs.Tagged.{Tagged, Number, IdAt, StrAt, PairAt, VectorAt, BigAt, FunAt, index_of}
 use Rattle.rl_tags.specs.Ids.{nil_id}
@@ -280,7 +279,3 @@ rest_counts w x k e = record { rest = subst (λ (y : World). y ≡ record w { ce
 
 pub has_counted : (w r : World) (k : counted.WorldCounts) (cost : ℕ) → r ≡ record w { counts = k } → IsWorld w → room_stop w.counts (used_of w.cells) cost ≡ None → has_room r.cells cost ≡ true
 has_counted w r k cost e i h = subst (λ (x : World). has_room x.cells cost ≡ true) (sym e) (room_fits w.cells w.counts cost i.running h)
-
-pub is_made : {T E : Type 0} (r : Result T E) (b : Bool) → is_ok r ≡ b → b ≡ true → IsOk r
-is_made (Ok x) b e h = tt
-is_made (Err x) b e h = absurd (cc)
