@@ -19,7 +19,7 @@ use Rattle.rl_syms.specs.Laws.{IsKept}
 use Rattle.rl_meaning.specs.State.{State}
 use Rattle.rl_meaning.specs.State as meaning
 use Rattle.rl_state.specs.Numbered.{ids_before, funs_before, renumbered, object_renumbered, value_in}
-use Rattle.rl_state.specs.ShownState.{ShowsSymbols, is_listed, definition_in, is_system_id, option_value_in, symbol_meant}
+use Rattle.rl_state.specs.ShownState.{ShowsSymbols, is_listed, definition_in, option_value_in, symbol_meant}
 
 -- ---- numbers
 
@@ -196,28 +196,19 @@ pub record Alike (old new : List Cell) (head : Option Tagged) (k : ℕ) : Type 0
   pub definition : definition_in new (symbol_in_cells new k).definition ≡ definition_in old (symbol_in_cells old k).definition
   pub kind : (symbol_in_cells new k).kind ≡ (symbol_in_cells old k).kind
 
-abbrev symbol_from : ℕ → Option Value → List ℕ → List ℕ → ℕ → Value → Bool → Option meaning.Definition → VarKind → meaning.Symbol
-symbol_from k top name ids number plist defined definition kind = record {
-  name = name;
-  interned = is_listed k ids;
-  system = defined && is_system_id number;
-  top = top;
-  properties = plist;
-  definition = definition;
-  kind = kind;
-}
+abbrev symbol_from : Option Value → List ℕ → Bool → Value → Option meaning.Definition → VarKind → meaning.Symbol
+symbol_from top name listed plist definition kind = record { name = name; interned = listed; top = top; properties = plist; definition = definition; kind = kind }
 
 pub symbol_like : (old new : List Cell) (head : Option Tagged) (k : ℕ) (top : Option Value) → Alike old new head k → symbol_meant new head k top ≡ symbol_meant old head k top
 unfolding symbol_meant
 symbol_like old new head k top a =
-    let y = symbol_in_cells old k in
-    ap (λ x. symbol_from k top x (ids_from new head) (ids_before new k) (value_in new (symbol_in_cells new k).plist) (is_some (symbol_in_cells new k).definition) (definition_in new (symbol_in_cells new k).definition) (symbol_in_cells new k).kind) a.name
-    ∙ ap (λ x. symbol_from k top (table.name_in_cells old k) x (ids_before new k) (value_in new (symbol_in_cells new k).plist) (is_some (symbol_in_cells new k).definition) (definition_in new (symbol_in_cells new k).definition) (symbol_in_cells new k).kind) a.names
-    ∙ ap (λ x. symbol_from k top (table.name_in_cells old k) (ids_from old head) x (value_in new (symbol_in_cells new k).plist) (is_some (symbol_in_cells new k).definition) (definition_in new (symbol_in_cells new k).definition) (symbol_in_cells new k).kind) a.number
-    ∙ ap (λ x. symbol_from k top (table.name_in_cells old k) (ids_from old head) (ids_before old k) x (is_some (symbol_in_cells new k).definition) (definition_in new (symbol_in_cells new k).definition) (symbol_in_cells new k).kind) a.plist
-    ∙ ap (λ x. symbol_from k top (table.name_in_cells old k) (ids_from old head) (ids_before old k) (value_in old y.plist) x (definition_in new (symbol_in_cells new k).definition) (symbol_in_cells new k).kind) a.defined
-    ∙ ap (λ x. symbol_from k top (table.name_in_cells old k) (ids_from old head) (ids_before old k) (value_in old y.plist) (is_some y.definition) x (symbol_in_cells new k).kind) a.definition
-    ∙ ap (λ x. symbol_from k top (table.name_in_cells old k) (ids_from old head) (ids_before old k) (value_in old y.plist) (is_some y.definition) (definition_in old y.definition) x) a.kind
+    let y = symbol_in_cells new k in
+    let z = symbol_in_cells old k in
+    ap (λ x. symbol_from top x (is_listed k (ids_from new head)) (value_in new y.plist) (definition_in new y.definition) y.kind) a.name
+    ∙ ap (λ x. symbol_from top (table.name_in_cells old k) (is_listed k x) (value_in new y.plist) (definition_in new y.definition) y.kind) a.names
+    ∙ ap (λ x. symbol_from top (table.name_in_cells old k) (is_listed k (ids_from old head)) x (definition_in new y.definition) y.kind) a.plist
+    ∙ ap (λ x. symbol_from top (table.name_in_cells old k) (is_listed k (ids_from old head)) (value_in old z.plist) x y.kind) a.definition
+    ∙ ap (λ x. symbol_from top (table.name_in_cells old k) (is_listed k (ids_from old head)) (value_in old z.plist) (definition_in old z.definition) x) a.kind
 
 -- the property list of an identifier is live
 pub plist_live : (cells : List Cell) (head : Option Tagged) (k : ℕ) → IsTable cells head → IsClosed cells → is_id_cell (cell_at cells k) ≡ true → is_live cells (symbol_in_cells cells k).plist ≡ true

@@ -7,4 +7,5 @@ pub mod Pairs
 pub mod Walking
 pub mod Once
 pub mod Totals
+pub mod Entered
 pub mod Grown

@@ -2,7 +2,6 @@
 use Rattle.std.proofs.Common.{◌≡◌, ℕ, zero, suc, ◌+◌, ◌-◌, ◌/◌, ◌<◌, Bool, true, false, List, [], ◌∷◌, ◌++◌, length, map, Option, Some, None, Result, Ok, Err, refl, sym, ap, subst, ◌∙◌, arith}
 use Rattle.std.specs.Prelude.{replicate, slice_index_or}
 use Rattle.std.specs.List.{list_all}
-use Rattle.std.specs.Result.{IsOk, is_ok}
 use Rattle.std.proofs.lemmas.List.{map-append, length-map}
 use Rattle.rl_tags.specs.Tagged.{Tagged, Number, IdAt, StrAt, PairAt, VectorAt, BigAt, FunAt, index_of}
 use Rattle.rl_tags.specs.Ids.{nil_id}
@@ -120,7 +119,7 @@ shows_made law blocks made w c s store none i closed shown e =
 
 -- where there is room, what is made by the definition is what the cells hold
 pub value_made : (law : IsKept) (blocks : LeaveBlocks) (made : MakesMeaning) (w : World) (c : Cell) (at : Tagged) (s : State) (next : State → Outcome Value) (v : Value) (store : Store)
-    → block_in c ≡ None → IsWorld w → IsClosed w.cells.cells → room_stop w.counts (used_of w.cells) (cost_of c) ≡ None → ShowsState w s
+    → block_in c ≡ None → IsWorld w → IsClosed w.cells.cells → room_stop w.counts w.cells (cost_of c) ≡ None → ShowsState w s
     → next (record s { counts = roomed_in w.cells w.counts (cost_of c) }) ≡ Done v (record s { counts = roomed_in w.cells w.counts (cost_of c); store = store })
     → store ≡ store_in (w.cells.cells ++ placed c) → value_in (w.cells.cells ++ placed c) at ≡ v
     → MeansValue s (room (cost_of c) s next) (Ok at) (with_made w c)
@@ -143,7 +142,7 @@ pub record IsMadeIn (w r : World) (cs : cell.CellStore) (c : Cell) (tag : ℕ �
   pub made : cs ≡ grown r.cells c
   pub named : v ≡ tag (length r.cells.cells)
   pub closed : IsClosed r.cells.cells
-  pub room : room_stop w.counts (used_of w.cells) (cost_of c) ≡ None
+  pub room : room_stop w.counts w.cells (cost_of c) ≡ None
 
 pub closed_before : (w r : World) (cs : cell.CellStore) (c : Cell) (tag : ℕ → Tagged) (v : Tagged) → IsMadeIn w r cs c tag v → IsClosed w.cells.cells
 closed_before w r cs c tag v m = subst (λ (x : World). IsClosed x.cells.cells) m.counted m.closed
@@ -167,12 +166,12 @@ pub grows_refl : (w x : World) → x ≡ w → IsWorld w → WorldGrows w x
 grows_refl w x e i = subst (λ y. WorldGrows w y) (sym e) (record { world = i; live = λ v h. h; values = λ v h. refl })
 
 -- there is no room
-pub made_stops : (w x : World) (cost : ℕ) (s : State) (next : State → Outcome Value) (why : stops.Stop) → x ≡ w → IsWorld w → 0 < cost → room_stop w.counts (used_of w.cells) cost ≡ Some why → ShowsState w s → MeansValue s (room cost s next) (Err why) x
+pub made_stops : (w x : World) (cost : ℕ) (s : State) (next : State → Outcome Value) (why : stops.Stop) → x ≡ w → IsWorld w → 0 < cost → room_stop w.counts w.cells cost ≡ Some why → ShowsState w s → MeansValue s (room cost s next) (Err why) x
 made_stops w x cost s next why e i p stop shown = subst (λ y. MeansValue s (room cost s next) (Err why) y) (sym e) (room_full w.cells w.counts cost s next why i.running shown.counts p stop)
 
 -- ---- pairs
 
-pub pair_stops : (w x : World) (a d : Tagged) (why : stops.Stop) → x ≡ w → IsWorld w → room_stop w.counts (used_of w.cells) 1 ≡ Some why
+pub pair_stops : (w x : World) (a d : Tagged) (why : stops.Stop) → x ≡ w → IsWorld w → room_stop w.counts w.cells 1 ≡ Some why
     → (s : State) → ShowsState w s → MeansValue s (made_pair (value_in w.cells.cells a) (value_in w.cells.cells d) s) (Err why) x
 pair_stops w x a d why e i stop s shown = made_stops w x 1 s (λ s. Done (new_value s.store) (record s { store = cons_store s.store (value_in w.cells.cells a) (value_in w.cells.cells d) })) why e i (omega arith) stop shown
 
@@ -212,7 +211,7 @@ string_ends law blocks made w r cs bytes v m i s shown =
     (shown.store ∙ sym (store_kept law blocks made cells (StrCell bytes) refl refl closed))
     (ap (renumbered (cells ++ placed (StrCell bytes))) (made.string_named cells bytes))
 
-pub string_stops : (w x : World) (bytes : List ℕ) (why : stops.Stop) → x ≡ w → IsWorld w → room_stop w.counts (used_of w.cells) (cost_of (StrCell bytes)) ≡ Some why
+pub string_stops : (w x : World) (bytes : List ℕ) (why : stops.Stop) → x ≡ w → IsWorld w → room_stop w.counts w.cells (cost_of (StrCell bytes)) ≡ Some why
     → (s : State) → ShowsState w s → MeansValue s (made_string bytes s) (Err why) x
 string_stops w x bytes why e i stop s shown = made_stops w x (cost_of (StrCell bytes)) s (λ s. Done (Str bytes) s) why e i (omega arith) stop shown
 
@@ -257,7 +256,7 @@ vector_ends law blocks made w r cs n v m i s shown =
     ∙ ap (λ ys. s.store ++ Vector ys ∷ []) places))
     (ap (renumbered new) (made.vector_named cells xs) ∙ ap Ref (sym long)))
 
-pub vector_stops : (w x : World) (n : ℕ) (why : stops.Stop) → x ≡ w → IsWorld w → room_stop w.counts (used_of w.cells) (cost_of (VectorCell (replicate n nil_id))) ≡ Some why
+pub vector_stops : (w x : World) (n : ℕ) (why : stops.Stop) → x ≡ w → IsWorld w → room_stop w.counts w.cells (cost_of (VectorCell (replicate n nil_id))) ≡ Some why
     → (s : State) → ShowsState w s → MeansValue s (made_places n s) (Err why) x
 vector_stops w x n why e i stop s shown =
     made_stops w x (1 + (n + 1) / 2) s (λ s. Done (Ref (length s.store)) (record s { store = s.store ++ Vector (replicate n nil_value_of_state) ∷ [] })) why e i (omega arith) (rw (vector_cost n) at stop) shown
@@ -278,9 +277,5 @@ rest_counts w x k e = record { rest = subst (λ (y : World). y ≡ record w { ce
 
 -- ---- room that was counted is there
 
-pub has_counted : (w r : World) (k : counted.WorldCounts) (cost : ℕ) → r ≡ record w { counts = k } → IsWorld w → room_stop w.counts (used_of w.cells) cost ≡ None → has_room r.cells cost ≡ true
+pub has_counted : (w r : World) (k : counted.WorldCounts) (cost : ℕ) → r ≡ record w { counts = k } → IsWorld w → room_stop w.counts w.cells cost ≡ None → has_room r.cells cost ≡ true
 has_counted w r k cost e i h = subst (λ (x : World). has_room x.cells cost ≡ true) (sym e) (room_fits w.cells w.counts cost i.running h)
-
-pub is_made : {T E : Type 0} (r : Result T E) (b : Bool) → is_ok r ≡ b → b ≡ true → IsOk r
-is_made (Ok x) b e h = tt
-is_made (Err x) b e h = absurd (cc)

@@ -103,16 +103,16 @@ room_full_at {A} g cells inner (Some e) used cost bound t s next why p h = go (n
 abbrev pub roomed_in : cell.CellStore → counted.WorldCounts → ℕ → Counts
 roomed_in c k cost = left k.bound (k.bound - k.turns) (k.cells_bound - (used_of c + cost)) (expansion_in c.cells k.open_count (with_cells cost k.outermost))
 
-pub room_done : {A : Type 0} (c : cell.CellStore) (k : counted.WorldCounts) (cost : ℕ) (s : State) (next : State → Outcome A) → AreRunCounts c k → s.counts ≡ counts_in c k → room_stop k (used_of c) cost ≡ None
+pub room_done : {A : Type 0} (c : cell.CellStore) (k : counted.WorldCounts) (cost : ℕ) (s : State) (next : State → Outcome A) → AreRunCounts c k → s.counts ≡ counts_in c k → room_stop k c cost ≡ None
     → room cost s next ≡ next (record s { counts = roomed_in c k cost })
 room_done {A} c k cost s next r e h =
-    let stop : room_stop_at k.outermost None (used_of c) cost k.cells_bound ≡ None = rw r.together at h in
+    let stop : room_stop_at k.outermost None (used_of c) cost k.cells_bound ≡ None = rw (r.opened, r.together) at h in
     ap (λ q. room cost (with_counts s q) next) (e ∙ left_in c k r) ∙ room_done_at k.bound c.cells k.open_count k.outermost (used_of c) cost k.cells_bound (k.bound - k.turns) s next stop
 
-pub room_full : {A : Type 0} (c : cell.CellStore) (k : counted.WorldCounts) (cost : ℕ) (s : State) (next : State → Outcome A) (why : stops.Stop) → AreRunCounts c k → s.counts ≡ counts_in c k → 0 < cost → room_stop k (used_of c) cost ≡ Some why
+pub room_full : {A : Type 0} (c : cell.CellStore) (k : counted.WorldCounts) (cost : ℕ) (s : State) (next : State → Outcome A) (why : stops.Stop) → AreRunCounts c k → s.counts ≡ counts_in c k → 0 < cost → room_stop k c cost ≡ Some why
     → StopsWith s (room cost s next) (stop_in c.cells why)
 room_full {A} c k cost s next why r e p h =
-    let stop : room_stop_at k.outermost None (used_of c) cost k.cells_bound ≡ Some why = rw r.together at h in
+    let stop : room_stop_at k.outermost None (used_of c) cost k.cells_bound ≡ Some why = rw (r.opened, r.together) at h in
     let f = room_full_at k.bound c.cells k.open_count k.outermost (used_of c) cost k.cells_bound (k.bound - k.turns) s next why p stop in
     record { state = f.state; is = ap (λ q. room cost (with_counts s q) next) (e ∙ left_in c k r) ∙ f.is; good = f.good }
 
@@ -132,9 +132,9 @@ room_fits_at (Some e) used cost bound h = go (nat_le (e.cells + cost) 1000000) h
     go true h = cells_fit used cost bound h
     go false h = absurd (cc)
 
-pub room_fits : (c : cell.CellStore) (k : counted.WorldCounts) (cost : ℕ) → AreRunCounts c k → room_stop k (used_of c) cost ≡ None → has_room c cost ≡ true
+pub room_fits : (c : cell.CellStore) (k : counted.WorldCounts) (cost : ℕ) → AreRunCounts c k → room_stop k c cost ≡ None → has_room c cost ≡ true
 room_fits c k cost r h =
-    let stop : room_stop_at k.outermost None (used_of c) cost k.cells_bound ≡ None = rw r.together at h in
+    let stop : room_stop_at k.outermost None (used_of c) cost k.cells_bound ≡ None = rw (r.opened, r.together) at h in
     let fits = room_fits_at k.outermost (used_of c) cost k.cells_bound stop in
     let used : used_of c ≡ r.counted.0 = rw r.counted.1 refl in
     ap (λ m. room_in c.count m (length c.cells) c.bound cost) r.unmarked ∙ ap (λ n. room_in n None (length c.cells) c.bound cost) r.counted.1

@@ -1,12 +1,12 @@
-use Rattle.std.proofs.Common.{refl}
+use Rattle.std.proofs.Common.{refl, ◌∙◌}
 use Rattle.std.specs.Prelude.{replicate}
 use Rattle.rl_tags.specs.Ids.{nil_id}
 use Rattle.rl_cells.specs.Cell.{VectorCell}
-use Rattle.rl_state.proofs.Made.{has_counted, is_made, made_ends, vector_ends, vector_stops, rest_made, rest_refl}
+use Rattle.rl_state.proofs.Made.{has_counted, made_ends, vector_ends, vector_stops, rest_made, rest_refl}
 use Rattle.rl_state.proofs.objects.vector.Goals as goal
 
 pub unwrap-requires : goal.unwrap-requires
-unwrap-requires c = is_made c.vector.result _ c.vector.ensures.full (has_counted c.args.w.now c.room.new.self _ _ c.in-Ok.ensures.counted c.requires.world (rw c.vector_cost.ensures at c.in-Ok.ensures.ok))
+unwrap-requires c = c.vector.ensures.full ∙ (has_counted c.args.w.now c.room.new.self _ _ c.in-Ok.ensures.counted c.requires.world (rw c.vector_cost.ensures at c.in-Ok.ensures.ok))
 
 pub returns-in-Ok-clause-means : goal.returns-in-Ok-clause-means
 returns-in-Ok-clause-means c =
