@@ -8,15 +8,7 @@ use Rattle.rl_syms.specs.Table.{IsChained, IsTable, IsNamed, ids_from, name_in_c
 use Rattle.rl_syms.specs.Made.{new_words, new_id, with_id, Finds, Enters}
 use Rattle.rl_syms.specs.Opened.{IsOpeningName, IsBlank, IsOpened, is_name_cell}
 use Rattle.rl_syms.proofs.Carried.{ids_new, among_along, among_id, name_carried}
-use Rattle.rl_syms.proofs.New.{adds_carries, with_id_adds, with_id_new, where_is, before, here, after}
-
-with_id_block : IsAdded → (s : CellStore) (name : List ℕ) (plist : Tagged) (next : Option Tagged)
-    → cell_at (with_id s name plist next).cells (length s.cells + cost_of (StrCell name)) ≡ BlockCell tag.Id (new_words (StrAt (length s.cells)) plist next)
-with_id_block law s name plist next =
-    let words = new_words (StrAt (length s.cells)) plist next in
-    let first = s.cells ++ placed (StrCell name) in
-    let long : length first ≡ length s.cells + cost_of (StrCell name) = law.long s.cells (StrCell name) (omega arith) in
-    ap (cell_at (first ++ placed (BlockCell tag.Id words))) (sym long) ∙ law.here first (BlockCell tag.Id words)
+use Rattle.rl_syms.proofs.New.{adds_carries, with_id_adds, with_id_block, with_id_new, where_is, before, here, after}
 
 -- each cell that a new name takes is one of a name
 objects_new : IsAdded → (s : CellStore) (name : List ℕ) (plist : Tagged) (next : Option Tagged) → ((k : ℕ) → is_name_cell (cell_at s.cells k) ≡ true) → (k : ℕ) → is_name_cell (cell_at (with_id s name plist next).cells k) ≡ true

@@ -6,6 +6,7 @@ use Rattle.rl_tags.specs.declared.Tag.TheVariants as tag
 use Rattle.rl_cells.specs.Cell.{Cell, PairCell, StrCell, VectorCell, BigCell, BlockCell, More, cell_at, is_id_cell, is_str, words_in}
 use Rattle.rl_syms.specs.Table.{IsTable, IsNamed, Among, ids_from, is_id, held_in, rank_of, symbol_in_cells, symbol_of, nil_value}
 use Rattle.rl_syms.specs.Frame.{KeepsBlocks, block_in}
+use Rattle.rl_syms.proofs.Numbers.{ids_numbered}
 use Rattle.rl_syms.proofs.Carried.{Carries, among_id, chained_same, ids_carried, name_carried, named_stays}
 
 id_from : Option (Tag × List ℕ) → Bool
@@ -80,6 +81,8 @@ pub table_same : (old new : List Cell) (head : Option Tagged) → KeepsBlocks ol
 table_same old new head b t = record {
   chained = chained_same old new head (keeps_carries old new b) (λ k h. sym (id_same old new k b) ∙ h) (λ k h. ap length (words_same old new k b)) (λ k h. rw (words_same old new k b) (t.chained.listed k h)) t.chained;
   nil = b.live nil_value t.nil;
+  first = ids_numbered.same old new (index_of nil_value) (λ j _. id_same old new j b) ∙ t.first;
+  defined = λ k h. rw (words_same old new k b) (t.defined k (sym (id_same old new k b) ∙ h));
 }
 
 pub names_same : (old new : List Cell) (head : Option Tagged) (bytes : List ℕ) (id : Tagged) → KeepsBlocks old new → IsTable old head → IsNamed old head bytes id → IsNamed new head bytes id

@@ -1,16 +1,19 @@
 -- The table after one word of an identifier is set, which is neither its name nor its link.
-use Rattle.std.proofs.Common.{◌≡◌, ◌≢◌, ℕ, ◌+◌, ◌/◌, ◌<◌, true, false, List, [], ◌∷◌, length, get_or, set, Option, Some, None, refl, sym, ap, ◌∙◌, arith, inl, inr}
+use Rattle.std.proofs.Common.{◌≡◌, ◌≢◌, ℕ, ◌+◌, ◌/◌, ◌<◌, ◌⊎◌, true, false, List, [], ◌∷◌, length, get_or, set, Option, Some, None, refl, sym, ap, ◌∙◌, arith, inl, inr}
 use Rattle.std.proofs.lemmas.List.{get_or-set_same, get_or-set_other, length-set}
 use Rattle.std.proofs.lemmas.Bool.{cases_eq}
 use Rattle.std.specs.Prelude.{IsSome}
+use Rattle.std.specs.Option.{ForSome}
 use Rattle.rl_tags.specs.Tagged.{Tagged, Number, IdAt, StrAt, PairAt, VectorAt, BigAt, FunAt, index_of}
 use Rattle.rl_tags.specs.declared.Tag.TheVariants as tag
 use Rattle.rl_cells.specs.Cell.{Cell, PairCell, StrCell, VectorCell, BigCell, BlockCell, More, cell_at, changed_at, block_with, is_block, is_id_cell, is_str, is_str_cell, is_live, words_in, words_of, bytes_of, bytes_in}
 use Rattle.rl_cells.specs.Laws.{IsChanged, SameKind}
 use Rattle.rl_tree.specs.declared.held.Kind.{Kind}
-use Rattle.rl_syms.specs.Table.{IsTable, IsNamed, is_id, held_in, word_in, nil_value, symbol_in_cells, symbol_of, kind_in_word, var_kind_in, of_kind}
+use Rattle.rl_syms.specs.Table.{IsTable, IsNamed, is_id, is_pointer, held_in, word_in, nil_value, symbol_in_cells, symbol_of, kind_in_word, var_kind_in, of_kind}
 use Rattle.rl_syms.proofs.Chained.{AtId, within}
 use Rattle.rl_syms.proofs.Carried.{Carries, chained_same, named_stays}
+use Rattle.rl_syms.proofs.Changed.{text_same}
+use Rattle.rl_syms.proofs.Numbers.{ids_numbered}
 
 id_block : (c : Cell) → is_id_cell c ≡ true → c ≡ BlockCell tag.Id (words_in c)
 id_block (BlockCell tag.Id words) h = refl
@@ -52,7 +55,9 @@ pub record SetAt (old new : List Cell) (head : Option Tagged) (k i w : ℕ) : Ty
   pub id : is_id_cell (cell_at new k) ≡ true
   pub words : words_in (cell_at new k) ≡ set (words_in (cell_at old k)) i w
   pub others : (j : ℕ) → j ≢ k → cell_at new j ≡ cell_at old j
-  pub live : (v : Tagged) → is_live old v ≡ true → is_live new v ≡ true
+  pub live : (v : Tagged) → is_live new v ≡ is_live old v
+  pub texts : (v : Tagged) → bytes_of new v ≡ bytes_of old v
+  pub long : length new ≡ length old
 
 not_string : (cells : List Cell) (j k : ℕ) → is_str_cell (cell_at cells j) ≡ true → is_id_cell (cell_at cells k) ≡ true → j ≢ k
 not_string cells j k s h e = go (cell_at cells k) (rw e at s) h
@@ -65,10 +70,22 @@ not_string cells j k s h e = go (cell_at cells k) (rw e at s) h
     go (BigCell z) p q = let y : false ≡ true = p in cc
     go More p q = let z : false ≡ true = p in cc
 
-word_stays : (old new : List Cell) (head : Option Tagged) (k i w n j : ℕ) → SetAt old new head k i w → n ≢ i → word_in new j n ≡ word_in old j n
+pub word_stays : (old new : List Cell) (head : Option Tagged) (k i w n j : ℕ) → SetAt old new head k i w → n ≢ i → word_in new j n ≡ word_in old j n
 word_stays old new head k i w n j s ne = elim (cases_eq j k) [
   | inl e ↦ rw e (ap (λ ws. get_or ws n 0) s.words ∙ get_or-set_other (words_in (cell_at old k)) i n w 0 ne)
   | inr o ↦ ap (λ c. get_or (words_in c) n 0) (s.others j o)
+]
+
+-- a word is the one that is set, or as it was
+word_set : (old new : List Cell) (head : Option Tagged) (k i w n j : ℕ) → IsTable old head → is_id_cell (cell_at old k) ≡ true → SetAt old new head k i w → i < 5 → ((i ≡ n) × (word_in new j n ≡ w)) ⊎ (word_in new j n ≡ word_in old j n)
+word_set old new head k i w n j t h s within_ = elim (cases_eq j k) [
+  | inl e ↦ elim (cases_eq i n) [
+    | inl same ↦
+        let is : word_in new k n ≡ w = ap (λ ws. get_or ws n 0) s.words ∙ ap (λ m. get_or (set (words_in (cell_at old k)) i w) m 0) (sym same) ∙ get_or-set_same (words_in (cell_at old k)) i w 0 (omega (arith, t.chained.six k h, within_)) in
+        inl (same, rw e is)
+    | inr ne ↦ inr (word_stays old new head k i w n j s (λ q. ne (sym q)))
+  ]
+  | inr o ↦ inr (ap (λ c. get_or (words_in c) n 0) (s.others j o))
 ]
 
 string_stays : (old new : List Cell) (head : Option Tagged) (k i w : ℕ) (v : Tagged) → is_id_cell (cell_at old k) ≡ true → SetAt old new head k i w → is_str old v ≡ true → (is_str new v ≡ true) × (bytes_of new v ≡ bytes_of old v)
@@ -93,8 +110,8 @@ set_carries old new head k i w h s some within_ =
       text = λ v p. (string_stays old new head k i w v h s p).1;
     }
 
-pub set_table : (old new : List Cell) (head : Option Tagged) (k i w : ℕ) → IsTable old head → is_id_cell (cell_at old k) ≡ true → SetAt old new head k i w → 0 < i → i < 5 → (i ≡ 2 → IsSome (held_in w)) → IsTable new head
-set_table old new head k i w t h s some within_ plist =
+pub set_table : (old new : List Cell) (head : Option Tagged) (k i w : ℕ) → IsTable old head → is_id_cell (cell_at old k) ≡ true → SetAt old new head k i w → 0 < i → i < 5 → (i ≡ 2 → IsSome (held_in w)) → (i ≡ 3 → ForSome (held_in w) (λ f. is_pointer f ≡ true)) → IsTable new head
+set_table old new head k i w t h s some within_ plist pointer =
     let was : (j : ℕ) → is_id_cell (cell_at new j) ≡ true → is_id_cell (cell_at old j) ≡ true = λ j p. elim (cases_eq j k) [
       | inl e ↦ rw e h
       | inr o ↦ ap is_id_cell (sym (s.others j o)) ∙ p
@@ -104,19 +121,19 @@ set_table old new head k i w t h s some within_ plist =
       | inl e ↦ rw e (ap length s.words ∙ length-set (words_in (cell_at old k)) i w)
       | inr o ↦ ap (λ c. length (words_in c)) (s.others j o)
     ] in
-    let listed : (j : ℕ) → is_id_cell (cell_at old j) ≡ true → IsSome (held_in (word_in new j 2)) = λ j p. elim (cases_eq j k) [
-      | inl e ↦ elim (cases_eq i 2) [
-        | inl two ↦
-            let l : i < length (words_in (cell_at old k)) = omega (arith, t.chained.six k h) in
-            let is : word_in new k 2 ≡ w = ap (λ ws. get_or ws 2 0) s.words ∙ ap (λ n. get_or (set (words_in (cell_at old k)) i w) n 0) (sym two) ∙ get_or-set_same (words_in (cell_at old k)) i w 0 l in
-            rw (e, is) (plist two)
-        | inr ne ↦ rw (word_stays old new head k i w 2 j s (λ q. ne (sym q))) (t.chained.listed j p)
-      ]
-      | inr o ↦ rw (s.others j o) (t.chained.listed j p)
+    let listed : (j : ℕ) → is_id_cell (cell_at old j) ≡ true → IsSome (held_in (word_in new j 2)) = λ j p. elim (word_set old new head k i w 2 j t h s within_) [
+      | inl set_ ↦ rw set_.1 (plist set_.0)
+      | inr stays ↦ rw stays (t.chained.listed j p)
+    ] in
+    let defined : (j : ℕ) → is_id_cell (cell_at old j) ≡ true → ForSome (held_in (word_in new j 3)) (λ f. is_pointer f ≡ true) = λ j p. elim (word_set old new head k i w 3 j t h s within_) [
+      | inl set_ ↦ rw set_.1 (pointer set_.0)
+      | inr stays ↦ rw stays (t.defined j p)
     ] in
     record {
       chained = chained_same old new head carries was (λ j p. long j) listed t.chained;
-      nil = s.live nil_value t.nil;
+      nil = s.live nil_value ∙ t.nil;
+      first = ids_numbered.same old new (index_of nil_value) (λ j _. s.live (IdAt j)) ∙ t.first;
+      defined = λ j p. defined j (was j p);
     }
 
 pub set_keeps : (old new : List Cell) (head : Option Tagged) (k i w : ℕ) → IsTable old head → is_id_cell (cell_at old k) ≡ true → SetAt old new head k i w → 0 < i → i < 5 → (bytes : List ℕ) (other : Tagged) → IsNamed old head bytes other → IsNamed new head bytes other
@@ -138,7 +155,9 @@ set_at law old new head v i w t h changed =
       id = ap is_id_cell here;
       words = ap words_in here;
       others = λ j n. ap (λ cs. cell_at cs j) is ∙ law.others old k j c n;
-      live = λ u p. ap (λ cs. is_live cs u) is ∙ law.live old k c u inside kind ∙ p;
+      live = λ u. ap (λ cs. is_live cs u) is ∙ law.live old k c u inside kind;
+      texts = λ u. ap (λ cs. bytes_of cs u) is ∙ text_same old k c u (sym (ap bytes_in block));
+      long = ap length is ∙ length-set old k c;
     }
 
 list_six : (ws : List ℕ) → length ws ≡ 6 → ws ≡ get_or ws 0 0 ∷ get_or ws 1 0 ∷ get_or ws 2 0 ∷ get_or ws 3 0 ∷ get_or ws 4 0 ∷ get_or ws 5 0 ∷ []

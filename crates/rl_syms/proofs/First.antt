@@ -2,19 +2,23 @@
 use Rattle.std.proofs.Common.{◌≡◌, ℕ, ◌+◌, ◌-◌, ◌<◌, ◌≤◌, ◌⊎◌, true, nat_le, List, [], ◌++◌, length, set, Option, Some, None, refl, sym, ap, ◌∙◌, arith, inl, inr}
 use borrow.Author.Count.{below_more}
 use Rattle.std.proofs.lemmas.List.{length-append, length-replicate}
+use Rattle.std.proofs.lemmas.Bool.{cases_Bool}
 use Rattle.std.proofs.lemmas.Bool.Decides.{nat_tests}
 use Rattle.rl_tags.specs.Tagged.{Tagged, IdAt, StrAt, index_of, word_of}
 use Rattle.rl_tags.specs.Opening.{place_of, name_at as opening_name_at}
 use Rattle.rl_tags.specs.declared.Tag.TheVariants as tag
-use Rattle.rl_cells.specs.Cell.{Cell, CellStore, StrCell, BlockCell, More, cell_at, cost_of, placed, grown, has_room, changed_at, block_with}
+use Rattle.rl_cells.specs.Cell.{Cell, CellStore, StrCell, BlockCell, More, cell_at, is_id_cell, cost_of, placed, grown, has_room, changed_at, block_with}
 use Rattle.rl_cells.specs.Laws.{IsAdded}
 use Rattle.rl_syms.specs.Table.{IsChained, IsTable, IsNamed, nil_value}
 use Rattle.rl_syms.specs.Made.{Finds, Enters, IsOpening, id_cost, new_id, new_words, with_id}
 use Rattle.rl_syms.specs.Opened.{IsOpened, HasFirst}
 use Rattle.rl_syms.proofs.Names.{name_some, name_short, name_once, place_is}
 use Rattle.rl_syms.proofs.Carried.{among_id}
+use Rattle.rl_syms.proofs.Chained.{within}
+use Rattle.rl_syms.proofs.New.{with_id_new}
+use Rattle.rl_syms.proofs.Numbers.{none_before}
 use Rattle.rl_syms.proofs.Filled.{filled_set}
-use Rattle.rl_syms.proofs.Entered.{chained_empty, entered_chained, entered_named, entered_keeps}
+use Rattle.rl_syms.proofs.Entered.{AreDefined, chained_empty, defined_new, entered_chained, entered_named, entered_keeps}
 use Rattle.rl_syms.proofs.Blank.{entered_known, opened_none, opened_new}
 
 -- in opening there is room up to 65536 cells
@@ -91,12 +95,31 @@ nil_filled law old mid new name plist id w empty e made is word changed =
 pub nil_first : IsAdded → (old new : CellStore) (id : Tagged) → old.cells ≡ [] → new ≡ with_id old (opening_name_at 0) nil_value None → id ≡ new_id old (opening_name_at 0) → HasFirst 1 new.cells (Some id)
 nil_first law old new id empty made is = first_new law 0 old new None (opening_name_at 0) id (omega arith) refl (chained_empty old.cells empty) made is (first_none old.cells empty)
 
+-- there is no identifier before it
+nil_alone : IsAdded → (old new : CellStore) → old.cells ≡ [] → new ≡ with_id old (opening_name_at 0) nil_value None → (j : ℕ) → j < 2 → is_id_cell (cell_at new.cells j) ≡ true → ⊥
+nil_alone law old new empty made j l h =
+    let some = name_some 0 (opening_name_at 0) (omega arith) refl in
+    let short = name_short 0 (opening_name_at 0) (omega arith) refl in
+    let none : length old.cells ≡ 0 = ap length empty in
+    let is : is_id_cell (cell_at (with_id old (opening_name_at 0) nil_value None).cells j) ≡ true = rw made at h in
+    elim ((with_id_new law old (opening_name_at 0) nil_value None some (omega (arith, short)) refl tt).alone j is) [
+      | inl e ↦ absurd (omega (arith, e, l, some, short, none))
+      | inr o ↦ let i = within old.cells j o in absurd (omega (arith, i, none))
+    ]
+
 pub nil_table : IsAdded → (old new : CellStore) (id : Tagged) → old.cells ≡ [] → new ≡ with_id old (opening_name_at 0) nil_value None → id ≡ new_id old (opening_name_at 0) → IsTable new.cells (Some id)
 nil_table law old new id empty made is =
     let short = name_short 0 (opening_name_at 0) (omega arith) refl in
     let chained = entered_chained law old new None (opening_name_at 0) nil_value id (name_some 0 (opening_name_at 0) (omega arith) refl) (omega arith) refl (chained_empty old.cells empty) (record { other = λ k a. absurd a }) made is in
     let nil : IsNamed new.cells (Some id) (opening_name_at 0) nil_value = rw (← place_is 0 (omega arith)) ((nil_first law old new id empty made is).named 0 (omega arith)) in
-    record { chained = chained; nil = among_id new.cells (Some id) 2 chained nil.interned.1 }
+    let none_yet : (j : ℕ) → j < 2 → is_id_cell (cell_at new.cells j) ≡ true → ⊥ = λ j l h. nil_alone law old new empty made j l h in
+    let none : AreDefined old.cells = λ k h. let l = within old.cells k h in let long : length old.cells ≡ 0 = ap length empty in absurd (omega arith) in
+    record {
+      chained = chained;
+      nil = among_id new.cells (Some id) 2 chained nil.interned.1;
+      first = none_before new.cells (index_of nil_value) (λ j (l : j < 2). elim (cases_Bool (is_id_cell (cell_at new.cells j))) [ inl was ↦ absurd (none_yet j l was) | inr isnt ↦ isnt ]);
+      defined = defined_new law old new None (opening_name_at 0) (name_some 0 (opening_name_at 0) (omega arith) refl) (omega arith) none tt made;
+    }
 
 pub nil_opened : IsAdded → (old new : CellStore) (id : Tagged) → old.cells ≡ [] → new ≡ with_id old (opening_name_at 0) nil_value None → id ≡ new_id old (opening_name_at 0) → IsOpened new.cells (Some id)
 nil_opened law old new id empty made is =

@@ -9,7 +9,7 @@ use Rattle.rl_syms.specs.Frame.{KeepsBlocks, block_in}
 use Rattle.rl_syms.proofs.Carried.{among_id}
 use Rattle.rl_syms.proofs.Chained.{held_some}
 use Rattle.rl_syms.proofs.New.{tested_inside, where_is, before, here, after}
-use Rattle.rl_syms.proofs.Changed.{part_stays}
+use Rattle.rl_syms.proofs.Changed.{part_stays, text_same}
 
 -- ---- what is added
 
@@ -49,15 +49,6 @@ named_is_id cells head bytes id table named =
     ap (is_id cells) named.interned.0 ∙ among_id cells head _ table.chained named.interned.1
 
 -- ---- what is changed
-
-text_same : (cells : List Cell) (k : ℕ) (c : Cell) (v : Tagged) → bytes_in c ≡ bytes_in (cell_at cells k) → bytes_of (set cells k c) v ≡ bytes_of cells v
-text_same cells k c (StrAt j) h = part_stays bytes_in cells k c j h
-text_same cells k c (Number z) h = refl
-text_same cells k c (IdAt j) h = refl
-text_same cells k c (PairAt j) h = refl
-text_same cells k c (VectorAt j) h = refl
-text_same cells k c (BigAt j) h = refl
-text_same cells k c (FunAt j) h = refl
 
 changed_leaves : IsChanged → (cells : List Cell) (k : ℕ) (c : Cell) → k < length cells → SameKind c (cell_at cells k) → bytes_in c ≡ bytes_in (cell_at cells k) → block_in c ≡ block_in (cell_at cells k) → KeepsBlocks cells (set cells k c)
 changed_leaves law cells k c l kind bytes block = record {

@@ -12,3 +12,6 @@ pub mod Rows
 pub mod Meant
 pub mod Changed
 pub mod Left
+pub mod Numbers
+pub mod Kept
+pub mod NamesByNumber

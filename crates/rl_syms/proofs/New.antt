@@ -96,6 +96,14 @@ with_id_adds law s name plist next =
       stands = stands;
     }
 
+pub with_id_block : IsAdded → (s : CellStore) (name : List ℕ) (plist : Tagged) (next : Option Tagged)
+    → cell_at (with_id s name plist next).cells (length s.cells + cost_of (StrCell name)) ≡ BlockCell tag.Id (new_words (StrAt (length s.cells)) plist next)
+with_id_block law s name plist next =
+    let words = new_words (StrAt (length s.cells)) plist next in
+    let first = s.cells ++ placed (StrCell name) in
+    let long : length first ≡ length s.cells + cost_of (StrCell name) = law.long s.cells (StrCell name) (omega arith) in
+    ap (cell_at (first ++ placed (BlockCell tag.Id words))) (sym long) ∙ law.here first (BlockCell tag.Id words)
+
 -- an object that is no identifier
 not_id : (c d : Cell) → c ≡ d → is_id_cell d ≡ false → is_id_cell c ≡ true → ⊥
 not_id c d e f h = let z : true ≡ false = sym h ∙ ap is_id_cell e ∙ f in cc

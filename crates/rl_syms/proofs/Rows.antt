@@ -1,17 +1,19 @@
 -- The meaning of cells, tried on examples: each side computes to the other.
-use Rattle.std.proofs.Common.{◌≡◌, List, ◌++◌, [], ◌∷◌, pos, set, refl}
+use Rattle.std.proofs.Common.{◌≡◌, ◌+◌, ◌*◌, ◌^◌, List, ◌++◌, [], ◌∷◌, pos, set, refl}
 use Rattle.std.specs.Prelude.{codes, slice_get, Some, None}
-use Rattle.rl_tags.specs.Tagged.{Number, IdAt, StrAt, PairAt, VectorAt}
-use Rattle.rl_cells.specs.Cell.{Cell, PairCell, StrCell, VectorCell, placed, changed_at, cdr_of, vector_of}
-use Rattle.rl_tree.specs.Value.{Int, Id, Str, Ref, Pair, Vector, new_value, cons_store, cons_value, vector_store, changed_store}
-use Rattle.rl_syms.specs.Contents.{number_at, value_of, store_of}
+use Rattle.rl_tags.specs.declared.Tag.TheVariants as tag
+use Rattle.rl_tags.specs.Tagged.{Number, IdAt, FunAt, StrAt, PairAt, VectorAt}
+use Rattle.rl_cells.specs.Cell.{Cell, BlockCell, PairCell, StrCell, VectorCell, placed, changed_at, cdr_of, vector_of}
+use Rattle.rl_tree.specs.Value.{Int, Id, Str, Ref, Fun, Pair, Vector, new_value, cons_store, cons_value, vector_store, changed_store}
+use Rattle.rl_syms.specs.Contents.{funs_before, ids_before, number_at, value_of, store_of}
 
 -- (1 . "ab") is made after its string, and is the first object
 pub pair_of_string : store_of (placed (StrCell (codes "ab")) ++ placed (PairCell (Number (pos 1)) (StrAt 0))) ≡ Pair (Int (pos 1)) (Str (codes "ab")) ∷ []
 pair_of_string = refl
 
 -- a vector of three places takes three cells, and the pair that holds it twice is the second object
-pub pair_of_vectors : store_of (placed (VectorCell (Number (pos 7) ∷ IdAt 2 ∷ Number (pos 9) ∷ [])) ++ placed (PairCell (VectorAt 0) (VectorAt 0))) ≡ Vector (Int (pos 7) ∷ Id 2 ∷ Int (pos 9) ∷ []) ∷ Pair (Ref 0) (Ref 0) ∷ []
+pub pair_of_vectors : store_of (placed (VectorCell (Number (pos 7) ∷ IdAt 2 ∷ Number (pos 9) ∷ [])) ++ placed (PairCell (VectorAt 0) (VectorAt 0))) ≡ Vector (Int (pos 7) ∷ Id 0 ∷ Int (pos 9) ∷ []) ∷ Pair (Ref 0) (Ref 0) ∷ []
+unfolding ids_before
 pair_of_vectors = refl
 
 -- a pair that holds itself
@@ -72,9 +74,23 @@ pair_read = refl
 pub vector_referred : value_of held (VectorAt 1) ≡ Ref 1
 vector_referred = refl
 
-pub vector_read : slice_get (store_of held) (number_at held 1) ≡ Some (Vector (Ref 0 ∷ Id 2 ∷ []))
+pub vector_read : slice_get (store_of held) (number_at held 1) ≡ Some (Vector (Ref 0 ∷ Id 0 ∷ []))
+unfolding ids_before
 vector_read = refl
 
 -- no object has the number of the next place
 pub none_read : slice_get (store_of held) (number_at held 4) ≡ None
 none_read = refl
+
+-- two identifiers with a string before each: the second is number 1, whatever its place
+abbrev pub two_ids : List Cell
+two_ids = placed (StrCell (codes "A")) ++ placed (BlockCell tag.Id (2 ∷ 15 ∷ 33 ∷ 15 ∷ 0 ∷ 15 ∷ [])) ++ placed (StrCell (codes "B")) ++ placed (BlockCell tag.Id (82 ∷ 15 ∷ 33 ∷ 15 ∷ 0 ∷ 33 ∷ []))
+
+pub second_id : value_of two_ids (IdAt 7) ≡ Id 1
+unfolding ids_before
+second_id = refl
+
+-- a place in the second of two functions
+pub part_of_second : value_of (placed (BlockCell tag.Fun (0 ∷ 0 ∷ [])) ++ placed (BlockCell tag.Id (0 ∷ 0 ∷ [])) ++ placed (BlockCell tag.Fun (0 ∷ [])) ) (FunAt (2 + 5 * 2 ^ 32)) ≡ Fun 1 5
+unfolding funs_before
+part_of_second = refl

@@ -3,7 +3,8 @@ use Rattle.std.specs.Prelude.{◌≡◌, ◌≢◌, ℕ, ◌<◌, List, length, 
 use Rattle.rl_tags.specs.Tagged.{Tagged, index_of}
 use Rattle.rl_tags.specs.declared.Tag.{Tag}
 use Rattle.rl_cells.specs.Cell.{Cell, BlockCell, cell_at, is_live, is_str, bytes_of}
-use Rattle.rl_syms.specs.Table.{SymbolCells, symbol_in_cells, is_id}
+use Rattle.rl_syms.specs.Table.{IsFree, SymbolCells, ids_from, is_id, name_in_cells, symbol_in_cells}
+use Rattle.rl_syms.specs.Contents.{store_of, value_of}
 
 -- the block that begins at a cell
 abbrev pub block_in : Cell → Option (Tag × List ℕ)
@@ -22,9 +23,20 @@ pub record Adds (old new : List Cell) : Type 0 where
   pub ids : (v : Tagged) → is_id old v ≡ true → is_id new v ≡ true
   pub stands : (k : ℕ) → k < length old → cell_at new k ≡ cell_at old k
 
--- one identifier alone has changed, and is this now
+-- the same values live and mean what they meant, the objects are as they were, and the same names are interned
+pub record KeepsMeaning (old new : List Cell) : Type 0 where
+  pub long : length new ≡ length old
+  pub live : (v : Tagged) → is_live new v ≡ is_live old v
+  pub values : (v : Tagged) → value_of new v ≡ value_of old v
+  pub store : store_of new ≡ store_of old
+  pub chains : (head : Option Tagged) → ids_from new head ≡ ids_from old head
+  pub names : (k : ℕ) → name_in_cells new k ≡ name_in_cells old k
+  pub free : (head : Option Tagged) (name : List ℕ) → IsFree old head name → IsFree new head name
+
+-- one identifier alone has changed, and is this now; all means what it meant
 pub record Sets (old new : List Cell) (id : Tagged) (s : SymbolCells) : Type 0 where
   pub live : (v : Tagged) → is_live old v ≡ true → is_live new v ≡ true
   pub ids : (v : Tagged) → is_id old v ≡ true → is_id new v ≡ true
   pub symbol : symbol_in_cells new (index_of id) ≡ s
   pub others : (k : ℕ) → k ≢ index_of id → cell_at new k ≡ cell_at old k
+  pub rest : KeepsMeaning old new

@@ -5,3 +5,5 @@ pub mod Gensym
 pub mod Laws
 pub mod Opened
 pub mod Contents
+pub mod Numbers
+pub mod Readings

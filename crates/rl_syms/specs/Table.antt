@@ -1,7 +1,9 @@
 -- Identifiers: blocks of six words, which are the name, the value or none, the property list, the definition or none, the two kinds, and the next identifier of the chain or none. The chain goes from the newest interned identifier to the oldest.
 use Rattle.std.specs.Prelude.{◌≡◌, ◌≢◌, ℕ, zero, suc, ◌/◌, ◌%◌, ◌<◌, ◌≤◌, ◌==◌, ◌⊎◌, nat_le, cond, Bool, true, false, List, [], ◌∷◌, length, slice_index, Option, Some, None, IsSome}
-use Rattle.rl_tags.specs.Tagged.{Tagged, IdAt, tagged_of, index_of}
+use Rattle.std.specs.Option.{ForSome}
+use Rattle.rl_tags.specs.Tagged.{Tagged, IdAt, FunAt, tagged_of, index_of}
 use Rattle.rl_tags.specs.Ids.{nil_id}
+use Rattle.rl_syms.specs.Contents.{ids_before}
 use Rattle.rl_cells.specs.Cell.{Cell, cell_at, is_id_cell, is_live, is_str, words_in, bytes_of}
 use Rattle.rl_tree.specs.declared.held.Kind.{Kind}
 use Rattle.rl_tree.specs.declared.held.Kind.TheVariants.{Expr, Fexpr, Macro}
@@ -65,6 +67,11 @@ chain zero cells v = []
 chain (suc n) cells (Some (IdAt k)) = k ∷ chain n cells (next_at cells k)
 chain (suc n) cells _ = []
 
+-- whether a value is a function pointer
+abbrev pub is_pointer : Tagged → Bool
+is_pointer (FunAt k) = true
+is_pointer _ = false
+
 -- one more than the place of an identifier; 0 for none
 abbrev pub rank_of : Option Tagged → ℕ
 rank_of (Some (IdAt k)) = suc k
@@ -106,10 +113,12 @@ pub record IsChained (cells : List Cell) (head : Option Tagged) : Type 0 where
 abbrev pub nil_value : Tagged
 nil_value = nil_id
 
--- the chain begins at head, and NIL stands, which is the property list of a new identifier
+-- the chain begins at head, and NIL stands, which was made first and is the property list of a new identifier; a definition is a function pointer
 pub record IsTable (cells : List Cell) (head : Option Tagged) : Type 0 where
   pub chained : IsChained cells head
   pub nil : is_live cells nil_value ≡ true
+  pub first : ids_before cells (index_of nil_value) ≡ 0
+  pub defined : (k : ℕ) → is_id_cell (cell_at cells k) ≡ true → ForSome (held_in (word_in cells k 3)) (λ f. is_pointer f ≡ true)
 
 -- the identifier is on the chain
 abbrev pub IsInterned : List Cell → Option Tagged → Tagged → Type 0

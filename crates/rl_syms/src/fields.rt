@@ -3,8 +3,8 @@ ghost use Rattle.std.specs.Prelude.{◌≡◌, ◌≢◌, ◌≤◌, ◌<◌, �
 ghost use Rattle.std.specs.Option.{ForSome};
 ghost use Rattle.rl_tags.specs.Tagged.{Tagged, index_of};
 ghost use Rattle.rl_cells.specs.Cell.{cell_at, is_live, is_live_word, is_str, bytes_of, words_in};
-ghost use Rattle.rl_syms.specs.Table.{IsTable, IsNamed, held_in, is_id, kind_in_word, var_kind_in, symbol_in_cells, of_kind, word_in};
-ghost use Rattle.rl_syms.specs.Frame.{Sets};
+ghost use Rattle.rl_syms.specs.Table.{IsTable, IsNamed, held_in, is_id, is_pointer, kind_in_word, var_kind_in, symbol_in_cells, of_kind, word_in};
+ghost use Rattle.rl_syms.specs.Frame.{KeepsMeaning, Sets};
 
 use crate::Syms;
 use crate::made::{NOTHING, word_for};
@@ -45,12 +45,13 @@ impl Syms {
         self.held(c, id, 2).unwrap()
     }
 
-    /// Its definition, None where it has none.
+    /// Its definition, None where it has none. It is a function pointer.
     pub fn function(&self, c: &Cells, id: Val) -> Option<(Kind, Val)>
         requires table { IsTable c.now.cells self.now.head }
         requires id { IsTrue (is_id c.now.cells id) }
         ensures definition { result ≡ (symbol_in_cells c.now.cells (index_of id)).definition }
         ensures live { ForSome result (λ p. IsTrue (is_live c.now.cells p.1)) }
+        ensures pointer { ForSome result (λ p. IsTrue (is_pointer p.1)) }
     {
         let kind = kind_of(self.word(c, id, 4));
         match self.held(c, id, 3) {
@@ -96,11 +97,12 @@ impl Syms {
         self.set_field(c, id, 2, word_for(Some(v)));
     }
 
-    /// Gives it a definition, or takes its definition away.
+    /// Gives it a definition, which is a function pointer, or takes its definition away.
     pub fn set_function(&mut self, c: &mut Cells, id: Val, f: Option<(Kind, Val)>)
         requires table { IsTable c.old.cells self.old.head }
         requires id { IsTrue (is_id c.old.cells id) }
         requires live { ForSome f (λ p. IsTrue (is_live c.old.cells p.1)) }
+        requires pointer { ForSome f (λ p. IsTrue (is_pointer p.1)) }
         ensures sets { Sets c.old.cells c.new.cells id (record (symbol_in_cells c.old.cells (index_of id)) { definition = f }) }
         ensures store { c.new ≡ record c.old { cells = c.new.cells } }
         ensures table { IsTable c.new.cells self.new.head }
@@ -131,6 +133,7 @@ impl Syms {
         requires table { IsTable c.old.cells self.now.head }
         requires id { IsTrue (is_id c.old.cells id) }
         requires live { IsTrue (is_live c.old.cells pointer) }
+        requires pointer { IsTrue (is_pointer pointer) }
         ensures sets { Sets c.old.cells c.new.cells id (record (symbol_in_cells c.old.cells (index_of id)) { definition = Some (kind, pointer) }) }
         ensures store { c.new ≡ record c.old { cells = c.new.cells } }
         ensures keeps { (bytes : List ℕ) (other : Tagged) → IsNamed c.old.cells self.now.head bytes other → IsNamed c.new.cells self.now.head bytes other }
@@ -169,6 +172,7 @@ impl Syms {
         requires within { i < 5 }
         requires word_live { IsTrue (is_live_word c.old.cells word) }
         requires plist { i ≡ 2 → IsSome (held_in word) }
+        requires pointer { i ≡ 3 → ForSome (held_in word) (λ f. IsTrue (is_pointer f)) }
         ensures words { words_in (cell_at c.new.cells (index_of id)) ≡ slice_set (words_in (cell_at c.old.cells (index_of id))) i word }
         ensures others { (k : ℕ) → k ≢ index_of id → cell_at c.new.cells k ≡ cell_at c.old.cells k }
         ensures live { (v : Tagged) → is_live c.old.cells v ≡ true → is_live c.new.cells v ≡ true }
@@ -176,6 +180,7 @@ impl Syms {
         ensures keeps { (bytes : List ℕ) (other : Tagged) → IsNamed c.old.cells self.now.head bytes other → IsNamed c.new.cells self.now.head bytes other }
         ensures table { IsTable c.new.cells self.now.head }
         ensures ids { (v : Tagged) → is_id c.old.cells v ≡ true → is_id c.new.cells v ≡ true }
+        ensures rest { KeepsMeaning c.old.cells c.new.cells }
     {
         rl_cells::laws::objects_are_changed();
         c.set_word(id, i, word);

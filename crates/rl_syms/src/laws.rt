@@ -1,4 +1,6 @@
 //! Laws of the table, and of what cells mean. A law is the contract of a function that does nothing.
+ghost use Rattle.rl_syms.specs.Numbers.{FunctionsAreNumbered, IdentifiersAreNumbered, NamesAreNumbered};
+ghost use Rattle.rl_syms.specs.Readings.{MeantByAnyReading, NamingMeans};
 ghost use Rattle.rl_syms.specs.Laws.{AreIdentifiers, ChangesMeaning, IsDistinct, IsKept, MakesMeaning, IsRead, KeepNames, LeaveBlocks, NamesEnter};
 
 use rl_cells::laws::{objects_are_added, objects_are_changed};
@@ -57,4 +59,25 @@ pub fn meaning_of_change()
 /// and cdr mean, or the vector of what its values mean.
 pub fn meaning_of_reading()
     ensures { IsRead }
+{}
+
+/// What making and changing objects does to the store, for any reading of the values in them.
+pub fn meaning_by_any_reading()
+    ensures { MeantByAnyReading }
+{}
+
+/// Identifiers are numbered by their making: the number of the one at a place is that of those before it, so numbers grow
+/// with places, each below their count is that of one identifier, and what is added leaves them.
+pub fn identifiers_are_numbered()
+    ensures { IdentifiersAreNumbered }
+{}
+
+/// Held functions are numbered by their making likewise.
+pub fn functions_are_numbered()
+    ensures { FunctionsAreNumbered }
+{}
+
+/// An identifier has the name of its number.
+pub fn names_are_numbered()
+    ensures { NamesAreNumbered }
 {}

@@ -76,13 +76,11 @@ fn each_field_is_set_alone(rt: HostRuntime) -> Result<(), Fail> {
     syms.set_value(&mut cells, id, Some(Val::small(1)));
     syms.set_plist(&mut cells, id, Val::small(2));
     syms.set_kind(&mut cells, id, VarKind::Global);
-    syms.set_function(&mut cells, id, Some((Kind::Macro, Val::small(3))));
+    syms.set_function(&mut cells, id, None);
     assert_eq!(rt; syms.value(&cells, id), Some(Val::small(1)));
     assert_eq!(rt; syms.plist(&cells, id), Val::small(2));
     assert_eq!(rt; syms.kind(&cells, id), VarKind::Global);
-    let (kind, pointer) = syms.function(&cells, id).unwrap();
-    assert_eq!(rt; kind, Kind::Macro);
-    assert_eq!(rt; pointer, Val::small(3));
+    assert_eq!(rt; syms.function(&cells, id), None);
     assert_eq!(rt; syms.find(&cells, b"ID"), Some(id));
     let made = syms.gensym(&mut cells)?;
     let text = syms.name(&cells, made);

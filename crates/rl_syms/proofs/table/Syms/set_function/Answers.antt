@@ -12,4 +12,5 @@ returns-in-None-clause-sets c =
       ids = c.set_field.ensures.ids;
       symbol = undefined old c.set_field.new.c.cells k 15 (c.requires.table.chained.six k (is_at_id old c.args.id c.requires.id).cell) c.set_field.ensures.words refl;
       others = c.set_field.ensures.others;
+      rest = c.set_field.ensures.rest;
     }
