@@ -7,4 +7,4 @@ pub mod Pairs
 pub mod Walking
 pub mod Once
 pub mod Totals
-pub mod Grown
+pub mod Entered

@@ -7,7 +7,7 @@ use Rattle.rl_world.specs.declared.world.World.{World}
 use Rattle.rl_meaning.specs.State.{State, Outside}
 use Rattle.rl_meaning.specs.Symbols.{symbol_at, new_symbol}
 use Rattle.rl_meaning.specs.Variables.{Nearest, nearest}
-use Rattle.rl_state.specs.Numbered.{one_if, ids_before}
+use Rattle.rl_syms.specs.Contents.{ids_before}
 use Rattle.rl_state.specs.ShownState.{ShowsState, seen_of, symbol_meant}
 use Rattle.rl_state.specs.Worlds.{WorldDetermines, SameBesideWorld}
 
@@ -18,7 +18,6 @@ pub record Place (cells : List Cell) (i : ℕ) : Type 0 where
   pub number : ids_before cells at ≡ i
 
 place_of : (cells : List Cell) (n i : ℕ) → i < ids_before cells n → Place cells i
-unfolding ids_before
 place_of cells zero i l = absurd (omega arith)
 place_of cells (suc n) i l = go (λ h. place_of cells n i h) (is_id_cell (cell_at cells n)) refl
   where

@@ -12,7 +12,7 @@ use Rattle.rl_world.specs.declared.stop.Stop.TheVariants as stop
 use Rattle.rl_world.specs.declared.world.World.{World}
 use Rattle.rl_meaning.specs.State.{State, Counts, Expansion}
 use Rattle.rl_meaning.specs.Outcome.{Outcome, Done, Stopped, Cells, room, turn, cells_within, expansion_within, run_room, run_turn, expansion_turn}
-use Rattle.rl_state.specs.Numbered.{ids_before}
+use Rattle.rl_syms.specs.Contents.{ids_before}
 use Rattle.rl_state.specs.ShownState.{ShowsState, counts_in, expansion_in}
 use Rattle.rl_state.specs.Worlds.{IsWorld, AreRunCounts, WorldGrows}
 use Rattle.rl_state.specs.Beside.{StaysBeside}

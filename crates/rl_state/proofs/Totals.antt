@@ -8,7 +8,7 @@ use Rattle.rl_cells.specs.Cell.{Cell, cell_at, is_id_cell}
 use Rattle.rl_syms.specs.Table as table
 use Rattle.rl_meaning.specs.State.{Symbol}
 use Rattle.rl_meaning.specs.Symbols.{new_symbol}
-use Rattle.rl_state.specs.Numbered.{one_if, ids_before}
+use Rattle.rl_syms.specs.Contents.{ids_before}
 use Rattle.rl_state.specs.ShownState.{option_value_in, symbol_meant}
 use Rattle.rl_state.specs.StateOfWorld.{WorldIsShown, state_in, symbol_there, symbols_below}
 use Rattle.rl_state.proofs.Set.{id_inside, ids_below}

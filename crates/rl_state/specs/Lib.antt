@@ -1,4 +1,4 @@
-pub mod Numbered
+pub mod CellLaws
 pub mod ShownState
 pub mod Beside
 pub mod Worlds

@@ -3,7 +3,7 @@ ghost use Rattle.std.specs.Prelude.{◌≡◌, IsTrue};
 ghost use Rattle.rl_cells.specs.Cell.{is_live};
 ghost use Rattle.rl_meaning.specs.State.{State};
 ghost use Rattle.rl_syms.specs.Table.{is_id};
-ghost use Rattle.rl_state.specs.Numbered.{number_in};
+ghost use Rattle.rl_state.specs.ShownState.{number_in};
 ghost use Rattle.rl_state.specs.ShownState.{ShowsState, option_value_in, value_seen};
 ghost use Rattle.rl_state.specs.Worlds.{IsWorld, WorldGrows, ObjectsAlone, SeenOtherwise};
 ghost use Rattle.std.specs.Option.{ForSome};
@@ -27,7 +27,7 @@ pub fn set_cell(w: &mut World, id: Val, v: Option<Val>)
 pub fn cell(w: &World, id: Val) -> Option<Val>
     requires world { IsWorld w.now }
     requires id { IsTrue (is_id w.now.cells.cells id) }
-    ensures value_seen { (s : State) → ShowsState w.now s → value_seen s (number_in w.now.cells.cells id) ≡ option_value_in w.now.cells.cells result }
+    ensures seen { (s : State) → ShowsState w.now s → value_seen s (number_in w.now.cells.cells id) ≡ option_value_in w.now.cells.cells result }
     ensures live { ForSome result (λ v. IsTrue (is_live w.now.cells.cells v)) }
 {
     w.syms.value(&w.cells, id)

@@ -5,12 +5,12 @@ use Rattle.rl_state.proofs.objects.pair.Goals as goal
 
 pub returns-in-Ok-clause-means : goal.returns-in-Ok-clause-means
 returns-in-Ok-clause-means c =
-    pair_ends c.table_is_kept.ensures c.others_leave_blocks.ensures c.meaning_of_making.ensures c.args.w.now c.room.new.self c.cons.new.self c.args.a c.args.d c.unwrap.result
+    pair_ends c.cells_are_known.ensures c.args.w.now c.room.new.self c.cons.new.self c.args.a c.args.d c.unwrap.result
     (record { counted = c.in-Ok.ensures.counted; made = rw c.unwrap.ensures at c.cons.ensures.ok; named = rw c.unwrap.ensures at c.cons.ensures.names; closed = c.cons.ensures.closed; room = c.in-Ok.ensures.ok }) c.requires.world c.requires.a_live c.requires.d_live
 
 pub returns-in-Ok-clause-grows : goal.returns-in-Ok-clause-grows
 returns-in-Ok-clause-grows c =
-    made_ends c.table_is_kept.ensures c.others_leave_blocks.ensures c.meaning_of_making.ensures c.args.w.now c.room.new.self c.cons.new.self (PairCell c.args.a c.args.d)
+    made_ends c.cells_are_known.ensures c.args.w.now c.room.new.self c.cons.new.self (PairCell c.args.a c.args.d)
     c.in-Ok.ensures.counted (rw c.unwrap.ensures at c.cons.ensures.ok) refl c.requires.world
 
 pub returns-in-Ok-clause-rest : goal.returns-in-Ok-clause-rest

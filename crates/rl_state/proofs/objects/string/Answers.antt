@@ -5,12 +5,12 @@ use Rattle.rl_state.proofs.objects.string.Goals as goal
 
 pub returns-in-Ok-clause-means : goal.returns-in-Ok-clause-means
 returns-in-Ok-clause-means c =
-    string_ends c.table_is_kept.ensures c.others_leave_blocks.ensures c.meaning_of_making.ensures c.args.w.now c.room.new.self c.string.new.self c.args.bytes.now c.unwrap.result
+    string_ends c.cells_are_known.ensures c.args.w.now c.room.new.self c.string.new.self c.args.bytes.now c.unwrap.result
     (record { counted = (rw c.string_cost.ensures at c.in-Ok.ensures.counted); made = rw c.unwrap.ensures at c.string.ensures.ok; named = rw c.unwrap.ensures at c.string.ensures.names; closed = c.string.ensures.closed; room = (rw c.string_cost.ensures at c.in-Ok.ensures.ok) }) c.requires.world
 
 pub returns-in-Ok-clause-grows : goal.returns-in-Ok-clause-grows
 returns-in-Ok-clause-grows c =
-    made_ends c.table_is_kept.ensures c.others_leave_blocks.ensures c.meaning_of_making.ensures c.args.w.now c.room.new.self c.string.new.self (StrCell c.args.bytes.now)
+    made_ends c.cells_are_known.ensures c.args.w.now c.room.new.self c.string.new.self (StrCell c.args.bytes.now)
     (rw c.string_cost.ensures at c.in-Ok.ensures.counted) (rw c.unwrap.ensures at c.string.ensures.ok) refl c.requires.world
 
 pub returns-in-Ok-clause-rest : goal.returns-in-Ok-clause-rest
