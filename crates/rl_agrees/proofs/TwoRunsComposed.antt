@@ -10,8 +10,9 @@ use Rattle.rl_meaning.specs.Holding as holding
 use Rattle.rl_meaning.specs.Variables.{with_mark, restored}
 use Rattle.rl_meaning.specs.Evaluation.{Job, Run, Onward, Call_, From, In, Here, Rec, Frame, walked, eval, statements, applied, longest_chain}
 use Rattle.rl_meaning.specs.Machine.{run, run_code, one_more, at_entry}
-use Rattle.rl_meaning.specs.Jobs.{names_function, code_among, code_outside, code_of, run_held, job_done, rank_of_job, rank, chain_of_job, job, jobs, the_compiler}
-use Rattle.rl_meaning.specs.Laws.{below_by, below, IsFuelEnough}
+use Rattle.rl_meaning.specs.Jobs.{names_function, code_among, code_outside, code_of, run_held, job_done, job_rank, rank, chain_of_job, job, jobs, the_compiler}
+use Rattle.rl_meaning.specs.LesserJobs.{below_by, below}
+use Rattle.rl_meaning.specs.Laws.{IsFuelEnough}
 use Rattle.rl_meaning.specs.TwoRunsLinks.{OneToOne}
 use Rattle.rl_meaning.specs.TwoRunsValues.{Names, Maybe, nothing, just, Each, end, more, SameValue, SameHeld, SamePointer, same_pointer, SameCode, SameCoded, same_coded}
 use Rattle.rl_meaning.specs.TwoRunsStates.{Bounds, EntryPlace, all_both, SameExpansion, same_none, same_open, Like, Roomier}
@@ -84,10 +85,10 @@ module _ {bounds : Bounds} where
   chain_same n j k (same_in h g position a b x y) = here_chain n h g x
 
   rank_same : (n : Names) (ps : List EntryPlace) (j k : Job) (s t : State) → SameJob bounds n j k → Like bounds n ps s t → rank j s ≡ rank k t
-  rank_same n ps j k s t x l = at s.counts.expansion t.counts.expansion l.counts.expansion ∙ ap (λ c. rank_of_job c t.counts.expansion t.counts.turns) (chain_same n j k x)
+  rank_same n ps j k s t x l = at s.counts.expansion t.counts.expansion l.counts.expansion ∙ ap (λ c. job_rank c t.counts.expansion t.counts.turns) (chain_same n j k x)
     where
-      at : (e f : Option Expansion) → SameExpansion e f → rank_of_job (chain_of_job j) e s.counts.turns ≡ rank_of_job (chain_of_job j) f t.counts.turns
-      at e f same_none = ap (λ u. rank_of_job (chain_of_job j) None u) l.counts.turns
+      at : (e f : Option Expansion) → SameExpansion e f → job_rank (chain_of_job j) e s.counts.turns ≡ job_rank (chain_of_job j) f t.counts.turns
+      at e f same_none = ap (λ u. job_rank (chain_of_job j) None u) l.counts.turns
       at e f (same_open x) = refl
 
 -- ---- the code on the left, and the entry on the right
@@ -214,7 +215,7 @@ module _ {bounds : Bounds}
     → EndsSomewhere bounds n (run_code (by ask) l p a c vs s) (run_code (by ask') m q b d ws t))
   where
     -- code from its entry on is a job that has no more to do
-    code_below : (i : ℕ) (levels : Levels) (f : Option Pointer) (held : Held) (code : Code) (vs : List Value) (t : State) → rank_of_job longest_chain t.counts.expansion t.counts.turns ≤ i → run_code (by (below i)) levels f held code vs t ≡ run_code (jobs the_compiler) levels f held code vs t
+    code_below : (i : ℕ) (levels : Levels) (f : Option Pointer) (held : Held) (code : Code) (vs : List Value) (t : State) → job_rank longest_chain t.counts.expansion t.counts.turns ≤ i → run_code (by (below i)) levels f held code vs t ≡ run_code (jobs the_compiler) levels f held code vs t
     code_below i levels f held (Entry name n ∷ rest) vs t le =
         let frame : Frame = record { name = name; function = f; held = held; code = Entry name n ∷ rest; depth = length t.bindings; outside = one_more levels } in
         let j : Job = Onward frame (at_entry vs levels) rest in

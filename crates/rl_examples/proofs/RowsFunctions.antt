@@ -7,46 +7,46 @@ use Rattle.rl_tree.specs.Value.{Value, Fun}
 use Rattle.rl_meaning.specs.Names.{special_rows, native_rows}
 use Rattle.rl_meaning.specs.State.{State, Recorded, Turned}
 use Rattle.rl_meaning.specs.CMacros.{Constant, Entry, Load, Exit}
-use Rattle.rl_meaning.specs.Errors.{error_texts}
+use Rattle.rl_tree.specs.ErrorTexts.{error_texts}
 use Rattle.rl_meaning.specs.Outcome.{Depth}
 use Rattle.rl_meaning.specs.Symbols.{with_top}
 use Rattle.rl_meaning.specs.Holding.{pointer_value}
 use Rattle.rl_meaning.specs.Jobs.{job}
 use Rattle.rl_meaning.specs.Opening.{bare_state}
 use Rattle.rl_meaning.specs.Run.{RunEnding, Finished, Stops}
-use Rattle.rl_meaning.specs.Seen.{run_of, what_is_printed, bounds_of_levels, lines, of_name, pointer_of_name, part_of_object, state_after, printed_from, both_ways, twice, finished}
+use Rattle.rl_meaning.specs.Seen.{run_of, printed_text, bounds_of_levels, lines, of_name, pointer_of_name, part_of_object, state_behind, printed_from, both_ways, twice, finished}
 
 -- ---- one function pointer for each place in a held body
 
-one_pointer_a_place : what_is_printed (codes "(DE F NIL (FUNCTION (LAMBDA (X) X))) (PRINT (EQ (F) (F))) (PRINT (APPLY (F) '(5))) (DE G NIL (FUNCTION (LAMBDA (X) X))) (PRINT (EQ (F) (G))) (DE F NIL (FUNCTION (LAMBDA (X) X))) (SETQ P (F)) (PRINT (EQ P (F))) (DE F NIL (FUNCTION (LAMBDA (X) X))) (PRINT (EQ P (F)))")
+one_pointer_a_place : printed_text (codes "(DE F NIL (FUNCTION (LAMBDA (X) X))) (PRINT (EQ (F) (F))) (PRINT (APPLY (F) '(5))) (DE G NIL (FUNCTION (LAMBDA (X) X))) (PRINT (EQ (F) (G))) (DE F NIL (FUNCTION (LAMBDA (X) X))) (SETQ P (F)) (PRINT (EQ P (F))) (DE F NIL (FUNCTION (LAMBDA (X) X))) (PRINT (EQ P (F)))")
     ≡ lines (codes "T" ∷ codes "5" ∷ codes "NIL" ∷ codes "T" ∷ codes "NIL" ∷ [])
 unfolding bare_state opening_rows byte_names special_rows native_rows digits error_texts job
 one_pointer_a_place = refl
 
-two_places_of_a_body : what_is_printed (codes "(DE F NIL (CONS (FUNCTION (LAMBDA (X) X)) (FUNCTION (LAMBDA (X) X)))) (PRINT (EQ (CAR (F)) (CDR (F)))) (PRINT (EQ (CAR (F)) (CAR (F)))) (PRINT (EQ (CDR (F)) (CDR (F)))) (PRINT (EQ (CAR (F)) (CDR (GETD 'F))))")
+two_places_of_a_body : printed_text (codes "(DE F NIL (CONS (FUNCTION (LAMBDA (X) X)) (FUNCTION (LAMBDA (X) X)))) (PRINT (EQ (CAR (F)) (CDR (F)))) (PRINT (EQ (CAR (F)) (CAR (F)))) (PRINT (EQ (CDR (F)) (CDR (F)))) (PRINT (EQ (CAR (F)) (CDR (GETD 'F))))")
     ≡ lines (codes "NIL" ∷ codes "T" ∷ codes "T" ∷ codes "NIL" ∷ [])
 unfolding bare_state opening_rows byte_names special_rows native_rows digits error_texts job
 two_places_of_a_body = refl
 
 -- each answers its letter, wherever it stands
-places_of_all_kinds : what_is_printed (codes "(DE F (N) (PRINT N) (PROG (P) (SETQ P (LIST '(1 . (2)) (FUNCTION (LAMBDA NIL 'A)) 5 (FUNCTION (LAMBDA NIL (FUNCTION (LAMBDA NIL 'B)) 'C)) \"S\" (FUNCTION (LAMBDA NIL 'D)))) (COND ((EQ N 0) (RETURN (CDR P))) ((FUNCTION (LAMBDA NIL 'E)) (RETURN (LIST 1 (FUNCTION (LAMBDA NIL 'F)))))))) (SETQ P (F 0)) (SETQ Q (F 1)) (PRINT (LIST (APPLY (CAR P) NIL) (APPLY (CAR (CDDR P)) NIL) (APPLY (CAR (CDDDDR P)) NIL) (APPLY (CADR Q) NIL)))")
+places_of_all_kinds : printed_text (codes "(DE F (N) (PRINT N) (PROG (P) (SETQ P (LIST '(1 . (2)) (FUNCTION (LAMBDA NIL 'A)) 5 (FUNCTION (LAMBDA NIL (FUNCTION (LAMBDA NIL 'B)) 'C)) \"S\" (FUNCTION (LAMBDA NIL 'D)))) (COND ((EQ N 0) (RETURN (CDR P))) ((FUNCTION (LAMBDA NIL 'E)) (RETURN (LIST 1 (FUNCTION (LAMBDA NIL 'F)))))))) (SETQ P (F 0)) (SETQ Q (F 1)) (PRINT (LIST (APPLY (CAR P) NIL) (APPLY (CAR (CDDR P)) NIL) (APPLY (CAR (CDDDDR P)) NIL) (APPLY (CADR Q) NIL)))")
     ≡ lines (codes "0" ∷ codes "1" ∷ codes "(A C D F)" ∷ [])
 unfolding bare_state opening_rows byte_names special_rows native_rows digits error_texts job
 places_of_all_kinds = refl
 
-a_literal_in_a_literal : what_is_printed (codes "(DE F NIL (FUNCTION (LAMBDA (X) (LIST X (FUNCTION (LAMBDA (Y) (LIST X Y))))))) (SETQ A (APPLY (F) '(1))) (SETQ B (APPLY (F) '(2))) (PRINT (CAR A)) (PRINT (EQ (CADR A) (CADR B))) (PRINT (EQ (CADR A) (F))) (DE G (X) (APPLY (CADR A) '(4))) (PRINT (G 3))")
+a_literal_in_a_literal : printed_text (codes "(DE F NIL (FUNCTION (LAMBDA (X) (LIST X (FUNCTION (LAMBDA (Y) (LIST X Y))))))) (SETQ A (APPLY (F) '(1))) (SETQ B (APPLY (F) '(2))) (PRINT (CAR A)) (PRINT (EQ (CADR A) (CADR B))) (PRINT (EQ (CADR A) (F))) (DE G (X) (APPLY (CADR A) '(4))) (PRINT (G 3))")
     ≡ lines (codes "1" ∷ codes "T" ∷ codes "NIL" ∷ codes "(3 4)" ∷ [])
 unfolding bare_state opening_rows byte_names special_rows native_rows digits error_texts job
 a_literal_in_a_literal = refl
 
 -- lists (FUNCTION (LAMBDA ..)) that are no forms: clauses of COND, and a list of parameters
-lists_like_literals : what_is_printed (codes "(COND (FUNCTION (LAMBDA (X) X))) (SETQ FUNCTION NIL) (PRINT (COND (FUNCTION (LAMBDA (X) X)) (T 2))) (SETQ FUNCTION 1) (DE X NIL 3) (SETQ X 4) (DE LAMBDA (A B) (CONS A B)) (PRINT (COND (FUNCTION (LAMBDA (X) X)) (T 2))) ((LAMBDA (FUNCTION (LAMBDA (X) X)) 1) 2)")
+lists_like_literals : printed_text (codes "(COND (FUNCTION (LAMBDA (X) X))) (SETQ FUNCTION NIL) (PRINT (COND (FUNCTION (LAMBDA (X) X)) (T 2))) (SETQ FUNCTION 1) (DE X NIL 3) (SETQ X 4) (DE LAMBDA (A B) (CONS A B)) (PRINT (COND (FUNCTION (LAMBDA (X) X)) (T 2))) ((LAMBDA (FUNCTION (LAMBDA (X) X)) 1) 2)")
     ≡ lines (codes "***** FUNCTION is unbound" ∷ codes "2" ∷ codes "(3 . 4)" ∷ codes "***** LAMBDA is badly formed" ∷ [])
 unfolding bare_state opening_rows byte_names special_rows native_rows digits error_texts job
 lists_like_literals = refl
 
 -- a held form of a statement stays behind it, and each EVAL and each expansion holds a form of its own
-literals_of_forms : what_is_printed (codes "(SETQ P (FUNCTION (LAMBDA (X) (ADD1 X)))) (PRINT (APPLY P '(1))) (SETQ E '(FUNCTION (LAMBDA NIL 6))) (PRINT (EQ (EVAL E) (EVAL E))) (PRINT (APPLY (EVAL E) NIL)) (DM M (U) '(FUNCTION (LAMBDA NIL 7))) (DE G NIL (M)) (PRINT (EQ (G) (G))) (PRINT (APPLY (G) NIL))")
+literals_of_forms : printed_text (codes "(SETQ P (FUNCTION (LAMBDA (X) (ADD1 X)))) (PRINT (APPLY P '(1))) (SETQ E '(FUNCTION (LAMBDA NIL 6))) (PRINT (EQ (EVAL E) (EVAL E))) (PRINT (APPLY (EVAL E) NIL)) (DM M (U) '(FUNCTION (LAMBDA NIL 7))) (DE G NIL (M)) (PRINT (EQ (G) (G))) (PRINT (APPLY (G) NIL))")
     ≡ lines (codes "2" ∷ codes "NIL" ∷ codes "6" ∷ codes "NIL" ∷ codes "7" ∷ [])
 unfolding bare_state opening_rows byte_names special_rows native_rows digits error_texts job
 literals_of_forms = refl
@@ -82,12 +82,12 @@ levels_of_a_defined_literal = refl
 
 -- ---- definitions and calls by their pointers
 
-a_name_of_a_literal : what_is_printed (codes "(DE F NIL (FUNCTION (LAMBDA (X) (LIST X X)))) (PRINT (PUTD 'G 'EXPR (F))) (PRINT (G 5)) (PRINT (GETD 'G)) (PRINT (EQ (CDR (GETD 'G)) (F))) (PRINT (APPLY 'G '(6))) (G) (APPLY (F) NIL) (PRINT (EQ (CDR (REMD 'G)) (F)))")
+a_name_of_a_literal : printed_text (codes "(DE F NIL (FUNCTION (LAMBDA (X) (LIST X X)))) (PRINT (PUTD 'G 'EXPR (F))) (PRINT (G 5)) (PRINT (GETD 'G)) (PRINT (EQ (CDR (GETD 'G)) (F))) (PRINT (APPLY 'G '(6))) (G) (APPLY (F) NIL) (PRINT (EQ (CDR (REMD 'G)) (F)))")
     ≡ lines (codes "G" ∷ codes "(5 5)" ∷ codes "(EXPR . #[function])" ∷ codes "T" ∷ codes "(6 6)" ∷ codes "***** G has a wrong number of arguments" ∷ codes "***** #[function] has a wrong number of arguments" ∷ codes "T" ∷ [])
 unfolding bare_state opening_rows byte_names special_rows native_rows digits error_texts job
 a_name_of_a_literal = refl
 
-literals_of_other_kinds : what_is_printed (codes "(DE F NIL (LIST (FUNCTION (LAMBDA (U) (CADR U))) (FUNCTION (LAMBDA NIL 1)))) (PUTD 'Q 'FEXPR (CAR (F))) (PRINT (Q A B)) (PUTD 'M 'MACRO (CAR (F))) (PRINT (M 'C)) (PUTD 'N 'FEXPR (CADR (F))) (PRINT (GETD 'N))")
+literals_of_other_kinds : printed_text (codes "(DE F NIL (LIST (FUNCTION (LAMBDA (U) (CADR U))) (FUNCTION (LAMBDA NIL 1)))) (PUTD 'Q 'FEXPR (CAR (F))) (PRINT (Q A B)) (PUTD 'M 'MACRO (CAR (F))) (PRINT (M 'C)) (PUTD 'N 'FEXPR (CADR (F))) (PRINT (GETD 'N))")
     ≡ lines (codes "B" ∷ codes "C" ∷ codes "***** LAMBDA is badly formed" ∷ codes "NIL" ∷ [])
 unfolding bare_state opening_rows byte_names special_rows native_rows digits error_texts job
 literals_of_other_kinds = refl
@@ -125,7 +125,7 @@ a_pointer_by_code = refl
 
 -- P is this pointer
 abbrev with_pointer : List ℕ → (State → Value) → State
-with_pointer forms value = let s = state_after forms in with_top (of_name s (codes "P")) (value s) s
+with_pointer forms value = let s = state_behind forms in with_top (of_name s (codes "P")) (value s) s
 
 abbrev no_literals : List ℕ
 no_literals = codes "(DE F NIL (LIST (FUNCTION CAR) '(LAMBDA (X) X) (LAMBDA (X) X)))"

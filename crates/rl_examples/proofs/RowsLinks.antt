@@ -7,13 +7,13 @@ use Rattle.rl_tree.specs.Value.{Id}
 use Rattle.rl_meaning.specs.Names.{special_rows, native_rows}
 use Rattle.rl_meaning.specs.State.{State}
 use Rattle.rl_meaning.specs.CMacros.{Constant, Variable, Entry, Load, Move, Copy, Link, LinkE, CallNative, Exit}
-use Rattle.rl_meaning.specs.Errors.{error_texts}
+use Rattle.rl_tree.specs.ErrorTexts.{error_texts}
 use Rattle.rl_meaning.specs.Outcome.{Turns}
 use Rattle.rl_meaning.specs.Symbols.{nil_value_of_state}
 use Rattle.rl_meaning.specs.Jobs.{job}
 use Rattle.rl_meaning.specs.Opening.{bare_state}
 use Rattle.rl_meaning.specs.Run.{Stops}
-use Rattle.rl_meaning.specs.Seen.{Seen, run_from, lines, of_name, part_of_object, WrittenCode, state_after, after_with_code, seen_from, printed_from, both_ways, twice, finished}
+use Rattle.rl_meaning.specs.Seen.{Seen, run_from, lines, of_name, part_of_object, WrittenCode, state_behind, after_with_code, seen_from, printed_from, both_ways, twice, finished}
 
 -- ---- copies
 
@@ -177,7 +177,7 @@ abbrev cells_left : State → Option ℕ
 cells_left s = (run_from s 1000 1000 1000 [] (codes "(F)")).state.counts.cells
 
 abbrev cells_both_ways : List ℕ → WrittenCode → Option ℕ × Option ℕ
-cells_both_ways definition code = (cells_left (after_with_code definition (codes "F") code), cells_left (state_after definition))
+cells_both_ways definition code = (cells_left (after_with_code definition (codes "F") code), cells_left (state_behind definition))
 
 -- 11 for the statement, 7 for the copy
 cells_of_a_copy : cells_both_ways fexpr_call (copy_code (codes "Q") 2) ≡ (Some 982, Some 982)

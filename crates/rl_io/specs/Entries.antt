@@ -26,12 +26,12 @@ room_used [] = 0
 room_used (e ∷ es) = 16 + length e.name + length e.bytes + room_used es
 
 -- files, and the room for all of them
-pub record FileStore : Type 0 where
+pub record StoredFiles : Type 0 where
   pub files : List FileEntry
   pub room : ℕ
 
 -- the store, once a file was put
-abbrev pub stored : FileStore → List ℕ → List ℕ → FileStore
+abbrev pub stored : StoredFiles → List ℕ → List ℕ → StoredFiles
 stored store name bytes = record { files = put_of store.files name bytes; room = store.room }
 
 -- a folder in memory

@@ -39,9 +39,9 @@ pub struct FileStore {
 
 impl Model for FileStore {
     ghost use Rattle.std.specs.Prelude.{◌+◌, ◌*◌, ◌<◌, ◌≤◌, length, vec_capacity};
-    ghost use Rattle.rl_io.specs.Entries.{FileStore};
+    ghost use Rattle.rl_io.specs.Entries.{StoredFiles};
 
-    ghost Value = { FileStore };
+    ghost Value = { StoredFiles };
 
     ghost use Rattle.rl_io.specs.Layout.{files_of, IsLaidOut};
 

@@ -44,9 +44,9 @@ module _ (rec : Rec) where
 -- ---- jobs, by what is left to do: each job that a job asks for has less
 
 -- each turn may have a whole chain of expansions, and the run an expansion with its turns behind its last one
-abbrev pub rank_of_job : ℕ → Option Expansion → ℕ → ℕ
-rank_of_job chain None turns = turns * (longest_chain + 1) + chain + (expansion_turns + 1) * (longest_chain + 1)
-rank_of_job chain (Some e) turns = e.turns * (longest_chain + 1) + chain
+abbrev pub job_rank : ℕ → Option Expansion → ℕ → ℕ
+job_rank chain None turns = turns * (longest_chain + 1) + chain + (expansion_turns + 1) * (longest_chain + 1)
+job_rank chain (Some e) turns = e.turns * (longest_chain + 1) + chain
 
 abbrev pub chain_of_job : Job → ℕ
 chain_of_job (From here whole rest) = here.chain
@@ -54,7 +54,7 @@ chain_of_job (In here position body) = here.chain
 chain_of_job other = longest_chain
 
 abbrev pub rank : Job → State → ℕ
-rank j s = rank_of_job (chain_of_job j) s.counts.expansion s.counts.turns
+rank j s = job_rank (chain_of_job j) s.counts.expansion s.counts.turns
 
 abbrev pub job_at : Compiler → ℕ → Job → State → Outcome Value
 job_at compiler zero j s = Stopped Turns s

@@ -86,8 +86,8 @@ kind_of_phase phase.Shut = 6
 abbrev pub chain_in : ℕ → Chain
 chain_in w = if w == 0 then chain.Empty else chain.Pairs (PairAt ((w - 1) / 4294967296)) (PairAt ((w - 1) % 4294967296))
 
-abbrev pub group_in : ℕ → ℕ → ℕ → ℕ → Group
-group_in kind owed b c =
+abbrev pub group_of_words : ℕ → ℕ → ℕ → ℕ → Group
+group_of_words kind owed b c =
     if kind == 0 then group.Root
     else (if kind == 1 then group.Quote
     else (if kind == 2 then group.Vector (chain_in c)
@@ -100,7 +100,7 @@ group_in kind owed b c =
 
 -- the group that three words keep
 abbrev pub group_in : ℕ × ℕ × ℕ → Group
-group_in t = group_in (t.0 % 16) (t.0 / 16) t.1 t.2
+group_in t = group_of_words (t.0 % 16) (t.0 / 16) t.1 t.2
 
 abbrev pub frames_kept : List (ℕ × ℕ × ℕ) → List (ReaderFrame stock.PairChain)
 frames_kept [] = []
@@ -120,8 +120,8 @@ group_weight (group.VectorBehind v c owed) = 2
 group_weight g = 1
 
 -- more than the groups around it
-abbrev pub group_weight : World → Group → ℕ
-group_weight w g = 3 * length w.levels.walk + group_weight g
+abbrev pub weight_of_group : World → Group → ℕ
+weight_of_group w g = 3 * length w.levels.walk + group_weight g
 
 -- ---- what may be kept
 

@@ -9,7 +9,7 @@ ghost use Rattle.rl_world.specs.declared.stop.Stop.TheVariants as stop;
 ghost use Rattle.rl_read.specs.Given.{is_counted};
 ghost use Rattle.rl_read.specs.Stock.{in_stock, stock_of};
 ghost use Rattle.rl_read.specs.Stock as stock;
-ghost use Rattle.rl_read.specs.Frames.{IsChain, IsGroup, IsKeptByReading, IsReadyToRead, chain_in, chain_of, frame_of, frames_around, frames_in, frames_kept, frames_of, group_admits, group_in, is_inner_group, kind_of_phase, opening_frame, group_weight};
+ghost use Rattle.rl_read.specs.Frames.{IsChain, IsGroup, IsKeptByReading, IsReadyToRead, chain_in, chain_of, frame_of, frames_around, frames_in, frames_kept, frames_of, group_admits, group_in, is_inner_group, kind_of_phase, opening_frame, weight_of_group};
 ghost use Rattle.rl_read.specs.Steps.{IsHalting};
 ghost use Rattle.rl_read.specs.declared.frames.Group.TheVariants as rl_group;
 ghost use Rattle.rl_read.specs.declared.frames.Phase.TheVariants as phase;
@@ -235,7 +235,7 @@ pub(crate) fn around(w: &mut World, group: &Group, base: u64) -> Group
     requires inside { group.now ≢ rl_group.Root }
     ensures frames { frames_in base w.new result ≡ frames_around base w.old group.now }
     ensures left { (t : Bool) → stock_of w.new ≡ left (in_stock t) (frames_around base w.old group.now) (stock_of w.old) }
-    ensures less { group_weight w.new result < group_weight w.old group.now }
+    ensures less { weight_of_group w.new result < weight_of_group w.old group.now }
     ensures ready { IsReadyToRead base w.new result }
     ensures steady { IsSteady base w.old.levels w.new.levels }
     ensures world { w.new ≡ record w.old { levels = w.new.levels } }
@@ -254,7 +254,7 @@ fn outer(w: &mut World, base: u64) -> Group
     requires kept { AllByRecursion (IsKeptByReading w.old.cells.cells) (kept_above base w.old.levels) }
     ensures frames { frames_in base w.new result ≡ frames_kept (kept_above base w.old.levels) }
     ensures left { (t : Bool) → stock_of w.new ≡ left (in_stock t) (frames_kept (kept_above base w.old.levels)) (stock_of w.old) }
-    ensures less { group_weight w.new result ≤ 3 * length w.old.levels.walk }
+    ensures less { weight_of_group w.new result ≤ 3 * length w.old.levels.walk }
     ensures ready { IsReadyToRead base w.new result }
     ensures steady { IsSteady base w.old.levels w.new.levels }
     ensures world { w.new ≡ record w.old { levels = w.new.levels } }

@@ -1,13 +1,7 @@
-pub mod Evaluation
-pub mod Meaning
+-- what a reader of the theorem reads
 pub mod Texts
-pub mod World
-pub mod Forms
-pub mod Looks
-pub mod Outputs
-pub mod Pages
-pub mod Tasks
 pub mod Status
-pub mod Loads
-pub mod Appending
 pub mod Headline
+-- what only private functions speak of
+pub mod EndsAsStatus
+pub mod Loads

@@ -2,7 +2,7 @@ use Rattle.std.proofs.Common.{◌≡◌, Bool, true}
 use Rattle.rl_cells.specs.Cell.{is_live}
 use Rattle.rl_text.specs.Reader as reader
 use Rattle.rl_read.specs.Stock.{in_stock, stock_of}
-use Rattle.rl_read.specs.Frames.{IsReading, IsReadyToRead, frames_in, group_weight}
+use Rattle.rl_read.specs.Frames.{IsReading, IsReadyToRead, frames_in, weight_of_group}
 use Rattle.rl_read.proofs.step.value_ended.Given as goal
 
 abbrev pub invariant-loop-w : goal.invariant-loop-w
@@ -14,4 +14,4 @@ invariant-loop-w l = record {
 }
 
 abbrev pub decreases-loop-w : goal.decreases-loop-w
-decreases-loop-w l = group_weight l.w l.group
+decreases-loop-w l = weight_of_group l.w l.group

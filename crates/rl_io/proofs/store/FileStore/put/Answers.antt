@@ -1,11 +1,11 @@
 use Rattle.std.proofs.Common.{ℕ, ◌+◌, ◌≤◌, length, refl, List, ap, sym, arith}
 use Rattle.std.proofs.lemmas.Option.{slice_get_within}
-use Rattle.rl_io.specs.Entries.{FileEntry, FileStore}
+use Rattle.rl_io.specs.Entries.{FileEntry, StoredFiles}
 use Rattle.rl_io.proofs.Looks.{room_no, room_yes, never}
 use Rattle.rl_io.proofs.Lies.{found_within, found_new, used_found, used_new, new_put, laid_replaced, laid_added}
 use Rattle.rl_io.proofs.store.FileStore.put.Goals as goal
 
-abbrev store_of : List FileEntry → ℕ → FileStore
+abbrev store_of : List FileEntry → ℕ → StoredFiles
 store_of es room = record { files = es; room = room }
 
 pub overflow_add-free : goal.overflow_add-free
