@@ -1,6 +1,6 @@
 -- What is shown of identifiers stays where cells keep it: numbers, names, chains and the meaning of what lives.
-use Rattle.std.proofs.Common.{◌≡◌, ℕ, zero, suc, ◌+◌, ◌<◌, ◌≤◌, ◌%◌, Bool, true, false, ◌&&◌, nat_le, cond, List, [], ◌∷◌, length, get_or, Option, Some, None, refl, sym, ap, ◌∙◌, arith}
-use Rattle.std.specs.Prelude.{IsSome, is_some}
+use Rattle.std.proofs.Common.{◌≡◌, ℕ, zero, suc, ◌+◌, ◌<◌, ◌≤◌, ◌%◌, Bool, true, false, nat_le, cond, List, [], ◌∷◌, length, get_or, Option, Some, None, refl, sym, ap, ◌∙◌, arith}
+use Rattle.std.specs.Prelude.{IsSome}
 use Rattle.std.specs.List.{list_all}
 use Rattle.std.proofs.Math.ListN.{get_or-eq_default}
 use Rattle.std.proofs.lemmas.Bool.{and_parts, leb-true, leb-false}
@@ -19,7 +19,7 @@ use Rattle.rl_syms.specs.Frame.{KeepsBlocks, block_in}
 use Rattle.rl_syms.specs.Laws.{IsKept}
 use Rattle.rl_meaning.specs.State.{State}
 use Rattle.rl_meaning.specs.State as meaning
-use Rattle.rl_state.specs.ShownState.{ShowsSymbols, is_listed, definition_in, is_system_id, number_in, option_value_in, pointer_named, symbol_meant}
+use Rattle.rl_state.specs.ShownState.{ShowsSymbols, is_listed, definition_in, number_in, option_value_in, pointer_named, symbol_meant}
 
 -- ---- identifiers
 
@@ -179,35 +179,23 @@ plist_live cells head k t c h =
 pub record AlikeShown (old new : List Cell) (before after : Option Tagged) (k : ℕ) : Type 0 where
   pub name : table.name_in_cells new k ≡ table.name_in_cells old k
   pub listed : is_listed k (ids_from new after) ≡ is_listed k (ids_from old before)
-  pub number : ids_before new k ≡ ids_before old k
   pub plist : value_of new (symbol_in_cells new k).plist ≡ value_of old (symbol_in_cells old k).plist
-  pub defined : is_some (symbol_in_cells new k).definition ≡ is_some (symbol_in_cells old k).definition
   pub definition : definition_in new (symbol_in_cells new k).definition ≡ definition_in old (symbol_in_cells old k).definition
   pub kind : (symbol_in_cells new k).kind ≡ (symbol_in_cells old k).kind
 
-abbrev symbol_from : Option Value → List ℕ → Bool → ℕ → Value → Bool → Option meaning.Definition → VarKind → meaning.Symbol
-symbol_from top name listed number plist defined definition kind = record {
-  name = name;
-  interned = listed;
-  system = defined && is_system_id number;
-  top = top;
-  properties = plist;
-  definition = definition;
-  kind = kind;
-}
+abbrev symbol_from : Option Value → List ℕ → Bool → Value → Option meaning.Definition → VarKind → meaning.Symbol
+symbol_from top name listed plist definition kind = record { name = name; interned = listed; top = top; properties = plist; definition = definition; kind = kind }
 
 pub symbol_like : (old new : List Cell) (before after : Option Tagged) (k : ℕ) (top : Option Value) → AlikeShown old new before after k → symbol_meant new after k top ≡ symbol_meant old before k top
 unfolding symbol_meant
 symbol_like old new before after k top a =
     let y = symbol_in_cells new k in
     let z = symbol_in_cells old k in
-    ap (λ x. symbol_from top x (is_listed k (ids_from new after)) (ids_before new k) (value_of new y.plist) (is_some y.definition) (definition_in new y.definition) y.kind) a.name
-    ∙ ap (λ x. symbol_from top (table.name_in_cells old k) x (ids_before new k) (value_of new y.plist) (is_some y.definition) (definition_in new y.definition) y.kind) a.listed
-    ∙ ap (λ x. symbol_from top (table.name_in_cells old k) (is_listed k (ids_from old before)) x (value_of new y.plist) (is_some y.definition) (definition_in new y.definition) y.kind) a.number
-    ∙ ap (λ x. symbol_from top (table.name_in_cells old k) (is_listed k (ids_from old before)) (ids_before old k) x (is_some y.definition) (definition_in new y.definition) y.kind) a.plist
-    ∙ ap (λ x. symbol_from top (table.name_in_cells old k) (is_listed k (ids_from old before)) (ids_before old k) (value_of old z.plist) x (definition_in new y.definition) y.kind) a.defined
-    ∙ ap (λ x. symbol_from top (table.name_in_cells old k) (is_listed k (ids_from old before)) (ids_before old k) (value_of old z.plist) (is_some z.definition) x y.kind) a.definition
-    ∙ ap (λ x. symbol_from top (table.name_in_cells old k) (is_listed k (ids_from old before)) (ids_before old k) (value_of old z.plist) (is_some z.definition) (definition_in old z.definition) x) a.kind
+    ap (λ x. symbol_from top x (is_listed k (ids_from new after)) (value_of new y.plist) (definition_in new y.definition) y.kind) a.name
+    ∙ ap (λ x. symbol_from top (table.name_in_cells old k) x (value_of new y.plist) (definition_in new y.definition) y.kind) a.listed
+    ∙ ap (λ x. symbol_from top (table.name_in_cells old k) (is_listed k (ids_from old before)) x (definition_in new y.definition) y.kind) a.plist
+    ∙ ap (λ x. symbol_from top (table.name_in_cells old k) (is_listed k (ids_from old before)) (value_of old z.plist) x y.kind) a.definition
+    ∙ ap (λ x. symbol_from top (table.name_in_cells old k) (is_listed k (ids_from old before)) (value_of old z.plist) (definition_in old z.definition) x) a.kind
 
 -- the cells of the identifier are the same, and what lives means the same
 pub alike_stood : (old new : List Cell) (before after : Option Tagged) (k : ℕ) → IsTable old before → IsClosed old → SameValues old new → ((v : Tagged) → is_str old v ≡ true → bytes_of new v ≡ bytes_of old v)
@@ -217,9 +205,7 @@ alike_stood old new before after k t c same texts listed h e =
     record {
       name = ap (λ (y : SymbolCells). bytes_of new y.name) e ∙ texts _ (name_string old before k t h);
       listed = listed;
-      number = number_same old new k same h;
       plist = ap (λ (y : SymbolCells). value_of new y.plist) e ∙ same _ (plist_live old before k t c h);
-      defined = ap (λ (y : SymbolCells). is_some y.definition) e;
       definition = ap (λ (y : SymbolCells). definition_in new y.definition) e ∙ definition_same old new (kind_in_word (get_or (words_in (cell_at old k)) 4 0)) (get_or (words_in (cell_at old k)) 3 0) (words_live old k 3 c (omega arith)) same;
       kind = ap (λ (y : SymbolCells). y.kind) e;
     }

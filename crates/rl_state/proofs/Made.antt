@@ -55,8 +55,7 @@ abbrev pub IsExpanding : List Cell → Option Expansion → Type 0
 IsExpanding cells outer = ForSome outer (λ e. is_id cells e.name ≡ true)
 
 pub expanding_kept : (old new : List Cell) (outer : Option Expansion) → ((v : Tagged) → is_id old v ≡ true → is_id new v ≡ true) → IsExpanding old outer → IsExpanding new outer
-expanding_kept old new None f h = h
-expanding_kept old new (Some e) f h = f e.name h
+expanding_kept old new outer f h = λ e is. f e.name (h e is)
 
 pub world_kept : (law : IsKept) (w : World) (c : cell.CellStore) (k : counted.WorldCounts) → KeepsBlocks w.cells.cells c.cells → SameValues w.cells.cells c.cells → AreRunCounts c k → IsExpanding c.cells k.outermost → IsWorld w → IsWorld (record w { cells = c; counts = k })
 world_kept law w c k b same r x i = record {
@@ -89,11 +88,11 @@ used_made s k c r = rw (r.counted.1, r.unmarked) refl
 
 pub expansion_kept : (old new : List Cell) (inner : ℕ) (e : Option Expansion) → SameValues old new → IsExpanding old e → expansion_in new inner e ≡ expansion_in old inner e
 expansion_kept old new inner None same h = refl
-expansion_kept old new inner (Some e) same h = ap (λ n. Some (record { macro = n; inner_count = inner - 1; turns = 100000 - e.turns; cells = 1000000 - e.cells })) (named_same old new e.name same h)
+expansion_kept old new inner (Some e) same h = ap (λ n. Some (record { macro = n; inner_count = inner - 1; turns = 100000 - e.turns; cells = 1000000 - e.cells })) (named_same old new e.name same (h e refl))
 
 expanding_roomed : (cells : List Cell) (cost : ℕ) (outer : Option Expansion) → IsExpanding cells outer → IsExpanding cells (with_cells cost outer)
 expanding_roomed cells cost None h = h
-expanding_roomed cells cost (Some e) h = h
+expanding_roomed cells cost (Some e) h = λ x is. let q : record e { cells = e.cells + cost } ≡ x = cc in subst (λ (y : Expansion). is_id cells y.name ≡ true) q (h e refl)
 
 same_made : (law : AreCellLaws) (w : World) (c : Cell) → SameValues w.cells.cells (w.cells.cells ++ placed c)
 same_made law w c v h = law.makes.values w.cells.cells c v h
@@ -132,13 +131,14 @@ shows_made law w c s store none i closed shown e =
       line_length = shown.line_length;
       taken = shown.taken;
       free = shown.free;
+      bound = shown.bound;
     }
 
 -- ---- a value that names the new object
 
 -- where there is room, what is made by the definition is what the cells hold
 pub value_made : (law : AreCellLaws) (w : World) (c : Cell) (at : Tagged) (s : State) (next : State → Outcome Value) (v : Value) (store : Store)
-    → block_in c ≡ None → IsWorld w → IsClosed w.cells.cells → room_stop w.counts (used_of w.cells) (cost_of c) ≡ None → ShowsState w s
+    → block_in c ≡ None → IsWorld w → IsClosed w.cells.cells → room_stop w.counts w.cells (cost_of c) ≡ None → ShowsState w s
     → next (record s { counts = roomed_in w.cells w.counts (cost_of c) }) ≡ Done v (record s { counts = roomed_in w.cells w.counts (cost_of c); store = store })
     → store ≡ store_of (w.cells.cells ++ placed c) → value_of (w.cells.cells ++ placed c) at ≡ v
     → MeansValue s (room (cost_of c) s next) (Ok at) (with_made w c)
@@ -161,7 +161,7 @@ pub record IsMadeIn (w r : World) (cs : cell.CellStore) (c : Cell) (tag : ℕ �
   pub made : cs ≡ grown r.cells c
   pub named : v ≡ tag (length r.cells.cells)
   pub closed : IsClosed r.cells.cells
-  pub room : room_stop w.counts (used_of w.cells) (cost_of c) ≡ None
+  pub room : room_stop w.counts w.cells (cost_of c) ≡ None
 
 pub closed_before : (w r : World) (cs : cell.CellStore) (c : Cell) (tag : ℕ → Tagged) (v : Tagged) → IsMadeIn w r cs c tag v → IsClosed w.cells.cells
 closed_before w r cs c tag v m = subst (λ (x : World). IsClosed x.cells.cells) m.counted m.closed
@@ -185,12 +185,12 @@ pub grows_refl : (w x : World) → x ≡ w → IsWorld w → WorldGrows w x
 grows_refl w x e i = subst (λ y. WorldGrows w y) (sym e) (record { world = i; live = λ v h. h; values = λ v h. refl })
 
 -- there is no room
-pub made_stops : (w x : World) (cost : ℕ) (s : State) (next : State → Outcome Value) (why : stops.Stop) → x ≡ w → IsWorld w → 0 < cost → room_stop w.counts (used_of w.cells) cost ≡ Some why → ShowsState w s → MeansValue s (room cost s next) (Err why) x
+pub made_stops : (w x : World) (cost : ℕ) (s : State) (next : State → Outcome Value) (why : stops.Stop) → x ≡ w → IsWorld w → 0 < cost → room_stop w.counts w.cells cost ≡ Some why → ShowsState w s → MeansValue s (room cost s next) (Err why) x
 made_stops w x cost s next why e i p stop shown = subst (λ y. MeansValue s (room cost s next) (Err why) y) (sym e) (room_full w.cells w.counts cost s next why i.running shown.counts p stop)
 
 -- ---- pairs
 
-pub pair_stops : (w x : World) (a d : Tagged) (why : stops.Stop) → x ≡ w → IsWorld w → room_stop w.counts (used_of w.cells) 1 ≡ Some why
+pub pair_stops : (w x : World) (a d : Tagged) (why : stops.Stop) → x ≡ w → IsWorld w → room_stop w.counts w.cells 1 ≡ Some why
     → (s : State) → ShowsState w s → MeansValue s (made_pair (value_of w.cells.cells a) (value_of w.cells.cells d) s) (Err why) x
 pair_stops w x a d why e i stop s shown = made_stops w x 1 s (λ s. Done (new_value s.store) (record s { store = cons_store s.store (value_of w.cells.cells a) (value_of w.cells.cells d) })) why e i (omega arith) stop shown
 
@@ -217,7 +217,7 @@ string_ends law w r cs bytes v m i s shown =
     (shown.store ∙ sym (law.makes.others cells (StrCell bytes) closed refl))
     (law.makes.string_named cells bytes)
 
-pub string_stops : (w x : World) (bytes : List ℕ) (why : stops.Stop) → x ≡ w → IsWorld w → room_stop w.counts (used_of w.cells) (cost_of (StrCell bytes)) ≡ Some why
+pub string_stops : (w x : World) (bytes : List ℕ) (why : stops.Stop) → x ≡ w → IsWorld w → room_stop w.counts w.cells (cost_of (StrCell bytes)) ≡ Some why
     → (s : State) → ShowsState w s → MeansValue s (made_string bytes s) (Err why) x
 string_stops w x bytes why e i stop s shown = made_stops w x (cost_of (StrCell bytes)) s (λ s. Done (Str bytes) s) why e i (omega arith) stop shown
 
@@ -253,7 +253,7 @@ vector_ends law w r cs n v m i s shown =
     (ap (λ os. vector_store os nils) shown.store ∙ ap (λ ys. vector_store (store_of cells) ys) (sym places) ∙ sym (law.makes.vector cells xs closed (all_copies (is_live cells) nil_id n i.table.nil)))
     (law.makes.vector_named cells xs ∙ ap new_value (sym shown.store)))
 
-pub vector_stops : (w x : World) (n : ℕ) (why : stops.Stop) → x ≡ w → IsWorld w → room_stop w.counts (used_of w.cells) (cost_of (VectorCell (replicate n nil_id))) ≡ Some why
+pub vector_stops : (w x : World) (n : ℕ) (why : stops.Stop) → x ≡ w → IsWorld w → room_stop w.counts w.cells (cost_of (VectorCell (replicate n nil_id))) ≡ Some why
     → (s : State) → ShowsState w s → MeansValue s (made_places n s) (Err why) x
 vector_stops w x n why e i stop s shown =
     made_stops w x (1 + (n + 1) / 2) s (λ s. Done (Ref (length s.store)) (record s { store = s.store ++ Vector (replicate n nil_value_of_state) ∷ [] })) why e i (omega arith) (rw (vector_cost n) at stop) shown
@@ -274,5 +274,5 @@ rest_counts w x k e = record { rest = subst (λ (y : World). y ≡ record w { ce
 
 -- ---- room that was counted is there
 
-pub has_counted : (w r : World) (k : counted.WorldCounts) (cost : ℕ) → r ≡ record w { counts = k } → IsWorld w → room_stop w.counts (used_of w.cells) cost ≡ None → has_room r.cells cost ≡ true
+pub has_counted : (w r : World) (k : counted.WorldCounts) (cost : ℕ) → r ≡ record w { counts = k } → IsWorld w → room_stop w.counts w.cells cost ≡ None → has_room r.cells cost ≡ true
 has_counted w r k cost e i h = subst (λ (x : World). has_room x.cells cost ≡ true) (sym e) (room_fits w.cells w.counts cost i.running h)

@@ -106,6 +106,7 @@ object_shown law w new r o a i closed s shown =
       line_length = shown.line_length;
       taken = shown.taken;
       free = shown.free;
+      bound = shown.bound;
     }
 
 -- the call of the cells, in the world
@@ -231,7 +232,7 @@ places_read read w v n h e s shown =
     ap (option_map length) (vector_shown read w v h s shown) ∙ ap Some (length-map (vector_of cells v) (value_of cells) ∙ sym e)
 
 pub no_places_read : (read : IsRead) (w : World) (v : Tagged) → is_live w.cells.cells v ≡ true → tag_of v ≢ tag.Vector → (s : State) → ShowsState w s → option_map length (vector_at s (value_of w.cells.cells v)) ≡ None
-no_places_read read w v h ne s shown = ap (option_map length) (no_vector_shown law.reads w v h ne s shown)
+no_places_read read w v h ne s shown = ap (option_map length) (no_vector_shown read w v h ne s shown)
 
 -- ---- natives on a pair
 

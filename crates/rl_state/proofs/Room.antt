@@ -1,7 +1,9 @@
 -- Turns and room: what a world counts is what the definition counts.
 use Rattle.std.proofs.Common.{◌≡◌, ℕ, suc, ◌+◌, ◌-◌, ◌^◌, ◌<◌, ◌≤◌, Bool, true, false, nat_le, nat_lt, cond, List, length, Option, Some, None, Ok, Err, refl, sym, ap, subst, ◌∙◌, arith}
 use Rattle.std.proofs.lemmas.Bool.{leb-true, leb-false, le-leb, lt-leb, ltb-true, ltb-false}
+use Rattle.std.specs.Option.{ForSome}
 use Rattle.rl_tags.specs.Tagged.{index_of}
+use Rattle.rl_syms.specs.Table.{is_id}
 use Rattle.rl_cells.specs.Cell.{Cell, has_room, room_in, used_of}
 use Rattle.rl_cells.specs.Cell as cell
 use Rattle.rl_world.specs.Counts as counted
@@ -103,16 +105,16 @@ room_full_at {A} g cells inner (Some e) used cost bound t s next why p h = go (n
 abbrev pub roomed_in : cell.CellStore → counted.WorldCounts → ℕ → Counts
 roomed_in c k cost = left k.bound (k.bound - k.turns) (k.cells_bound - (used_of c + cost)) (expansion_in c.cells k.open_count (with_cells cost k.outermost))
 
-pub room_done : {A : Type 0} (c : cell.CellStore) (k : counted.WorldCounts) (cost : ℕ) (s : State) (next : State → Outcome A) → AreRunCounts c k → s.counts ≡ counts_in c k → room_stop k (used_of c) cost ≡ None
+pub room_done : {A : Type 0} (c : cell.CellStore) (k : counted.WorldCounts) (cost : ℕ) (s : State) (next : State → Outcome A) → AreRunCounts c k → s.counts ≡ counts_in c k → room_stop k c cost ≡ None
     → room cost s next ≡ next (record s { counts = roomed_in c k cost })
 room_done {A} c k cost s next r e h =
-    let stop : room_stop_at k.outermost None (used_of c) cost k.cells_bound ≡ None = rw r.together at h in
+    let stop : room_stop_at k.outermost None (used_of c) cost k.cells_bound ≡ None = rw (r.opened, r.together) at h in
     ap (λ q. room cost (with_counts s q) next) (e ∙ left_in c k r) ∙ room_done_at k.bound c.cells k.open_count k.outermost (used_of c) cost k.cells_bound (k.bound - k.turns) s next stop
 
-pub room_full : {A : Type 0} (c : cell.CellStore) (k : counted.WorldCounts) (cost : ℕ) (s : State) (next : State → Outcome A) (why : stops.Stop) → AreRunCounts c k → s.counts ≡ counts_in c k → 0 < cost → room_stop k (used_of c) cost ≡ Some why
+pub room_full : {A : Type 0} (c : cell.CellStore) (k : counted.WorldCounts) (cost : ℕ) (s : State) (next : State → Outcome A) (why : stops.Stop) → AreRunCounts c k → s.counts ≡ counts_in c k → 0 < cost → room_stop k c cost ≡ Some why
     → StopsWith s (room cost s next) (stop_in c.cells why)
 room_full {A} c k cost s next why r e p h =
-    let stop : room_stop_at k.outermost None (used_of c) cost k.cells_bound ≡ Some why = rw r.together at h in
+    let stop : room_stop_at k.outermost None (used_of c) cost k.cells_bound ≡ Some why = rw (r.opened, r.together) at h in
     let f = room_full_at k.bound c.cells k.open_count k.outermost (used_of c) cost k.cells_bound (k.bound - k.turns) s next why p stop in
     record { state = f.state; is = ap (λ q. room cost (with_counts s q) next) (e ∙ left_in c k r) ∙ f.is; good = f.good }
 
@@ -132,9 +134,9 @@ room_fits_at (Some e) used cost bound h = go (nat_le (e.cells + cost) 1000000) h
     go true h = cells_fit used cost bound h
     go false h = absurd (cc)
 
-pub room_fits : (c : cell.CellStore) (k : counted.WorldCounts) (cost : ℕ) → AreRunCounts c k → room_stop k (used_of c) cost ≡ None → has_room c cost ≡ true
+pub room_fits : (c : cell.CellStore) (k : counted.WorldCounts) (cost : ℕ) → AreRunCounts c k → room_stop k c cost ≡ None → has_room c cost ≡ true
 room_fits c k cost r h =
-    let stop : room_stop_at k.outermost None (used_of c) cost k.cells_bound ≡ None = rw r.together at h in
+    let stop : room_stop_at k.outermost None (used_of c) cost k.cells_bound ≡ None = rw (r.opened, r.together) at h in
     let fits = room_fits_at k.outermost (used_of c) cost k.cells_bound stop in
     let used : used_of c ≡ r.counted.0 = rw r.counted.1 refl in
     ap (λ m. room_in c.count m (length c.cells) c.bound cost) r.unmarked ∙ ap (λ n. room_in n None (length c.cells) c.bound cost) r.counted.1
@@ -243,13 +245,21 @@ turn_means w x e i h s shown = subst (λ y. MeansDone s (turn s (λ t. Done tt t
     line_length = shown.line_length;
     taken = shown.taken;
     free = shown.free;
+    bound = shown.bound;
   };
   stays = record { functions = record { functions = refl; compilation = refl }; bindings = record { entries = refl; hidden = λ i b h. refl }; outside = refl } };
 })
 
+expanding_ticked : (cells : List Cell) (k : counted.WorldCounts) → k.opening ≡ None → ForSome k.outermost (λ e. is_id cells e.name ≡ true) → ForSome (ticked k).outermost (λ e. is_id cells e.name ≡ true)
+expanding_ticked cells k o h = subst (λ x. ForSome (counted.ticked_at x k.outermost k).outermost (λ e. is_id cells e.name ≡ true)) (sym o) (go k.outermost refl)
+  where
+    go : (outer : Option expansion.Expansion) → k.outermost ≡ outer → ForSome (counted.ticked_at None outer k).outermost (λ e. is_id cells e.name ≡ true)
+    go None is = h
+    go (Some e) is = λ x same. let q : record e { turns = e.turns + 1 } ≡ x = cc in subst (λ (y : expansion.Expansion). is_id cells y.name ≡ true) q (h e is)
+
 pub turn_grows : (w x : World) → x ≡ record w { counts = ticked w.counts } → IsWorld w → WorldGrows w x
 turn_grows w x e i = subst (λ y. WorldGrows w y) (sym e) (record {
-  world = record { table = i.table; nil = i.nil; t = i.t; message = i.message; texts = i.texts; running = running_ticked w.cells w.counts i.running; levels = i.levels };
+  world = record { table = i.table; t = i.t; message = i.message; texts = i.texts; running = running_ticked w.cells w.counts i.running; levels = i.levels; expanding = expanding_ticked w.cells.cells w.counts i.running.opened i.expanding };
   live = λ v h. h;
   values = λ v h. refl;
 })

@@ -1,18 +1,19 @@
 -- One identifier has something else: all that cells mean stays, and what is shown of that identifier changes alone.
-use Rattle.std.proofs.Common.{◌≡◌, ◌≢◌, ℕ, ◌-◌, ◌<◌, Bool, true, false, ◌==◌, List, [], length, Option, Some, None, refl, sym, ap, subst, ◌∙◌}
-use Rattle.std.specs.Prelude.{is_some, slice_index_or}
+use Rattle.std.proofs.Common.{◌≡◌, ◌≢◌, ℕ, ◌-◌, ◌<◌, ◌≤◌, Bool, true, false, ◌==◌, List, [], length, Option, Some, None, refl, sym, ap, subst, ◌∙◌}
+use Rattle.std.specs.Prelude.{slice_index_or}
 use Rattle.std.proofs.lemmas.Bool.{eqb-true, eqb-false}
 use Rattle.std.proofs.lemmas.List.{get_or-set_same, get_or-set_other, length-set}
 use Rattle.rl_tags.specs.Tagged.{Tagged, Number, IdAt, StrAt, PairAt, VectorAt, BigAt, FunAt, index_of}
 use Rattle.rl_tags.specs.Ids.{emsg_star_id}
 use Rattle.rl_tree.specs.Value.{Value, Str}
 use Rattle.rl_tree.specs.declared.held.Kind.{Kind}
+use Rattle.rl_tree.specs.declared.held.VarKind.{VarKind}
 use Rattle.rl_cells.specs.Cell as cell
 use Rattle.rl_cells.specs.Cell.{Cell, cell_at, is_id_cell, is_live, is_str, bytes_of, words_in}
 use Rattle.rl_syms.specs.Contents.{ids_before, value_of}
 use Rattle.rl_syms.specs.Numbers.{IdentifiersAreNumbered}
 use Rattle.rl_syms.specs.Table as table
-use Rattle.rl_syms.specs.Table.{IsTable, SymbolCells, is_id, symbol_in_cells}
+use Rattle.rl_syms.specs.Table.{IsTable, SymbolCells, ids_from, is_id, symbol_in_cells}
 use Rattle.rl_syms.specs.Frame.{KeepsMeaning, Sets}
 use Rattle.rl_syms.specs.declared.table.Syms.{Syms}
 use Rattle.rl_world.specs.declared.world.World.{World}
@@ -22,7 +23,7 @@ use Rattle.rl_meaning.specs.Symbols as symbols
 use Rattle.rl_meaning.specs.Variables.{nearest}
 use Rattle.rl_meaning.specs.Symbols.{with_symbol, with_top, message_id, new_symbol}
 use Rattle.rl_state.specs.ShownState.{ShowsState, ShowsSymbols, counts_in, is_listed, definition_in, number_in, option_value_in, pointer_named, value_seen, seen_of, symbol_meant}
-use Rattle.rl_state.specs.Worlds.{IsWorld, HasNumber, WorldGrows, SeenOtherwise}
+use Rattle.rl_state.specs.Worlds.{IsWorld, HasNumber, ObjectsAlone, WorldGrows, SeenOtherwise}
 use Rattle.rl_state.proofs.Kept.{AlikeShown, all_ids_same, id_cell, named_same, number_same, symbol_like}
 use Rattle.rl_state.proofs.Made.{expanding_kept, expansion_kept}
 
@@ -66,15 +67,13 @@ option_kept old new None m = refl
 option_kept old new (Some v) m = ap Some (m.values v)
 
 -- what is shown of an identifier whose cells hold the same
-alike_kept : (old new : List Cell) (head : Option Tagged) (k : ℕ) → KeepsMeaning old new → is_id_cell (cell_at old k) ≡ true
+alike_kept : (old new : List Cell) (head : Option Tagged) (k : ℕ) → KeepsMeaning old new
     → (symbol_in_cells new k).plist ≡ (symbol_in_cells old k).plist → (symbol_in_cells new k).definition ≡ (symbol_in_cells old k).definition → (symbol_in_cells new k).kind ≡ (symbol_in_cells old k).kind
     → AlikeShown old new head head k
-alike_kept old new head k m h p d n = record {
+alike_kept old new head k m p d n = record {
   name = m.names k;
   listed = ap (is_listed k) (m.chains head);
-  number = number_same old new k (λ v l. m.values v) h;
   plist = ap (value_of new) p ∙ m.values (symbol_in_cells old k).plist;
-  defined = ap is_some d;
   definition = ap (definition_in new) d ∙ definition_kept old new (symbol_in_cells old k).definition m;
   kind = n;
 }
@@ -94,10 +93,10 @@ set_in old new id y h s = record { was = id_cell old id h; symbol = s.symbol; ot
 other_symbol : (old new : List Cell) (k j : ℕ) (y : SymbolCells) → IsSetIn old new k y → j ≢ k → symbol_in_cells new j ≡ symbol_in_cells old j
 other_symbol old new k j y s ne = ap (λ c. table.symbol_of (words_in c)) (s.others j ne)
 
-other_alike : (old new : List Cell) (head : Option Tagged) (k j : ℕ) (y : SymbolCells) → IsSetIn old new k y → j ≢ k → is_id_cell (cell_at old j) ≡ true → AlikeShown old new head head j
-other_alike old new head k j y s ne h =
+other_alike : (old new : List Cell) (head : Option Tagged) (k j : ℕ) (y : SymbolCells) → IsSetIn old new k y → j ≢ k → AlikeShown old new head head j
+other_alike old new head k j y s ne =
     let e = other_symbol old new k j y s ne in
-    alike_kept old new head j s.rest h (ap (λ (z : SymbolCells). z.plist) e) (ap (λ (z : SymbolCells). z.definition) e) (ap (λ (z : SymbolCells). z.kind) e)
+    alike_kept old new head j s.rest (ap (λ (z : SymbolCells). z.plist) e) (ap (λ (z : SymbolCells). z.definition) e) (ap (λ (z : SymbolCells). z.kind) e)
 
 -- what is shown of each identifier, by its number among those that were there
 symbols_set : (law : IdentifiersAreNumbered) (old new : List Cell) (head : Option Tagged) (t : State) → KeepsMeaning old new → length t.symbols ≡ ids_before old (length old)
@@ -149,8 +148,8 @@ set_grows w new id y i t sets =
     }
 
 set_shown : (w : World) (new : List Cell) (s t : State) → KeepsMeaning w.cells.cells new → IsWorld w → ShowsState w s → ShowsSymbols new w.syms.head t
-    → t.store ≡ s.store → t.counts ≡ s.counts → t.gensyms ≡ s.gensyms → t.outside ≡ s.outside → nearest message_id t ≡ None → ShowsState (with_list w new) t
-set_shown w new s t m i shown y store counts gensyms outside free = record {
+    → t.store ≡ s.store → t.counts ≡ s.counts → t.gensyms ≡ s.gensyms → t.outside ≡ s.outside → nearest message_id t ≡ None → ((j : ℕ) → length t.symbols ≤ j → nearest j t ≡ None) → ShowsState (with_list w new) t
+set_shown w new s t m i shown y store counts gensyms outside free bound = record {
   store = store ∙ shown.store ∙ sym m.store;
   symbols = record { many = y.many; symbols = y.symbols; values = y.values };
   counts = counts ∙ shown.counts ∙ sym (ap (λ e. record (counts_in w.cells w.counts) { expansion = e }) (expansion_kept w.cells.cells new w.counts.open_count w.counts.outermost (λ v l. m.values v) i.expanding));
@@ -159,6 +158,7 @@ set_shown w new s t m i shown y store counts gensyms outside free = record {
   line_length = ap (λ (o : meaning.Outside). o.line_length) outside ∙ shown.line_length;
   taken = ap (λ (o : meaning.Outside). o.taken) outside ∙ shown.taken;
   free = free;
+  bound = bound;
 }
 
 pub set_final : (w : World) (cs : cell.CellStore) (y : Syms) → cs ≡ record w.cells { cells = cs.cells } → y ≡ w.syms → with_list w cs.cells ≡ record w { cells = cs; syms = y }
@@ -166,18 +166,19 @@ set_final w cs y e f = ap (λ x. record w { cells = x }) (sym e) ∙ ap (λ x. r
 
 -- ---- the value that is seen
 
-value_symbol : (old new : List Cell) (head : Option Tagged) (k j : ℕ) (o : Option Tagged) → IsSetIn old new k (record (symbol_in_cells old k) { value = o }) → is_id_cell (cell_at old j) ≡ true → AlikeShown old new head head j
-value_symbol old new head k j o s h = go (j == k) refl
+value_symbol : (old new : List Cell) (head : Option Tagged) (k j : ℕ) (o : Option Tagged) → IsSetIn old new k (record (symbol_in_cells old k) { value = o }) → AlikeShown old new head head j
+value_symbol old new head k j o s = go (j == k) refl
   where
     go : (b : Bool) → (j == k) ≡ b → AlikeShown old new head head j
     go true e =
         let at : j ≡ k = eqb-true j k e in
         let P : ℕ → Type 0 = λ n. AlikeShown old new head head n in
-        subst P (sym at) (alike_kept old new head k s.rest s.was (ap (λ (z : SymbolCells). z.plist) s.symbol) (ap (λ (z : SymbolCells). z.definition) s.symbol) (ap (λ (z : SymbolCells). z.kind) s.symbol))
-    go false e = other_alike old new head k j _ s (eqb-false j k e) h
+        subst P (sym at) (alike_kept old new head k s.rest (ap (λ (z : SymbolCells). z.plist) s.symbol) (ap (λ (z : SymbolCells). z.definition) s.symbol) (ap (λ (z : SymbolCells). z.kind) s.symbol))
+    go false e = other_alike old new head k j _ s (eqb-false j k e)
 
 pub cell_shown : (law : IdentifiersAreNumbered) (w : World) (new : List Cell) (id : Tagged) (o : Option Tagged) → IsWorld w → is_id w.cells.cells id ≡ true → Sets w.cells.cells new id (record (symbol_in_cells w.cells.cells (index_of id)) { value = o })
     → (s t : State) → ShowsState w s → SeenOtherwise (number_in w.cells.cells id) (option_value_in w.cells.cells o) s t → ShowsState (with_list w new) t
+unfolding symbol_meant
 cell_shown law w new id o i h sets s t shown r =
     let old = w.cells.cells in
     let head = w.syms.head in
@@ -186,9 +187,9 @@ cell_shown law w new id o i h sets s t shown r =
     set_shown w new s t sets.rest i shown
     (symbols_set law old new head t sets.rest (r.many ∙ shown.symbols.many)
     (λ j is. r.symbols (ids_before old j) ∙ ap (λ (y : meaning.Symbol). record y { top = (symbols.symbol_at t (ids_before old j)).top }) (shown.symbols.symbols j is)
-        ∙ sym (symbol_like old new head head j (symbols.symbol_at t (ids_before old j)).top (value_symbol old new head k j o here is)))
+        ∙ sym (symbol_like old new head head j (symbols.symbol_at t (ids_before old j)).top (value_symbol old new head k j o here)))
     (λ j is. value j is (j == k) refl here))
-    r.store r.counts r.gensyms r.outside r.free
+    r.store r.counts r.gensyms r.outside r.free r.bound
   where
     value : (j : ℕ) → is_id_cell (cell_at w.cells.cells j) ≡ true → (b : Bool) → (j == index_of id) ≡ b → IsSetIn w.cells.cells new (index_of id) (record (symbol_in_cells w.cells.cells (index_of id)) { value = o })
         → value_seen t (ids_before w.cells.cells j) ≡ option_value_in new (symbol_in_cells new j).value
@@ -228,8 +229,8 @@ with_top_at s i j v l = go (j == i) refl
         f ∙ ap (λ t. record (symbols.symbol_at s j) { top = t }) (ap (λ (y : meaning.Symbol). y.top) (sym f))
 
 -- a variable without a binding is seen by its top value
-pub seen_by_top : (s : State) (i : ℕ) (v : Value) → i < length s.symbols → nearest i s ≡ None → nearest message_id s ≡ None → SeenOtherwise i (Some v) s (with_top i v s)
-seen_by_top s i v l none free = record {
+pub seen_by_top : (s : State) (i : ℕ) (v : Value) → i < length s.symbols → nearest i s ≡ None → nearest message_id s ≡ None → ((j : ℕ) → length s.symbols ≤ j → nearest j s ≡ None) → SeenOtherwise i (Some v) s (with_top i v s)
+seen_by_top s i v l none free bound = record {
   store = refl;
   many = length-set s.symbols i (record (symbols.symbol_at s i) { top = Some v });
   symbols = λ j. with_top_at s i j v l;
@@ -239,6 +240,7 @@ seen_by_top s i v l none free = record {
   here = ap (λ o. seen_of o (symbols.symbol_at (with_top i v s) i).top) none ∙ ap (λ (y : meaning.Symbol). y.top) (top_at s i v l);
   others = λ j ne. ap (λ (y : meaning.Symbol). seen_of (nearest j s) y.top) (top_else s i j v ne);
   free = free;
+  bound = λ j m. bound j (subst (λ n. n ≤ j) (length-set s.symbols i (record (symbols.symbol_at s i) { top = Some v })) m);
 }
 
 pub message_shown : (law : IdentifiersAreNumbered) (w : World) (new : List Cell) (v : Tagged) → IsWorld w → Sets w.cells.cells new emsg_star_id (record (symbol_in_cells w.cells.cells (index_of emsg_star_id)) { value = Some v })
@@ -248,7 +250,7 @@ message_shown law w new v i sets s shown =
     let k = index_of emsg_star_id in
     let within : message_id < length s.symbols =
     subst (λ n. message_id < n) (sym shown.symbols.many) (subst (λ n. n < ids_before old (length old)) i.message.number (law.within old k (id_cell old emsg_star_id i.message.is_id))) in
-    let r = seen_by_top s message_id (value_of old v) within shown.free shown.free in
+    let r = seen_by_top s message_id (value_of old v) within shown.free shown.free shown.bound in
     cell_shown law w new emsg_star_id (Some v) i i.message.is_id sets s (with_top message_id (value_of old v) s) shown
     (let P : ℕ → Type 0 = λ n. SeenOtherwise n (Some (value_of old v)) s (with_top message_id (value_of old v) s) in subst P (sym i.message.number) r)
 
@@ -264,7 +266,7 @@ field_shown law w new id y f i h sets value keeps meant s shown =
     set_shown w new s now sets.rest i shown
     (symbols_set law w.cells.cells new w.syms.head now sets.rest (length-set s.symbols n _ ∙ shown.symbols.many)
     (λ j is. symbol j is (j == k) refl here) (λ j is. seen j is (j == k) refl here))
-    refl refl refl refl shown.free
+    refl refl refl refl shown.free (λ j m. shown.bound j (subst (λ l. l ≤ j) (length-set s.symbols n (f (symbols.symbol_at s n))) m))
   where
     k : ℕ
     k = index_of id
@@ -292,7 +294,7 @@ field_shown law w new id y f i h sets value keeps meant s shown =
         let ne = eqb-false j k e in
         let other = at_other (ids_before w.cells.cells j) (numbers_apart law w.cells.cells j k is here.was ne) in
         other ∙ shown.symbols.symbols j is
-        ∙ sym (symbol_like w.cells.cells new w.syms.head w.syms.head j _ (other_alike w.cells.cells new w.syms.head k j y here ne is))
+        ∙ sym (symbol_like w.cells.cells new w.syms.head w.syms.head j _ (other_alike w.cells.cells new w.syms.head k j y here ne))
         ∙ ap (λ (x : meaning.Symbol). symbol_meant new w.syms.head j x.top) (sym other)
 
     seen : (j : ℕ) → is_id_cell (cell_at w.cells.cells j) ≡ true → (b : Bool) → (j == k) ≡ b → IsSetIn w.cells.cells new k y
@@ -309,3 +311,82 @@ field_shown law w new id y f i h sets value keeps meant s shown =
         ∙ shown.symbols.values j is
         ∙ sym (option_kept w.cells.cells new (symbol_in_cells w.cells.cells j).value here.rest)
         ∙ ap (λ (x : SymbolCells). option_value_in new x.value) (sym (other_symbol w.cells.cells new k j y here ne))
+
+-- what is shown of the identifier that is set
+symbol_parts : (old new : List Cell) (head : Option Tagged) (k : ℕ) (y : SymbolCells) (top : Option Value) → IsSetIn old new k y
+    → symbol_meant new head k top ≡ record { name = table.name_in_cells old k; interned = is_listed k (ids_from old head); top = top; properties = value_of old y.plist; definition = definition_in old y.definition; kind = y.kind }
+unfolding symbol_meant
+symbol_parts old new head k y top s =
+    ap (λ x. made x (is_listed k (ids_from new head)) (value_of new (symbol_in_cells new k).plist) (definition_in new (symbol_in_cells new k).definition) (symbol_in_cells new k).kind) (s.rest.names k)
+    ∙ ap (λ x. made (table.name_in_cells old k) (is_listed k x) (value_of new (symbol_in_cells new k).plist) (definition_in new (symbol_in_cells new k).definition) (symbol_in_cells new k).kind) (s.rest.chains head)
+    ∙ ap (λ (z : SymbolCells). made (table.name_in_cells old k) (is_listed k (ids_from old head)) (value_of new z.plist) (definition_in new z.definition) z.kind) s.symbol
+    ∙ ap (λ x. made (table.name_in_cells old k) (is_listed k (ids_from old head)) x (definition_in new y.definition) y.kind) (s.rest.values y.plist)
+    ∙ ap (λ x. made (table.name_in_cells old k) (is_listed k (ids_from old head)) (value_of old y.plist) x y.kind) (definition_kept old new y.definition s.rest)
+  where
+    made : List ℕ → Bool → Value → Option meaning.Definition → VarKind → meaning.Symbol
+    made name listed plist definition kind = record { name = name; interned = listed; top = top; properties = plist; definition = definition; kind = kind }
+
+-- one call of the names, in the world
+pub record IsFieldSet (w x : World) (id : Tagged) (y : SymbolCells) : Type 0 where
+  pub is : x ≡ with_list w x.cells.cells
+  pub table : IsTable x.cells.cells w.syms.head
+  pub sets : Sets w.cells.cells x.cells.cells id y
+
+pub field_set : (w : World) (cs : cell.CellStore) (names : Syms) (id : Tagged) (y : SymbolCells) → cs ≡ record w.cells { cells = cs.cells } → names ≡ w.syms → IsTable cs.cells names.head → Sets w.cells.cells cs.cells id y
+    → IsFieldSet w (record w { cells = cs; syms = names }) id y
+field_set w cs names id y e f t sets = record {
+  is = sym (set_final w cs names e f);
+  table = subst (λ (n : Syms). IsTable cs.cells n.head) f t;
+  sets = sets;
+}
+
+pub field_grows : (w x : World) (id : Tagged) (y : SymbolCells) → IsFieldSet w x id y → IsWorld w → WorldGrows w x
+field_grows w x id y s i = subst (λ z. WorldGrows w z) (sym s.is) (set_grows w x.cells.cells id y i s.table s.sets)
+
+pub field_rest : (w x : World) (id : Tagged) (y : SymbolCells) → IsFieldSet w x id y → ObjectsAlone w x
+field_rest w x id y s = record { rest = subst (λ (z : World). z ≡ record w { cells = z.cells; syms = z.syms; counts = z.counts }) (sym s.is) refl }
+
+pub properties_shown : (law : IdentifiersAreNumbered) (w x : World) (id v : Tagged) → IsFieldSet w x id (record (symbol_in_cells w.cells.cells (index_of id)) { plist = v }) → IsWorld w → is_id w.cells.cells id ≡ true
+    → (s : State) → ShowsState w s → ShowsState x (with_symbol (number_in w.cells.cells id) (record (symbols.symbol_at s (number_in w.cells.cells id)) { properties = value_of w.cells.cells v }) s)
+unfolding symbol_meant
+properties_shown law w x id v f i h s shown =
+    subst (λ z. ShowsState z (with_symbol (number_in w.cells.cells id) (record (symbols.symbol_at s (number_in w.cells.cells id)) { properties = value_of w.cells.cells v }) s)) (sym f.is)
+    (field_shown law w x.cells.cells id _ (λ y. record y { properties = value_of w.cells.cells v }) i h f.sets refl (λ y. refl)
+    (λ top. sym (symbol_parts w.cells.cells x.cells.cells w.syms.head (index_of id) _ top (set_in w.cells.cells x.cells.cells id _ h f.sets))) s shown)
+
+pub definition_shown : (law : IdentifiersAreNumbered) (w x : World) (id : Tagged) (d : Option (Kind × Tagged)) → IsFieldSet w x id (record (symbol_in_cells w.cells.cells (index_of id)) { definition = d }) → IsWorld w → is_id w.cells.cells id ≡ true
+    → (s : State) → ShowsState w s → ShowsState x (with_symbol (number_in w.cells.cells id) (record (symbols.symbol_at s (number_in w.cells.cells id)) { definition = definition_in w.cells.cells d }) s)
+unfolding symbol_meant
+definition_shown law w x id d f i h s shown =
+    subst (λ z. ShowsState z (with_symbol (number_in w.cells.cells id) (record (symbols.symbol_at s (number_in w.cells.cells id)) { definition = definition_in w.cells.cells d }) s)) (sym f.is)
+    (field_shown law w x.cells.cells id _ (λ y. record y { definition = definition_in w.cells.cells d }) i h f.sets refl (λ y. refl)
+    (λ top. sym (symbol_parts w.cells.cells x.cells.cells w.syms.head (index_of id) _ top (set_in w.cells.cells x.cells.cells id _ h f.sets))) s shown)
+
+pub kind_shown : (law : IdentifiersAreNumbered) (w x : World) (id : Tagged) (kind : VarKind) → IsFieldSet w x id (record (symbol_in_cells w.cells.cells (index_of id)) { kind = kind }) → IsWorld w → is_id w.cells.cells id ≡ true
+    → (s : State) → ShowsState w s → ShowsState x (with_symbol (number_in w.cells.cells id) (record (symbols.symbol_at s (number_in w.cells.cells id)) { kind = kind }) s)
+unfolding symbol_meant
+kind_shown law w x id kind f i h s shown =
+    subst (λ z. ShowsState z (with_symbol (number_in w.cells.cells id) (record (symbols.symbol_at s (number_in w.cells.cells id)) { kind = kind }) s)) (sym f.is)
+    (field_shown law w x.cells.cells id _ (λ y. record y { kind = kind }) i h f.sets refl (λ y. refl)
+    (λ top. sym (symbol_parts w.cells.cells x.cells.cells w.syms.head (index_of id) _ top (set_in w.cells.cells x.cells.cells id _ h f.sets))) s shown)
+
+-- ---- what an identifier has is read
+
+symbol_read : (w : World) (id : Tagged) → is_id w.cells.cells id ≡ true → (s : State) → ShowsState w s → symbols.symbol_at s (number_in w.cells.cells id) ≡ symbol_meant w.cells.cells w.syms.head (index_of id) (symbols.symbol_at s (number_in w.cells.cells id)).top
+symbol_read w id h s shown = shown.symbols.symbols (index_of id) (id_cell w.cells.cells id h)
+
+pub properties_read : (w : World) (id v : Tagged) → is_id w.cells.cells id ≡ true → v ≡ (symbol_in_cells w.cells.cells (index_of id)).plist → (s : State) → ShowsState w s → (symbols.symbol_at s (number_in w.cells.cells id)).properties ≡ value_of w.cells.cells v
+unfolding symbol_meant
+properties_read w id v h e s shown = ap (λ (y : meaning.Symbol). y.properties) (symbol_read w id h s shown) ∙ ap (value_of w.cells.cells) (sym e)
+
+pub definition_read : (w : World) (id : Tagged) (d : Option (Kind × Tagged)) → is_id w.cells.cells id ≡ true → d ≡ (symbol_in_cells w.cells.cells (index_of id)).definition → (s : State) → ShowsState w s → (symbols.symbol_at s (number_in w.cells.cells id)).definition ≡ definition_in w.cells.cells d
+unfolding symbol_meant
+definition_read w id d h e s shown = ap (λ (y : meaning.Symbol). y.definition) (symbol_read w id h s shown) ∙ ap (definition_in w.cells.cells) (sym e)
+
+pub kind_read : (w : World) (id : Tagged) (kind : VarKind) → is_id w.cells.cells id ≡ true → kind ≡ (symbol_in_cells w.cells.cells (index_of id)).kind → (s : State) → ShowsState w s → (symbols.symbol_at s (number_in w.cells.cells id)).kind ≡ kind
+unfolding symbol_meant
+kind_read w id kind h e s shown = ap (λ (y : meaning.Symbol). y.kind) (symbol_read w id h s shown) ∙ sym e
+
+pub name_read : (w : World) (id v : Tagged) → is_id w.cells.cells id ≡ true → v ≡ (symbol_in_cells w.cells.cells (index_of id)).name → (s : State) → ShowsState w s → (symbols.symbol_at s (number_in w.cells.cells id)).name ≡ bytes_of w.cells.cells v
+unfolding symbol_meant
+name_read w id v h e s shown = ap (λ (y : meaning.Symbol). y.name) (symbol_read w id h s shown) ∙ ap (bytes_of w.cells.cells) (sym e)

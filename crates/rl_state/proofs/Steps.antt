@@ -5,7 +5,6 @@ use Rattle.std.specs.Prelude.{slice_index_or}
 use Rattle.rl_tags.specs.Ids.{nil_id}
 use Rattle.rl_tree.specs.Value.{Value, Id, Str}
 use Rattle.rl_cells.specs.Cell.{Cell, is_live, is_str, bytes_of}
-use Rattle.rl_world.specs.Errors as texts
 use Rattle.rl_world.specs.declared.stop.Stop as stops
 use Rattle.rl_world.specs.declared.stop.NStep.TheVariants as step
 use Rattle.rl_world.specs.declared.world.World.{World}
@@ -13,7 +12,8 @@ use Rattle.rl_meaning.specs.State.{State, Symbol}
 use Rattle.rl_meaning.specs.Variables.{nearest, nearest_from}
 use Rattle.rl_state.proofs.Set.{top_else}
 use Rattle.rl_meaning.specs.Outcome.{Outcome, Done, Failed, Stop, then_do, made_pair}
-use Rattle.rl_meaning.specs.Errors.{error_texts, error_text, fail}
+use Rattle.rl_tree.specs.ErrorTexts.{error_text}
+use Rattle.rl_meaning.specs.Errors.{fail}
 use Rattle.rl_meaning.specs.Symbols.{nil_value_of_state, message_id, new_symbol, with_top}
 use Rattle.rl_meaning.specs.Constants.{reading_object, changing}
 use Rattle.rl_meaning.specs.Copying.{with_object}
@@ -77,6 +77,7 @@ shows_reading w v s h = record {
   line_length = h.line_length;
   taken = h.taken;
   free = h.free;
+  bound = h.bound;
 }
 
 pub stays_reading : (v : Value) (s : State) → StaysBeside s (reading_object v s)
@@ -92,6 +93,7 @@ shows_changing w (value.Ref r) s h = record {
   line_length = h.line_length;
   taken = h.taken;
   free = h.free;
+  bound = h.bound;
 }
 shows_changing w (value.Int z) s h = h
 shows_changing w (value.Id i) s h = h
@@ -106,10 +108,6 @@ stays_changing (value.Str b) o s = record { functions = record { functions = ref
 stays_changing (value.Fun f p) o s = record { functions = record { functions = refl; compilation = refl }; bindings = record { entries = refl; hidden = λ i b h. refl }; outside = refl }
 
 -- ---- system errors
-
-texts_agree : texts.error_texts ≡ error_texts
-unfolding error_texts
-texts_agree = refl
 
 pub str_live : (cells : List Cell) (v : Tagged) → is_str cells v ≡ true → is_live cells v ≡ true
 str_live cells (StrAt k) h = h
@@ -133,10 +131,10 @@ str_means cells (FunAt k) h = absurd (cc)
 abbrev first_pair : ℕ → State → Outcome Value
 first_pair n s = made_pair (Str (error_text n)) nil_value_of_state s
 
-first_is : (w : World) (n : ℕ) (text : Tagged) (s : State) → value_of w.cells.cells text ≡ Str (texts.error_text n) → IsWorld w → made_pair (value_of w.cells.cells text) (value_of w.cells.cells nil_id) s ≡ first_pair n s
+first_is : (w : World) (n : ℕ) (text : Tagged) (s : State) → value_of w.cells.cells text ≡ Str (error_text n) → IsWorld w → made_pair (value_of w.cells.cells text) (value_of w.cells.cells nil_id) s ≡ first_pair n s
 first_is w n text s is i =
-    ap (λ v. made_pair v (value_of w.cells.cells nil_id) s) (is ∙ ap (λ (ts : List (List ℕ)). Str (slice_index_or ts (n - 10) [])) texts_agree)
-    ∙ ap (λ k. made_pair (Str (error_text n)) (Id k) s) i.nil.number
+    ap (λ v. made_pair v (value_of w.cells.cells nil_id) s) is
+    ∙ ap (λ k. made_pair (Str (error_text n)) (Id k) s) i.table.first
 
 -- EMSG!* is never bound
 stays_message : (v : Value) (t : State) → nearest message_id t ≡ None → StaysBeside t (with_top message_id v t)
@@ -147,7 +145,7 @@ stays_message v t free = record {
 }
 
 pub fails : (w w1 w2 w3 : World) (n : ℕ) (culprit text rest message : Tagged)
-    → value_of w.cells.cells text ≡ Str (texts.error_text n)
+    → value_of w.cells.cells text ≡ Str (error_text n)
     → IsWorld w → is_live w.cells.cells culprit ≡ true → is_live w2.cells.cells message ≡ true
     → ((s : State) → ShowsState w s → MeansValue s (made_pair (value_of w.cells.cells text) (value_of w.cells.cells nil_id) s) (Ok rest) w1) → WorldGrows w w1
     → ((s : State) → ShowsState w1 s → MeansValue s (made_pair (value_of w1.cells.cells culprit) (value_of w1.cells.cells rest) s) (Ok message) w2)
@@ -163,14 +161,14 @@ fails w w1 w2 w3 n culprit text rest message is i live live2 m1 g1 m2 sh g3 s sh
     }))
 
 pub fails_first : (w x : World) (n : ℕ) (culprit text : Tagged) (why : stops.Stop)
-    → value_of w.cells.cells text ≡ Str (texts.error_text n) → IsWorld w
+    → value_of w.cells.cells text ≡ Str (error_text n) → IsWorld w
     → ((s : State) → ShowsState w s → MeansValue s (made_pair (value_of w.cells.cells text) (value_of w.cells.cells nil_id) s) (Err why) x)
     → (s : State) → ShowsState w s → MeansAnswer s (fail n (value_of w.cells.cells culprit) s) (step.Stop why) x
 fails_first w x n culprit text why is i m s shown =
     stops_first s _ _ _ (subst (λ o. StopsWith s o (stop_in x.cells.cells why)) (first_is w n text s is i) (m s shown))
 
 pub fails_second : (w w1 x : World) (n : ℕ) (culprit text rest : Tagged) (why : stops.Stop)
-    → value_of w.cells.cells text ≡ Str (texts.error_text n) → IsWorld w → is_live w.cells.cells culprit ≡ true
+    → value_of w.cells.cells text ≡ Str (error_text n) → IsWorld w → is_live w.cells.cells culprit ≡ true
     → ((s : State) → ShowsState w s → MeansValue s (made_pair (value_of w.cells.cells text) (value_of w.cells.cells nil_id) s) (Ok rest) w1) → WorldGrows w w1
     → ((s : State) → ShowsState w1 s → MeansValue s (made_pair (value_of w1.cells.cells culprit) (value_of w1.cells.cells rest) s) (Err why) x)
     → (s : State) → ShowsState w s → MeansAnswer s (fail n (value_of w.cells.cells culprit) s) (step.Stop why) x

@@ -5,3 +5,4 @@ pub mod Worlds
 pub mod Ending
 pub mod Descents
 pub mod StateOfWorld
+pub mod Ties

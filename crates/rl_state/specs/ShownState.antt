@@ -1,7 +1,6 @@
 -- The states that a world may stand for: what a world determines of a state. Functions, bindings, what is watched, files, and what was read and printed are no part of a world.
-use Rattle.std.specs.Prelude.{◌≡◌, ℕ, ◌-◌, ◌%◌, ◌/◌, ◌^◌, ◌==◌, Bool, true, false, ◌||◌, ◌&&◌, is_some, List, [], ◌∷◌, length, Option, Some, None}
+use Rattle.std.specs.Prelude.{◌≡◌, ◌≤◌, ℕ, ◌-◌, ◌%◌, ◌/◌, ◌^◌, ◌==◌, Bool, true, false, ◌||◌, List, [], ◌∷◌, length, Option, Some, None}
 use Rattle.rl_tags.specs.Tagged.{Tagged, index_of}
-use Rattle.rl_tags.specs.Opening.{name_at}
 use Rattle.rl_tree.specs.Value.{Value, Fun}
 use Rattle.rl_tree.specs.declared.held.Kind.{Kind}
 use Rattle.rl_cells.specs.Cell as cell
@@ -15,7 +14,6 @@ use Rattle.rl_world.specs.declared.world.World.{World}
 use Rattle.rl_meaning.specs.State.{State, Symbol, Definition, Pointer, Counts, Expansion}
 use Rattle.rl_meaning.specs.Symbols.{symbol_at, message_id}
 use Rattle.rl_meaning.specs.Variables.{Nearest, nearest}
-use Rattle.rl_meaning.specs.Opening.{system_function}
 use Rattle.rl_syms.specs.Contents.{ids_before, funs_before, value_of, store_of}
 
 -- ---- identifiers
@@ -23,10 +21,6 @@ use Rattle.rl_syms.specs.Contents.{ids_before, funs_before, value_of, store_of}
 abbrev pub is_listed : ℕ → List ℕ → Bool
 is_listed k [] = false
 is_listed k (x ∷ xs) = k == x || is_listed k xs
-
--- the identifiers of opening with a function of the system (the prelude is wanting)
-unfoldable pub is_system_id : ℕ → Bool
-is_system_id i = is_some (system_function (name_at i))
 
 -- the number of an identifier
 abbrev pub number_in : List Cell → Tagged → ℕ
@@ -50,7 +44,6 @@ unfoldable pub symbol_meant : List Cell → Option Tagged → ℕ → Option Val
 symbol_meant cells head k top = record {
   name = table.name_in_cells cells k;
   interned = is_listed k (ids_from cells head);
-  system = is_some (table.symbol_in_cells cells k).definition && is_system_id (ids_before cells k);
   top = top;
   properties = value_of cells (table.symbol_in_cells cells k).plist;
   definition = definition_in cells (table.symbol_in_cells cells k).definition;
@@ -111,3 +104,5 @@ pub record ShowsState (w : World) (s : State) : Type 0 where
   pub taken : s.outside.taken ≡ w.input.given
   -- EMSG!* is GLOBAL, and so is never bound
   pub free : nearest message_id s ≡ None
+  -- what is bound is an identifier that there is
+  pub bound : (i : ℕ) → length s.symbols ≤ i → nearest i s ≡ None

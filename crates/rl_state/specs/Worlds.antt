@@ -77,3 +77,4 @@ pub record SeenOtherwise (i : ℕ) (o : Option Value) (s t : State) : Type 0 whe
   pub here : value_seen t i ≡ o
   pub others : (j : ℕ) → j ≢ i → value_seen t j ≡ value_seen s j
   pub free : nearest message_id t ≡ None
+  pub bound : (j : ℕ) → length t.symbols ≤ j → nearest j t ≡ None

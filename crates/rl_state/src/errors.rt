@@ -11,6 +11,7 @@ ghost use Rattle.rl_meaning.specs.Errors.{fail as failing};
 ghost use Rattle.rl_tags.specs.Tagged.{Number};
 
 use crate::objects::pair;
+use rl_syms::laws::identifiers_are_numbered;
 use rl_tags::{EMSG_STAR, NIL, Val};
 use rl_world::{NStep, World};
 
@@ -22,6 +23,7 @@ fn set_message(w: &mut World, v: Val)
     ensures grows { WorldGrows w.old w.new }
     ensures rest { ObjectsAlone w.old w.new }
 {
+    identifiers_are_numbered();
     w.syms.set_value(&mut w.cells, EMSG_STAR, Some(v));
 }
 

@@ -1,6 +1,7 @@
 //! Laws of what a world means. A law is the contract of a function that does nothing.
 ghost use Rattle.rl_state.specs.Worlds.{WorldDetermines};
 ghost use Rattle.rl_state.specs.StateOfWorld.{WorldIsShown};
+ghost use Rattle.rl_state.specs.Ties.{EachWorldTies};
 ghost use Rattle.rl_state.specs.CellLaws.{AreCellLaws};
 
 use rl_syms::laws::{identifiers_are_numbered, meaning_of_change, meaning_of_making};
@@ -28,6 +29,13 @@ pub fn a_world_determines_a_state()
 /// Each world shows a state.
 pub fn a_world_shows_a_state()
     ensures { WorldIsShown }
+{
+    identifiers_are_numbered();
+}
+
+/// Each world has a state to which it ties, whatever is to come.
+pub fn a_world_is_tied()
+    ensures { EachWorldTies }
 {
     identifiers_are_numbered();
 }

@@ -1,7 +1,10 @@
-use Rattle.std.proofs.Common.{refl}
+use Rattle.std.proofs.Common.{refl, ◌∙◌}
 use Rattle.rl_cells.specs.Cell.{PairCell}
-use Rattle.rl_state.proofs.Made.{made_ends, pair_ends, pair_stops, rest_made, rest_refl}
+use Rattle.rl_state.proofs.Made.{has_counted, made_ends, pair_ends, pair_stops, rest_made, rest_refl}
 use Rattle.rl_state.proofs.objects.pair.Goals as goal
+
+pub unwrap-requires : goal.unwrap-requires
+unwrap-requires c = c.cons.ensures.full ∙ has_counted c.args.w.now c.room.new.self _ _ c.in-Ok.ensures.counted c.requires.world c.in-Ok.ensures.ok
 
 pub returns-in-Ok-clause-means : goal.returns-in-Ok-clause-means
 returns-in-Ok-clause-means c =

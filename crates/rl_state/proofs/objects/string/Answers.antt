@@ -1,7 +1,10 @@
-use Rattle.std.proofs.Common.{refl}
+use Rattle.std.proofs.Common.{refl, ◌∙◌}
 use Rattle.rl_cells.specs.Cell.{StrCell}
-use Rattle.rl_state.proofs.Made.{made_ends, string_ends, string_stops, rest_made, rest_refl}
+use Rattle.rl_state.proofs.Made.{has_counted, made_ends, string_ends, string_stops, rest_made, rest_refl}
 use Rattle.rl_state.proofs.objects.string.Goals as goal
+
+pub unwrap-requires : goal.unwrap-requires
+unwrap-requires c = c.string.ensures.full ∙ has_counted c.args.w.now c.room.new.self _ _ c.in-Ok.ensures.counted c.requires.world (rw c.string_cost.ensures at c.in-Ok.ensures.ok)
 
 pub returns-in-Ok-clause-means : goal.returns-in-Ok-clause-means
 returns-in-Ok-clause-means c =
