@@ -6,7 +6,7 @@ use Rattle.std.proofs.lemmas.Option.{get_or_from_slice_get, slice_get-get_or, sl
 use Rattle.rl_tags.specs.Tagged.{Tagged, IdAt, StrAt, tag_of}
 use Rattle.rl_tags.specs.declared.Tag.TheVariants as tag
 use Rattle.rl_cells.specs.Cell.{Cell}
-use Rattle.rl_syms.specs.Table.{name_in_cells}
+use Rattle.rl_syms.specs.Numbers.{numbered_name}
 use Rattle.rl_syms.specs.Contents.{value_of}
 use Rattle.rl_tree.specs.Atoms.{doubled, escaped}
 use Rattle.rl_print.specs.AtomText.{pending_text, plain_text, quoted_from, text_from, text_left}
@@ -53,20 +53,20 @@ escaped_read name n b r p gives e =
 
 -- ---- a byte of an atom
 
-string_read : (cells : List Cell) (s : Style) (a : Tagged) (n b r : ℕ) (q p : Option ℕ) → s ≡ Prin1 → tag_of a ≡ tag.Str → q ≡ None → ((bs : List ℕ) → doubled (b ∷ bs) ≡ r ∷ (pending_text p ++ doubled bs)) → slice_get (plain_text cells a) n ≡ Some b → pending_text q ++ text_from n s (name_in_cells cells) (value_of cells a) ≡ r ∷ (pending_text p ++ text_from (n + 1) s (name_in_cells cells) (value_of cells a))
+string_read : (cells : List Cell) (s : Style) (a : Tagged) (n b r : ℕ) (q p : Option ℕ) → s ≡ Prin1 → tag_of a ≡ tag.Str → q ≡ None → ((bs : List ℕ) → doubled (b ∷ bs) ≡ r ∷ (pending_text p ++ doubled bs)) → slice_get (plain_text cells a) n ≡ Some b → pending_text q ++ text_from n s (numbered_name cells) (value_of cells a) ≡ r ∷ (pending_text p ++ text_from (n + 1) s (numbered_name cells) (value_of cells a))
 string_read cells Prin1 (StrAt k) n b r None p es ea eq gives e = quoted_read (plain_text cells (StrAt k)) n b r p gives e
 string_read cells Prin1 (StrAt k) n b r (Some x) p es ea eq gives e = cc
 string_read cells Prin1 a n b r q p es ea eq gives e = cc
 string_read cells Prin2 a n b r q p es ea eq gives e = cc
 
-name_read : (cells : List Cell) (s : Style) (a : Tagged) (n b r : ℕ) (q p : Option ℕ) → s ≡ Prin1 → tag_of a ≡ tag.Id → q ≡ None → ((bs : List ℕ) → escaped (n == 0) (b ∷ bs) ≡ r ∷ (pending_text p ++ escaped false bs)) → slice_get (plain_text cells a) n ≡ Some b → pending_text q ++ text_from n s (name_in_cells cells) (value_of cells a) ≡ r ∷ (pending_text p ++ text_from (n + 1) s (name_in_cells cells) (value_of cells a))
+name_read : (cells : List Cell) (s : Style) (a : Tagged) (n b r : ℕ) (q p : Option ℕ) → s ≡ Prin1 → tag_of a ≡ tag.Id → q ≡ None → ((bs : List ℕ) → escaped (n == 0) (b ∷ bs) ≡ r ∷ (pending_text p ++ escaped false bs)) → slice_get (plain_text cells a) n ≡ Some b → pending_text q ++ text_from n s (numbered_name cells) (value_of cells a) ≡ r ∷ (pending_text p ++ text_from (n + 1) s (numbered_name cells) (value_of cells a))
 name_read cells Prin1 (IdAt k) n b r None p es ea eq gives e = escaped_read (plain_text cells (IdAt k)) n b r p gives e
 name_read cells Prin1 (IdAt k) n b r (Some x) p es ea eq gives e = cc
 name_read cells Prin1 a n b r q p es ea eq gives e = cc
 name_read cells Prin2 a n b r q p es ea eq gives e = cc
 
 -- by PRIN2, and by PRIN1 where no byte is written as two
-plain_from : (cells : List Cell) (s : Style) (a : Tagged) (n : ℕ) → (s ≡ Prin1 → (tag_of a ≢ tag.Id) × (tag_of a ≢ tag.Str)) → text_from n s (name_in_cells cells) (value_of cells a) ≡ drop n (plain_text cells a)
+plain_from : (cells : List Cell) (s : Style) (a : Tagged) (n : ℕ) → (s ≡ Prin1 → (tag_of a ≢ tag.Id) × (tag_of a ≢ tag.Str)) → text_from n s (numbered_name cells) (value_of cells a) ≡ drop n (plain_text cells a)
 plain_from cells Prin1 (IdAt k) n plain = absurd ((plain refl).0 refl)
 plain_from cells Prin1 (StrAt k) n plain = absurd ((plain refl).1 refl)
 plain_from cells Prin1 a n plain = refl
@@ -84,7 +84,7 @@ gives_name cells t new b r es ea eq gives moves e = rw moves (name_read cells t.
 
 -- ---- the end of an atom
 
-from_past : (cells : List Cell) (s : Style) (a : Tagged) (n : ℕ) → (s ≡ Prin1 → tag_of a ≢ tag.Str) → slice_get (plain_text cells a) n ≡ None → text_from n s (name_in_cells cells) (value_of cells a) ≡ []
+from_past : (cells : List Cell) (s : Style) (a : Tagged) (n : ℕ) → (s ≡ Prin1 → tag_of a ≢ tag.Str) → slice_get (plain_text cells a) n ≡ None → text_from n s (numbered_name cells) (value_of cells a) ≡ []
 from_past cells Prin1 (StrAt k) n plain e = absurd (plain refl refl)
 from_past cells Prin1 (IdAt k) n plain e = ap (escaped (n == 0)) (drop_past (plain_text cells (IdAt k)) n e)
 from_past cells Prin1 a n plain e = drop_past (plain_text cells a) n e

@@ -7,7 +7,8 @@ use Rattle.std.proofs.lemmas.List.Sums.{fold-append}
 use Rattle.rl_tags.specs.Tagged.{Tagged, Number, IdAt, StrAt, PairAt, VectorAt, BigAt, FunAt, tag_of, word_of}
 use Rattle.rl_tags.specs.declared.Tag.TheVariants as Tag
 use Rattle.rl_cells.specs.Cell.{Cell, CellStore, car_of, cdr_of, is_live, is_pair, is_vector, vector_of}
-use Rattle.rl_syms.specs.Contents.{value_of}
+use Rattle.rl_syms.specs.Contents.{ids_before, value_of}
+use Rattle.rl_syms.specs.Numbers.{IdentifiersAreNumbered}
 use Rattle.rl_syms.specs.Laws.{IsRead}
 use Rattle.rl_syms.specs.Table.{IsTable}
 use Rattle.rl_tree.specs.Value.{Value, Id, Ref}
@@ -206,17 +207,20 @@ atom_means base w v outer atom style text =
     let g = setting_in_world style w in
     atom_next g (value_of w.cells.cells v) (walk_place_in w.cells.cells outer ∷ waiting_places w base) (levels_left w) (progress_in_world w text) (atom_value g true w.cells.cells v (levels_left w) (progress_in_world w text) atom) refl
 
-rest_atom : (g : Setting) (cells : List Cell) (v : Tagged) (levels : ℕ) (p : Progress) → g.nil ≡ 2 → is_atom cells v ≡ true → v ≢ IdAt 2 → place_printed g (Rest (value_of cells v)) levels p ≡ dotted_atom g (value_of cells v) p
-rest_atom g cells (Number z) levels p n h other = refl
-rest_atom g cells (StrAt k) levels p n h other = refl
-rest_atom g cells (BigAt k) levels p n h other = refl
-rest_atom g cells (FunAt k) levels p n h other = refl
-rest_atom g cells (PairAt k) levels p n h other = absurd (cc)
-rest_atom g cells (VectorAt k) levels p n h other = absurd (cc)
-rest_atom g cells (IdAt k) levels p n h other =
-    let differ : k ≢ g.nil = λ e. other (ap IdAt (e ∙ n)) in
-    let no : (k == g.nil) ≡ false = grind (arith, nat_tests) in
-    ap (λ b. if b then marked (41 ∷ []) p else dotted_atom g (Id k) p) no
+differ_test : (i j : ℕ) → i ≢ j → (i == j) ≡ false
+differ_test i j h = grind (arith, nat_tests)
+
+rest_atom : (g : Setting) (cells : List Cell) (v : Tagged) (levels : ℕ) (p : Progress) → IdentifiersAreNumbered → g.nil ≡ ids_before cells 2 → is_live cells (IdAt 2) ≡ true → is_atom cells v ≡ true → v ≢ IdAt 2 → place_printed g (Rest (value_of cells v)) levels p ≡ dotted_atom g (value_of cells v) p
+rest_atom g cells (Number z) levels p law n nil h other = refl
+rest_atom g cells (StrAt k) levels p law n nil h other = refl
+rest_atom g cells (BigAt k) levels p law n nil h other = refl
+rest_atom g cells (FunAt k) levels p law n nil h other = refl
+rest_atom g cells (PairAt k) levels p law n nil h other = absurd (cc)
+rest_atom g cells (VectorAt k) levels p law n nil h other = absurd (cc)
+rest_atom g cells (IdAt k) levels p law n nil h other =
+    let differ : ids_before cells k ≢ g.nil = λ e. other (ap IdAt (law.distinct cells k 2 h nil (e ∙ n))) in
+    let no : (ids_before cells k == g.nil) ≡ false = differ_test (ids_before cells k) g.nil differ in
+    ap (λ b. if b then marked (41 ∷ []) p else dotted_atom g (Id (ids_before cells k)) p) no
 
 -- ---- the rest of a list
 
@@ -236,8 +240,8 @@ done_means base old new next c style show text e means is whole_is =
 pub nil_is_last : (style : atoms.Style) (w : World) (text : List ℕ) → place_printed (setting_in_world style w) (Rest (value_of w.cells.cells (IdAt 2))) (levels_left w) (progress_in_world w text) ≡ marked (41 ∷ []) (progress_in_world w text)
 nil_is_last style w text = rest_nil (setting_in_world style w) (levels_left w) (progress_in_world w text)
 
-pub atom_is_last : (style : atoms.Style) (w : World) (v : Tagged) (text : List ℕ) → is_atom w.cells.cells v ≡ true → v ≢ IdAt 2 → place_printed (setting_in_world style w) (Rest (value_of w.cells.cells v)) (levels_left w) (progress_in_world w text) ≡ dotted_atom (setting_in_world style w) (value_of w.cells.cells v) (progress_in_world w text)
-atom_is_last style w v text atom other = rest_atom (setting_in_world style w) w.cells.cells v (levels_left w) (progress_in_world w text) refl atom other
+pub atom_is_last : IdentifiersAreNumbered → (style : atoms.Style) (w : World) (v : Tagged) (text : List ℕ) → is_live w.cells.cells (IdAt 2) ≡ true → is_atom w.cells.cells v ≡ true → v ≢ IdAt 2 → place_printed (setting_in_world style w) (Rest (value_of w.cells.cells v)) (levels_left w) (progress_in_world w text) ≡ dotted_atom (setting_in_world style w) (value_of w.cells.cells v) (progress_in_world w text)
+atom_is_last law style w v text nil atom other = rest_atom (setting_in_world style w) w.cells.cells v (levels_left w) (progress_in_world w text) law refl nil atom other
 
 rest_of : (style : atoms.Style) (base : ℕ) (w : World) (d : Tagged) (r : ℕ) (text : List ℕ) → value_of w.cells.cells d ≡ Ref r
     → walk_meaning style w base (Some (state.Next (cursor.Rest d))) text ≡ all_printed (setting_in_world style w) (Rest (Ref r) ∷ waiting_places w base) (levels_left w) (progress_in_world w text)

@@ -7,7 +7,7 @@ use Rattle.std.proofs.lemmas.List.Sums.{fold-append}
 use Rattle.rl_tags.specs.Tagged.{Tagged}
 use Rattle.rl_cells.specs.Cell.{Cell}
 use Rattle.rl_syms.specs.Contents.{value_of}
-use Rattle.rl_syms.specs.Table.{name_in_cells}
+use Rattle.rl_syms.specs.Numbers.{numbered_name}
 use Rattle.rl_tree.specs.Atoms as atoms
 use Rattle.rl_tree.specs.Atoms.{atom_text}
 use Rattle.rl_tree.specs.Printing.{Page}
@@ -63,11 +63,11 @@ atom_apart n page bytes = broken_apart (nat_lt 0 page.column && nat_lt n (page.c
 
 -- the page of an atom alone
 abbrev pub atom_page : World → atoms.Style → Tagged → Page
-atom_page w style v = with_atom w.output.line_length (record { text = []; column = w.output.column }) (atom_text style (name_in_cells w.cells.cells) (value_of w.cells.cells v))
+atom_page w style v = with_atom w.output.line_length (record { text = []; column = w.output.column }) (atom_text style (numbered_name w.cells.cells) (value_of w.cells.cells v))
 
 atom_shown : (style : atoms.Style) (old new : World) (v : Tagged) (text : List ℕ) → Writes old new → new.output.column ≡ (atom_page old style v).column → with_atom_of (setting_in_world style old) (value_of old.cells.cells v) (progress_in_world old text) ≡ progress_in_world new (text ++ (atom_page old style v).text)
 atom_shown style old new v text e column =
-    ap (λ (page : Page). record (progress_in_world old text) { page = page }) (atom_apart old.output.line_length (record { text = text; column = old.output.column }) (atom_text style (name_in_cells old.cells.cells) (value_of old.cells.cells v)))
+    ap (λ (page : Page). record (progress_in_world old text) { page = page }) (atom_apart old.output.line_length (record { text = text; column = old.output.column }) (atom_text style (numbered_name old.cells.cells) (value_of old.cells.cells v)))
     ∙ progress_written old new (text ++ (atom_page old style v).text) (atom_page old style v).column e column
 
 pub atom_shows : (before now : Option (List ℕ)) (style : atoms.Style) (old new : World) (v : Tagged) → Writes old new → Follows before old.output.waiting now new.output.waiting (atom_page old style v).text → new.output.column ≡ (atom_page old style v).column → Shows before now style old new (piece.Atom v)
@@ -78,7 +78,7 @@ atom_shows before now style old new v e follows column = record {
 }
 
 atom_text_is : (style : atoms.Style) (old : World) (v : Tagged) (text : List ℕ) → (with_atom_of (setting_in_world style old) (value_of old.cells.cells v) (progress_in_world old text)).page.text ≡ text ++ (atom_page old style v).text
-atom_text_is style old v text = ap (λ (page : Page). page.text) (atom_apart old.output.line_length (record { text = text; column = old.output.column }) (atom_text style (name_in_cells old.cells.cells) (value_of old.cells.cells v)))
+atom_text_is style old v text = ap (λ (page : Page). page.text) (atom_apart old.output.line_length (record { text = text; column = old.output.column }) (atom_text style (numbered_name old.cells.cells) (value_of old.cells.cells v)))
 
 pub atom_front : (before now : Option (List ℕ)) (style : atoms.Style) (old : World) (v : Tagged) → IsCutOff before now (old.output.waiting ++ (atom_page old style v).text) → ShowsFront before now style old (piece.Atom v)
 atom_front before now style old v cut = record {
@@ -258,7 +258,7 @@ broken_page true column bytes = refl
 broken_page false column bytes = refl
 
 -- on the page of an atom are the break before it and its text
-atom_written : (style : atoms.Style) (old : World) (v : Tagged) (broken : Bool) (bytes : List ℕ) → bytes ≡ atom_text style (name_in_cells old.cells.cells) (value_of old.cells.cells v) → broken ≡ (nat_lt 0 old.output.column && nat_lt old.output.line_length (old.output.column + length bytes))
+atom_written : (style : atoms.Style) (old : World) (v : Tagged) (broken : Bool) (bytes : List ℕ) → bytes ≡ atom_text style (numbered_name old.cells.cells) (value_of old.cells.cells v) → broken ≡ (nat_lt 0 old.output.column && nat_lt old.output.line_length (old.output.column + length bytes))
     → atom_page old style v ≡ record { text = line_break broken ++ bytes; column = fold column_with (fold column_with old.output.column (line_break broken)) bytes }
 atom_written style old v broken bytes is e =
     ap (λ bs. with_atom old.output.line_length (record { text = []; column = old.output.column }) bs) (sym is)
@@ -268,7 +268,7 @@ same_left : (left : List Cell → List ℕ) (old mid : World) → Writes old mid
 same_left left old mid e = ap (λ (w : World). left w.cells.cells) e
 
 abbrev pub IsTextOf : atoms.Style → Tagged → (List Cell → List ℕ) → Type 0
-IsTextOf style v left = (cells : List Cell) → left cells ≡ atom_text style (name_in_cells cells) (value_of cells v)
+IsTextOf style v left = (cells : List Cell) → left cells ≡ atom_text style (numbered_name cells) (value_of cells v)
 
 abbrev pub IsBroken : World → Bool → List ℕ → Type 0
 IsBroken w broken bytes = broken ≡ (nat_lt 0 w.output.column && nat_lt w.output.line_length (w.output.column + length bytes))

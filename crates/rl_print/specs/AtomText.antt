@@ -2,7 +2,7 @@
 use Rattle.std.specs.Prelude.{ℕ, Bool, false, ◌==◌, nat_le, if◌then◌else◌, List, [], ◌∷◌, ◌++◌, length, drop, Option, None, Some}
 use Rattle.rl_tags.specs.Tagged.{Tagged, PairAt, VectorAt}
 use Rattle.rl_cells.specs.Cell.{Cell, is_live}
-use Rattle.rl_syms.specs.Table.{name_in_cells}
+use Rattle.rl_syms.specs.Numbers.{numbered_name}
 use Rattle.rl_syms.specs.Contents.{value_of}
 use Rattle.rl_tree.specs.Value.{Value, Id, Str}
 use Rattle.rl_tree.specs.Atoms as atoms
@@ -23,7 +23,7 @@ style_of Prin2 = atoms.Prin2
 
 -- the bytes of an atom, as PRIN2 writes them
 abbrev pub plain_text : List Cell → Tagged → List ℕ
-plain_text cells v = atom_text atoms.Prin2 (name_in_cells cells) (value_of cells v)
+plain_text cells v = atom_text atoms.Prin2 (numbered_name cells) (value_of cells v)
 
 -- the quote that opens a string, or the second of the two bytes that a byte is written as
 abbrev pub pending_text : Option ℕ → List ℕ
@@ -42,7 +42,7 @@ text_from n style names v = drop n (atom_text (style_of style) names v)
 
 -- what `next` is still to give
 abbrev pub text_left : List Cell → AtomText → List ℕ
-text_left cells t = pending_text t.pending ++ text_from t.at t.style (name_in_cells cells) (value_of cells t.atom)
+text_left cells t = pending_text t.pending ++ text_from t.at t.style (numbered_name cells) (value_of cells t.atom)
 
 -- a new line, where one is begun
 abbrev pub line_break : Bool → List ℕ

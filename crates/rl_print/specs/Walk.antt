@@ -4,8 +4,9 @@ use Rattle.std.specs.List.{AllByRecursion}
 use Rattle.rl_tags.specs.Tagged.{Tagged, tagged_of, index_of}
 use Rattle.rl_tags.specs.Ids.{nil_id}
 use Rattle.rl_cells.specs.Cell.{Cell, is_live, is_vector, vector_of}
-use Rattle.rl_syms.specs.Table.{IsTable, name_in_cells}
-use Rattle.rl_syms.specs.Contents.{value_of, store_of}
+use Rattle.rl_syms.specs.Table.{IsTable}
+use Rattle.rl_syms.specs.Numbers.{numbered_name}
+use Rattle.rl_syms.specs.Contents.{ids_before, value_of, store_of}
 use Rattle.rl_tree.specs.Value.{Value}
 use Rattle.rl_tree.specs.Atoms as atoms
 use Rattle.rl_tree.specs.Printing.{Setting, Progress, Ending, Whole, Printer, marked, with_atom_of, and_then, places_printed, value_printed, dotted_atom, rest_printed, job_printed, printed}
@@ -67,7 +68,7 @@ abbrev pub levels_left : World → ℕ
 levels_left w = w.levels.bound - w.levels.level
 
 abbrev pub setting_in_world : atoms.Style → World → Setting
-setting_in_world style w = record { style = style; names = name_in_cells w.cells.cells; nil = index_of nil_id; store = store_of w.cells.cells; line_length = w.output.line_length }
+setting_in_world style w = record { style = style; names = numbered_name w.cells.cells; nil = ids_before w.cells.cells (index_of nil_id); store = store_of w.cells.cells; line_length = w.output.line_length }
 
 -- how far printing is, with this text printed so far
 abbrev pub progress_in_world : World → List ℕ → Progress

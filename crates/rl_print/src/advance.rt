@@ -16,7 +16,7 @@ ghost use Rattle.rl_world.specs.Counts.{count_turns_left};
 
 use crate::atom::Style;
 use crate::walk::{Cursor, Piece, State};
-use rl_syms::laws::meaning_of_reading;
+use rl_syms::laws::{identifiers_are_numbered, meaning_of_reading};
 use rl_tags::{NIL, Tag, Val};
 use rl_world::{Stop, World};
 
@@ -188,6 +188,7 @@ fn rest(w: &mut World, d: Val, base: u64) -> Result<Step, Stop>
     ensures world { IsWorldOf base w.old w.new }
 {
     meaning_of_reading();
+    identifiers_are_numbered();
     if d == NIL {
         return Ok((Piece::Mark(b")"), pop(w, base)));
     }

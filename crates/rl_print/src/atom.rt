@@ -4,12 +4,14 @@ ghost use Rattle.std.specs.Fmt.{signed_decimal};
 ghost use Rattle.rl_cells.specs.Cell.{Cell, bytes_of, is_str};
 ghost use Rattle.rl_num.specs.Number.{integer_of, is_integer_value};
 ghost use Rattle.rl_syms.specs.Contents.{value_of};
-ghost use Rattle.rl_syms.specs.Table.{IsTable, name_in_cells};
+ghost use Rattle.rl_syms.specs.Numbers.{numbered_name};
+ghost use Rattle.rl_syms.specs.Table.{IsTable};
 ghost use Rattle.rl_tree.specs.Atoms.{atom_text, doubled, escaped, is_bare};
 ghost use Rattle.rl_print.specs.AtomText.{is_atom, pending_text, plain_text, quoted_from, style_of, text_left};
 
 use rl_cells::Cells;
 use rl_num::decimal;
+use rl_syms::laws::names_are_numbered;
 use rl_tags::{Tag, Val};
 use rl_world::World;
 
@@ -34,14 +36,14 @@ pub struct AtomText {
 impl AtomText {
     /// The text by PRIN1.
     pub fn of(a: Val) -> AtomText
-        ensures text { (cells : List Cell) → text_left cells result ≡ atom_text (style_of Style.Prin1) (name_in_cells cells) (value_of cells a) }
+        ensures text { (cells : List Cell) → text_left cells result ≡ atom_text (style_of Style.Prin1) (numbered_name cells) (value_of cells a) }
         ensures atom { result.atom ≡ a }
     {
         AtomText::styled(a, Style::Prin1)
     }
 
     pub(crate) fn styled(a: Val, style: Style) -> AtomText
-        ensures text { (cells : List Cell) → text_left cells result ≡ atom_text (style_of style) (name_in_cells cells) (value_of cells a) }
+        ensures text { (cells : List Cell) → text_left cells result ≡ atom_text (style_of style) (numbered_name cells) (value_of cells a) }
         ensures atom { result.atom ≡ a }
     {
         let is_quoted = style == Style::Prin1 && a.tag() == Tag::Str;
@@ -152,6 +154,7 @@ fn byte_at(w: &World, a: Val, at: u64) -> Option<u8>
     ensures byte { result ≡ slice_get (plain_text w.now.cells.cells a) at }
     ensures within { OnSome result (at < 2 ^ 32) }
 {
+    names_are_numbered();
     match a.tag() {
         Tag::Id => string_byte_at(&w.cells, w.syms.name(&w.cells, a), at),
         Tag::Str => string_byte_at(&w.cells, a, at),

@@ -2,7 +2,8 @@
 ghost use Rattle.std.specs.Prelude.{◌≡◌, ◌+◌, ◌-◌, ◌^◌, ◌&&◌, ◌++◌, ℕ, [], fold, length, min, nat_lt, IsTrue, OnOk, OnErr, IfErr};
 ghost use Rattle.rl_io.specs.Faults.{Rose};
 ghost use Rattle.rl_syms.specs.Contents.{value_of};
-ghost use Rattle.rl_syms.specs.Table.{IsTable, name_in_cells};
+ghost use Rattle.rl_syms.specs.Numbers.{numbered_name};
+ghost use Rattle.rl_syms.specs.Table.{IsTable};
 ghost use Rattle.rl_tree.specs.Atoms.{atom_text};
 ghost use Rattle.rl_tree.specs.Printing.{column_with, with_atom};
 ghost use Rattle.rl_world.specs.Waiting.{Follows, IsCutOff};
@@ -49,9 +50,9 @@ pub(crate) fn put_atom<I: Source, O: Sink, N: Sink, F: Files>(
 ) -> Result<(), Stop>
     requires table { IsTable w.old.cells.cells w.old.syms.head }
     requires atom { IsTrue (is_atom w.old.cells.cells a) }
-    ensures ok { OnOk result (Follows (O.contents io.old.out.now) w.old.output.waiting (O.contents io.new.out.now) w.new.output.waiting (with_atom w.old.output.line_length (record { text = []; column = w.old.output.column }) (atom_text (style_of style) (name_in_cells w.old.cells.cells) (value_of w.old.cells.cells a))).text) }
-    ensures column { OnOk result (w.new.output.column ≡ (with_atom w.old.output.line_length (record { text = []; column = w.old.output.column }) (atom_text (style_of style) (name_in_cells w.old.cells.cells) (value_of w.old.cells.cells a))).column) }
-    ensures front { OnErr result (IsCutOff (O.contents io.old.out.now) (O.contents io.new.out.now) (w.old.output.waiting ++ (with_atom w.old.output.line_length (record { text = []; column = w.old.output.column }) (atom_text (style_of style) (name_in_cells w.old.cells.cells) (value_of w.old.cells.cells a))).text)) }
+    ensures ok { OnOk result (Follows (O.contents io.old.out.now) w.old.output.waiting (O.contents io.new.out.now) w.new.output.waiting (with_atom w.old.output.line_length (record { text = []; column = w.old.output.column }) (atom_text (style_of style) (numbered_name w.old.cells.cells) (value_of w.old.cells.cells a))).text) }
+    ensures column { OnOk result (w.new.output.column ≡ (with_atom w.old.output.line_length (record { text = []; column = w.old.output.column }) (atom_text (style_of style) (numbered_name w.old.cells.cells) (value_of w.old.cells.cells a))).column) }
+    ensures front { OnErr result (IsCutOff (O.contents io.old.out.now) (O.contents io.new.out.now) (w.old.output.waiting ++ (with_atom w.old.output.line_length (record { text = []; column = w.old.output.column }) (atom_text (style_of style) (numbered_name w.old.cells.cells) (value_of w.old.cells.cells a))).text)) }
     ensures dropped { OnErr result (w.new.output.waiting ≡ []) }
     ensures stop { IfErr result (λ s. s ≡ stop.Write) }
     ensures failed { OnErr result (Rose (O.faults io.old.out.now) (O.faults io.new.out.now)) }

@@ -3,8 +3,9 @@ use Rattle.std.specs.Prelude.{◌≡◌, ℕ, ◌-◌, Bool, true, List, ◌++�
 use Rattle.rl_tags.specs.Tagged.{Tagged, PairAt, index_of}
 use Rattle.rl_tags.specs.Ids.{nil_id}
 use Rattle.rl_cells.specs.Cell.{Cell, PairCell, is_live, is_pair, car_of, cdr_of, placed}
-use Rattle.rl_syms.specs.Table.{IsTable, IsNamed, name_in_cells, nil_value}
-use Rattle.rl_syms.specs.Contents.{value_of, store_of}
+use Rattle.rl_syms.specs.Table.{IsTable, IsNamed, nil_value}
+use Rattle.rl_syms.specs.Contents.{ids_before, value_of, store_of}
+use Rattle.rl_syms.specs.Numbers.{numbered_name}
 use Rattle.rl_tree.specs.Name.{nil_name}
 use Rattle.rl_text.specs.Datum.{Datum, Pair}
 use Rattle.rl_text.specs.Stored.{IsStored}
@@ -36,7 +37,7 @@ pub record ReadsData : Type 0 where
 -- a value that is a datum means it, in the store that the cells mean
 abbrev pub MeansDatum : Type 0
 MeansDatum = (cells : List Cell) (head : Option Tagged) (v : Tagged) → IsTable cells head → IsNamed cells head nil_name nil_value → IsDatum cells head v
-    → IsStored (store_of cells) (name_in_cells cells) (index_of nil_id) (value_of cells v) (datum_of cells v)
+    → IsStored (store_of cells) (numbered_name cells) (ids_before cells (index_of nil_id)) (value_of cells v) (datum_of cells v)
 
 -- a new pair of data is the pair of them, and leaves all others; the parts of a pair that is a datum are the parts of that datum
 pub record PairsAreData : Type 0 where

@@ -3,7 +3,8 @@ ghost use Rattle.rl_read.specs.Laws.{MeansDatum, PairsAreData, ReadsData, ReadsT
 
 use rl_cells::laws::{objects_are_added, objects_are_changed};
 use rl_syms::laws::{
-    meaning_of_reading, names_are_identifiers, names_enter, others_leave_blocks, table_is_kept,
+    identifiers_are_numbered, meaning_of_reading, names_are_identifiers, names_are_numbered,
+    names_enter, others_leave_blocks, table_is_kept,
 };
 use rl_text::laws::{blank_text_has_none, unreadable_at_first_byte, what_is_found_is_spelled};
 
@@ -23,6 +24,8 @@ pub fn data_are_stored()
     ensures { MeansDatum }
 {
     meaning_of_reading();
+    identifiers_are_numbered();
+    names_are_numbered();
 }
 
 /// A new pair of data is the pair of them and leaves all other data, and the parts of a pair that is a datum are the parts

@@ -25,7 +25,7 @@ objects_new law s name plist next h k =
       | after l e ↦ ap is_name_cell e
     ]
 
-blank_words : (text : Tagged) (next : Option Tagged) → IsBlank (symbol_of (new_words text nil_value next))
+pub blank_words : (text : Tagged) (next : Option Tagged) → IsBlank (symbol_of (new_words text nil_value next))
 blank_words text next = record { value = refl; plist = refl; definition = refl; kind = refl }
 
 pub entered_known : IsAdded → (old new : CellStore) (head : Option Tagged) (name : List ℕ) (id : Tagged) → 1 ≤ length name → length name ≤ 255 → IsChained old.cells head → new ≡ with_id old name nil_value head → id ≡ new_id old name

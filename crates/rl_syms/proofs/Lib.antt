@@ -15,3 +15,4 @@ pub mod Left
 pub mod Numbers
 pub mod Kept
 pub mod NamesByNumber
+pub mod Naming

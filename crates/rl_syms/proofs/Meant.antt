@@ -105,7 +105,7 @@ vector_read cells (VectorAt k) h =
 vector_read cells v h = cc
 
 -- the cells after the first of a new object begin none
-rest_empty : (f : Tagged → Value) (n : ℕ) → flat_map (object_in f) (replicate n More) ≡ []
+pub rest_empty : (f : Tagged → Value) (n : ℕ) → flat_map (object_in f) (replicate n More) ≡ []
 rest_empty f zero = refl
 rest_empty f (suc n) = rest_empty f n
 
@@ -132,7 +132,7 @@ object_meant cells c closed live = object_made (value_of cells) (value_of (cells
 pub pair_meant : (cells : List Cell) (a d : Tagged) → IsClosed cells → is_live cells a ≡ true → is_live cells d ≡ true → store_of (cells ++ placed (PairCell a d)) ≡ cons_store (store_of cells) (value_of cells a) (value_of cells d)
 pair_meant cells a d closed la ld = object_meant cells (PairCell a d) closed (rw (la, ld) refl)
 
-none_in : (f : Tagged → Value) (c : Cell) → object_count c ≡ 0 → object_in f c ≡ []
+pub none_in : (f : Tagged → Value) (c : Cell) → object_count c ≡ 0 → object_in f c ≡ []
 none_in f (PairCell a d) h = cc
 none_in f (VectorCell xs) h = cc
 none_in f (StrCell bytes) h = refl
@@ -149,3 +149,12 @@ next_number cells c = ap objects_among (take-append_seam cells (placed c)) ∙ s
 
 pub new_cell : (cells : List Cell) (c : Cell) → cell_at (cells ++ placed c) (length cells) ≡ c
 new_cell cells c = get_or-append_seam cells c (replicate (cost_of c - 1) More) More
+
+-- a function behind the others
+pub function_named : (cells more : List Cell) → length cells < 2 ^ 32 → value_of (cells ++ more) (FunAt (length cells)) ≡ Fun (funs_before cells (length cells)) 0
+function_named cells more l =
+    let low : length cells % 2 ^ 32 ≡ length cells = omega (arith, l) in
+    let high : length cells / 2 ^ 32 ≡ 0 = omega (arith, l) in
+    ap (λ k. Fun (funs_before (cells ++ more) k) (length cells / 2 ^ 32)) low
+    ∙ ap (Fun (funs_before (cells ++ more) (length cells))) high
+    ∙ ap (λ f. Fun f 0) (funs_numbered.stays cells more (length cells) (omega arith))

@@ -1,5 +1,5 @@
 -- The table after a new identifier.
-use Rattle.std.proofs.Common.{◌≡◌, ℕ, ◌+◌, ◌*◌, ◌/◌, ◌%◌, ◌<◌, ◌≤◌, Bool, true, false, List, ◌++◌, length, get_or, Option, Some, None, refl, sym, ap, ◌∙◌, arith, inl, inr}
+use Rattle.std.proofs.Common.{◌≡◌, ℕ, ◌+◌, ◌*◌, ◌/◌, ◌%◌, ◌<◌, ◌≤◌, ◌⊎◌, Bool, true, false, List, ◌++◌, length, get_or, Option, Some, None, refl, sym, ap, ◌∙◌, arith, inl, inr}
 use Rattle.std.proofs.lemmas.List.{get_or_past}
 use Rattle.std.proofs.lemmas.Bool.{cases_lt, cases_order}
 use Rattle.std.specs.Prelude.{IsSome}
@@ -108,6 +108,23 @@ with_id_block law s name plist next =
 not_id : (c d : Cell) → c ≡ d → is_id_cell d ≡ false → is_id_cell c ≡ true → ⊥
 not_id c d e f h = let z : true ≡ false = sym h ∙ ap is_id_cell e ∙ f in cc
 
+-- no other identifier is new
+pub with_id_alone : IsAdded → (s : CellStore) (name : List ℕ) (plist : Tagged) (next : Option Tagged) (k : ℕ) → is_id_cell (cell_at (with_id s name plist next).cells k) ≡ true → (k ≡ length s.cells + cost_of (StrCell name)) ⊎ (is_id_cell (cell_at s.cells k) ≡ true)
+with_id_alone law s name plist next k h =
+    let words = new_words (StrAt (length s.cells)) plist next in
+    let first = s.cells ++ placed (StrCell name) in
+    let new = first ++ placed (BlockCell tag.Id words) in
+    let long : length first ≡ length s.cells + cost_of (StrCell name) = law.long s.cells (StrCell name) (omega arith) in
+    elim (where_is law first (BlockCell tag.Id words) k) [
+      | before l e ↦ elim (where_is law s.cells (StrCell name) k) [
+        | before m f ↦ inr (ap is_id_cell (sym f) ∙ ap is_id_cell (sym e) ∙ h)
+        | here m f ↦ absurd (not_id (cell_at new k) (StrCell name) (e ∙ f) refl h)
+        | after m f ↦ absurd (not_id (cell_at new k) More (e ∙ f) refl h)
+      ]
+      | here l e ↦ inl (l ∙ long)
+      | after l e ↦ absurd (not_id (cell_at new k) More e refl h)
+    ]
+
 pub with_id_new : IsAdded → (s : CellStore) (name : List ℕ) (plist : Tagged) (next : Option Tagged) → 1 ≤ length name → length name ≤ 255 → IsSome (held_in (word_of plist)) → IsLink s.cells (rank_of next) next
     → IsNew s.cells (with_id s name plist next).cells next name (length s.cells + cost_of (StrCell name))
 with_id_new law s name plist next some short listed link =
@@ -134,14 +151,6 @@ with_id_new law s name plist next some short listed link =
       listed = rw block listed;
       next = ap (λ c. held_in (get_or (words_in c) 5 0)) block ∙ held_link s.cells (rank_of next) next link;
       above = omega arith;
-      alone = λ k h. elim (where_is law first (BlockCell tag.Id words) k) [
-        | before l e ↦ elim (where_is law s.cells (StrCell name) k) [
-          | before m f ↦ inr (ap is_id_cell (sym f) ∙ ap is_id_cell (sym e) ∙ h)
-          | here m f ↦ absurd (not_id (cell_at new k) (StrCell name) (e ∙ f) refl h)
-          | after m f ↦ absurd (not_id (cell_at new k) More (e ∙ f) refl h)
-        ]
-        | here l e ↦ inl (l ∙ long)
-        | after l e ↦ absurd (not_id (cell_at new k) More e refl h)
-      ];
+      alone = with_id_alone law s name plist next;
       same = λ k h. ap words_in (adds.stands k (within s.cells k h));
     }

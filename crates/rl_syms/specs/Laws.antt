@@ -1,10 +1,11 @@
 -- What the crates above may say of the table, and of what cells mean.
-use Rattle.std.specs.Prelude.{◌≡◌, ℕ, ℤ, ◌<◌, ◌≤◌, true, List, ◌++◌, length, map, slice_get, slice_set, Option, Some, None}
+use Rattle.std.specs.Prelude.{◌≡◌, ℕ, ℤ, ◌^◌, ◌<◌, ◌≤◌, true, List, ◌++◌, length, map, slice_get, slice_set, Option, Some, None}
 use Rattle.std.specs.List.{list_all}
-use Rattle.rl_tags.specs.Tagged.{Tagged, StrAt, PairAt, VectorAt, BigAt, index_of}
-use Rattle.rl_cells.specs.Cell.{Cell, CellStore, PairCell, StrCell, VectorCell, BigCell, IsClosed, is_live, is_id_cell, is_pair, is_vector, car_of, cdr_of, vector_of, cell_at, block_with, changed_at, placed}
-use Rattle.rl_tree.specs.Value.{Int, Str, Ref, Object, Pair, Vector, new_value, cons_store, cons_value, vector_store, changed_store}
-use Rattle.rl_syms.specs.Contents.{object_count, number_at, value_of, store_of}
+use Rattle.rl_tags.specs.declared.Tag.TheVariants as tag
+use Rattle.rl_tags.specs.Tagged.{Tagged, FunAt, StrAt, PairAt, VectorAt, BigAt, index_of}
+use Rattle.rl_cells.specs.Cell.{Cell, CellStore, PairCell, StrCell, VectorCell, BigCell, BlockCell, IsClosed, is_live, is_id_cell, is_pair, is_vector, car_of, cdr_of, vector_of, cell_at, block_with, changed_at, placed}
+use Rattle.rl_tree.specs.Value.{Fun, Int, Str, Ref, Object, Pair, Vector, new_value, cons_store, cons_value, vector_store, changed_store}
+use Rattle.rl_syms.specs.Contents.{funs_before, object_count, number_at, value_of, store_of}
 use Rattle.rl_syms.specs.Table.{IsTable, IsNamed, IsFree, is_id, name_in_cells, nil_value, symbol_in_cells}
 use Rattle.rl_syms.specs.Made.{new_id, with_id}
 use Rattle.rl_syms.specs.Frame.{Adds, KeepsBlocks, block_in}
@@ -47,15 +48,17 @@ abbrev pub NamesEnter : Type 0
 NamesEnter = (s : CellStore) (head : Option Tagged) (name : List ℕ) → 1 ≤ length name → length name ≤ 255 → IsTable s.cells head → IsFree s.cells head name
     → GainsName s.cells (with_id s name nil_value head).cells head (Some (new_id s name)) name (new_id s name)
 
--- when an object is made, what lives means what it meant; a new pair or vector is the next object of the store, by a value that names it; a new string or wide integer means what it holds; and where neither a pair nor a vector is made, the store stays
+-- when an object is made, what lives means what it meant; a new pair or vector is the next object of the store, by a value that names it; a new string or wide integer means what it holds, and a new function has the next number; and where neither a pair nor a vector is made, the store stays
 pub record MakesMeaning : Type 0 where
   pub values : (cells : List Cell) (c : Cell) (v : Tagged) → is_live cells v ≡ true → value_of (cells ++ placed c) v ≡ value_of cells v
+  pub grows : (cells more : List Cell) (v : Tagged) → is_live cells v ≡ true → value_of (cells ++ more) v ≡ value_of cells v
   pub pair : (cells : List Cell) (a d : Tagged) → IsClosed cells → is_live cells a ≡ true → is_live cells d ≡ true → store_of (cells ++ placed (PairCell a d)) ≡ cons_store (store_of cells) (value_of cells a) (value_of cells d)
   pub pair_named : (cells : List Cell) (a d : Tagged) → value_of (cells ++ placed (PairCell a d)) (PairAt (length cells)) ≡ cons_value (store_of cells)
   pub vector : (cells : List Cell) (xs : List Tagged) → IsClosed cells → list_all (is_live cells) xs ≡ true → store_of (cells ++ placed (VectorCell xs)) ≡ vector_store (store_of cells) (map (value_of cells) xs)
   pub vector_named : (cells : List Cell) (xs : List Tagged) → value_of (cells ++ placed (VectorCell xs)) (VectorAt (length cells)) ≡ new_value (store_of cells)
   pub string_named : (cells : List Cell) (bytes : List ℕ) → value_of (cells ++ placed (StrCell bytes)) (StrAt (length cells)) ≡ Str bytes
   pub big_named : (cells : List Cell) (z : ℤ) → value_of (cells ++ placed (BigCell z)) (BigAt (length cells)) ≡ Int z
+  pub function_named : (cells : List Cell) (words : List ℕ) → length cells < 2 ^ 32 → value_of (cells ++ placed (BlockCell tag.Fun words)) (FunAt (length cells)) ≡ Fun (funs_before cells (length cells)) 0
   pub others : (cells : List Cell) (c : Cell) → IsClosed cells → object_count c ≡ 0 → store_of (cells ++ placed c) ≡ store_of cells
 
 -- every value means what it meant, and the objects are as they were

@@ -1,5 +1,5 @@
 -- What making and changing objects does to the store, for any reading of the values in them.
-use Rattle.std.specs.Prelude.{◌≡◌, ℕ, ◌+◌, ◌⊎◌, true, List, [], ◌∷◌, ◌++◌, length, slice_get, slice_set, Option, Some}
+use Rattle.std.specs.Prelude.{◌≡◌, ℕ, ◌+◌, ◌≤◌, ◌⊎◌, true, List, [], ◌∷◌, ◌++◌, length, slice_get, slice_set, Option, Some}
 use Rattle.rl_tags.specs.Tagged.{Tagged, index_of}
 use Rattle.rl_cells.specs.Cell.{Cell, CellStore, IsClosed, cell_at, is_closed_cell, is_id_cell, is_live, placed}
 use Rattle.rl_tree.specs.Value.{Value, Id, Object, changed_store}
@@ -33,4 +33,4 @@ pub record NamingMeans : Type 0 where
   pub only : (s : CellStore) (name : List ℕ) (link : Option Tagged) (k : ℕ) → is_id_cell (cell_at (with_id s name nil_value link).cells k) ≡ true → (k ≡ index_of (new_id s name)) ⊎ (is_id_cell (cell_at s.cells k) ≡ true)
   pub blank : (s : CellStore) (name : List ℕ) (link : Option Tagged) → IsBlank (symbol_in_cells (with_id s name nil_value link).cells (index_of (new_id s name)))
   pub chain : (s : CellStore) (name : List ℕ) (link head : Option Tagged) → IsTable s.cells head → ids_from (with_id s name nil_value link).cells head ≡ ids_from s.cells head
-  pub entered : (s : CellStore) (name : List ℕ) (head : Option Tagged) → IsTable s.cells head → ids_from (with_id s name nil_value head).cells (Some (new_id s name)) ≡ index_of (new_id s name) ∷ ids_from s.cells head
+  pub entered : (s : CellStore) (name : List ℕ) (head : Option Tagged) → 1 ≤ length name → length name ≤ 255 → IsTable s.cells head → ids_from (with_id s name nil_value head).cells (Some (new_id s name)) ≡ index_of (new_id s name) ∷ ids_from s.cells head

@@ -81,3 +81,10 @@ pub fn functions_are_numbered()
 pub fn names_are_numbered()
     ensures { NamesAreNumbered }
 {}
+
+/// A new identifier has the next number. It is blank, and all else means what it meant.
+pub fn meaning_of_naming()
+    ensures { NamingMeans }
+{
+    objects_are_added();
+}

@@ -1,7 +1,7 @@
 //! The identifiers that opening makes.
 ghost use Rattle.std.specs.Prelude.{◌≡◌, ◌+◌, ◌*◌, ◌<◌, ◌≤◌, ◌∷◌, ◌⊎◌, ℕ, [], List, None, length, IsTrue, IsOk, IfOk, OnOk};
 ghost use Rattle.rl_tags.specs.Tagged.{Tagged, IdAt};
-ghost use Rattle.rl_tags.specs.Opening.{name_at, place_of};
+ghost use Rattle.rl_tags.specs.Opening.{name_at, names_at_opening, place_of};
 ghost use Rattle.rl_cells.specs.Cell.{has_room};
 ghost use Rattle.rl_syms.specs.Table.{IsTable, IsNamed, nil_value};
 ghost use Rattle.rl_syms.specs.Made.{IsOpening, Finds, Enters, new_id, with_id};
@@ -15,21 +15,23 @@ use rl_tags::{OPENING_NAMES, Val, opening_name};
 use std::alloc::Global;
 
 impl Syms {
-    /// The table of names, with the identifiers that opening makes, in cells that nothing was taken from: each name that
-    /// has a constant is that value, and all names of one byte are interned, and no others. They have neither value nor
-    /// definition, and NIL as their property list. No other objects are made. It takes 2,115 cells at most, five for each
-    /// name, and no memory, so it never fails.
+    /// The table of names, with the identifiers that opening makes, in cells that nothing was taken from: the names that
+    /// have a constant, in their order, and behind them those names of one byte that are not among them, from 0 to 255.
+    /// Each is at its place, so that each that has a constant is that value, and is the identifier of its number. They have
+    /// neither value nor definition, and NIL as their property list. Nothing else is made. It takes 2,110 cells, five for
+    /// each name, and no memory, so it never fails.
     pub fn open(_alloc: Global, c: &mut Cells) -> Result<Syms, OutOfMemory>
         requires empty { c.old.cells ≡ [] }
         requires opening { IsOpening c.old c.old.bound }
         ensures ok { IsOk result }
         ensures table { IfOk result (λ s. IsTable c.new.cells s.head) }
+        ensures first { IfOk result (λ s. HasFirst (length names_at_opening) c.new s.head) }
         ensures names { IfOk result (λ s. (i : ℕ) → i < OPENING_NAMES → IsNamed c.new.cells s.head (name_at i) (IdAt (place_of i))) }
         ensures bytes { IfOk result (λ s. (b : ℕ) → b < 256 → (id : Tagged) × IsNamed c.new.cells s.head (b ∷ []) id) }
         ensures made { IfOk result (λ s. s.made ≡ 0) }
         ensures opening { OnOk result (IsOpening c.new c.old.bound) }
         ensures opened { IfOk result (λ s. IsOpened c.new.cells s.head) }
-        ensures long { length c.new.cells ≤ 2115 }
+        ensures long { length c.new.cells ≡ 2110 }
     {
         rl_cells::laws::objects_are_added();
         let id = first(c);
@@ -47,11 +49,11 @@ impl Syms {
         requires table { IsTable c.old.cells self.old.head }
         requires opening { IsOpening c.old c.old.bound }
         requires opened { IsOpened c.old.cells self.old.head }
-        requires first { HasFirst 1 c.old.cells self.old.head }
+        requires first { HasFirst 1 c.old self.old.head }
         ensures table { IsTable c.new.cells self.new.head }
         ensures opening { IsOpening c.new c.old.bound }
         ensures opened { IsOpened c.new.cells self.new.head }
-        ensures first { HasFirst OPENING_NAMES c.new.cells self.new.head }
+        ensures first { HasFirst OPENING_NAMES c.new self.new.head }
         ensures made { self.new.made ≡ self.old.made }
     {
         rl_cells::laws::objects_are_added();
@@ -65,15 +67,14 @@ impl Syms {
         requires table { IsTable c.old.cells self.old.head }
         requires opening { IsOpening c.old c.old.bound }
         requires opened { IsOpened c.old.cells self.old.head }
-        requires first { HasFirst OPENING_NAMES c.old.cells self.old.head }
+        requires first { HasFirst OPENING_NAMES c.old self.old.head }
         ensures table { IsTable c.new.cells self.new.head }
-        ensures names { (i : ℕ) → i < OPENING_NAMES → IsNamed c.new.cells self.new.head (name_at i) (IdAt (place_of i)) }
-        ensures bytes { (b : ℕ) → b < 256 → (id : Tagged) × IsNamed c.new.cells self.new.head (b ∷ []) id }
+        ensures first { HasFirst (length names_at_opening) c.new self.new.head }
         ensures opening { IsOpening c.new c.old.bound }
         ensures opened { IsOpened c.new.cells self.new.head }
-        ensures long { length c.new.cells ≤ 5 * (OPENING_NAMES + 256) }
         ensures made { self.new.made ≡ self.old.made }
     {
+        rl_cells::laws::objects_are_added();
         for byte in 0..256u32 {
             self.intern_short(c, &[byte as u8]);
         }

@@ -39,7 +39,7 @@ returns-in_default c =
     let p = c.pop-in_default in
     record {
       ok = record {
-        means = λ style text. done_means c.args.base c.args.w.now p.new.w p.result (walk_place_in cells (cursor.Rest c.args.d)) style (dotted_atom (setting_in_world style c.args.w.now) (value_of cells c.args.d)) text p.ensures.world (p.ensures.means style) (atom_is_last style c.args.w.now c.args.d text atom other) refl
+        means = λ style text. done_means c.args.base c.args.w.now p.new.w p.result (walk_place_in cells (cursor.Rest c.args.d)) style (dotted_atom (setting_in_world style c.args.w.now) (value_of cells c.args.d)) text p.ensures.world (p.ensures.means style) (atom_is_last c.identifiers_are_numbered.ensures style c.args.w.now c.args.d text c.requires.ready.table.nil atom other) refl
             ∙ ap (λ (w : World). continued style p.new.w c.args.base p.result (dotted_atom (setting_in_world style w) (value_of w.cells.cells c.args.d) (progress_in_world p.new.w text))) (sym p.ensures.world);
         ready = p.ensures.ready;
         next_is = p.ensures.next;

@@ -9,6 +9,6 @@ invariant-loop-number l = record {
   table : IsTable l.c.cells l.self.head;
   opening : IsOpening l.c l.fn.c.bound;
   opened : IsOpened l.c.cells l.self.head;
-  first : HasFirst l.number l.c.cells l.self.head;
+  first : HasFirst l.number l.c l.self.head;
   made : l.self.made ≡ l.fn.self.made;
 }
