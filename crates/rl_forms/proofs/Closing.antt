@@ -13,6 +13,7 @@ use Rattle.rl_text.specs.Laws.{FindsSpelled, FindsNone}
 use Rattle.rl_world.specs.Output.{Output}
 use Rattle.rl_world.specs.Waiting.{Follows, IsCutOff}
 use Rattle.rl_world.specs.declared.world.World.{World}
+use Rattle.rl_print.specs.Laws.{PiecesGoOn}
 use Rattle.rl_forms.specs.BuiltForms.{page_after}
 use Rattle.rl_forms.specs.Meaning.{Meaning, Finished, Unbuilt, data_in, file_meaning, meaning_of_forms, nothing_printed, empty_page, IsUnbuilt}
 use Rattle.rl_forms.specs.KnownData.{IsBeginning, datum_in}
@@ -28,7 +29,6 @@ use Rattle.rl_forms.specs.declared.run.Ending.{Ending}
 use Rattle.rl_forms.specs.declared.run.Ending.TheVariants as ending
 use Rattle.rl_forms.specs.declared.run.Ending.TheVariants.{Done, WriteFault, OutOfMemory}
 use Rattle.rl_forms.proofs.Finding.{spelled_found}
-use Rattle.rl_forms.proofs.Waited.{follows_more, cut_more, cut_longer}
 
 -- ---- fronts
 
@@ -38,13 +38,13 @@ follows_all None new text h = tt
 follows_all (Some x) None text h = absurd h
 follows_all (Some x) (Some y) text h = h.1 ∙ ap (λ t. x ++ t) (sym (append-nil (take h.0 text)) ∙ (ap (λ t. take h.0 text ++ t) h.2 ∙ take-append-drop h.0 text))
 
-front_of : (old new : Option (List ℕ)) (bytes rest text : List ℕ) → IsCutOff old new bytes → text ≡ bytes ++ rest → AppendedFront old new text
-front_of old new bytes rest text h e = rw e (cut_longer old new [] bytes rest h)
+front_of : PiecesGoOn → (old new : Option (List ℕ)) (bytes rest text : List ℕ) → IsCutOff old new bytes → text ≡ bytes ++ rest → AppendedFront old new text
+front_of law old new bytes rest text h e = rw e (law.longer old new [] bytes rest h)
 
 -- what waited was written, all or less
-flushed_front : (a b c : Option (List ℕ)) (y bytes : List ℕ) → Follows a [] b y bytes → IsCutOff b c y → IsCutOff a c bytes
-flushed_front a b c y bytes p q =
-    let whole : IsCutOff a c (bytes ++ []) = cut_more a b c [] y bytes [] p (rw (append-nil y) q) in
+flushed_front : PiecesGoOn → (a b c : Option (List ℕ)) (y bytes : List ℕ) → Follows a [] b y bytes → IsCutOff b c y → IsCutOff a c bytes
+flushed_front law a b c y bytes p q =
+    let whole : IsCutOff a c (bytes ++ []) = law.cut a b c [] y bytes [] p (rw (append-nil y) q) in
     rw (append-nil bytes) at whole
 
 -- ---- what the forms print, on an empty page
@@ -69,23 +69,23 @@ front_bytes w vs bytes is h =
 
 -- ---- how a run ends
 
-pub done : (a b c : Option (List ℕ)) (w v : World) (vs : List Tagged) → IsBeginning w → PrintsOnPage a b w.output.waiting v.output.waiting (page_of_forms w vs) (λ t. Some (page_in v t)) → Follows b v.output.waiting c [] [] → Appended a c (output_of w vs)
-done a b c w v vs is p q =
-    let whole : Follows a [] c [] (p.bytes ++ []) = follows_more a b c [] v.output.waiting [] p.bytes [] (rw is.waiting at p.follows) q in
+pub done : PiecesGoOn → (a b c : Option (List ℕ)) (w v : World) (vs : List Tagged) → IsBeginning w → PrintsOnPage a b w.output.waiting v.output.waiting (page_of_forms w vs) (λ t. Some (page_in v t)) → Follows b v.output.waiting c [] [] → Appended a c (output_of w vs)
+done law a b c w v vs is p q =
+    let whole : Follows a [] c [] (p.bytes ++ []) = law.follows a b c [] v.output.waiting [] p.bytes [] (rw is.waiting at p.follows) q in
     rw (all_bytes a b w v vs is p, ← append-nil p.bytes) (follows_all a c (p.bytes ++ []) whole)
 
-pub cut_at_end : (a b c : Option (List ℕ)) (w v : World) (vs : List Tagged) → IsBeginning w → PrintsOnPage a b w.output.waiting v.output.waiting (page_of_forms w vs) (λ t. Some (page_in v t)) → IsCutOff b c v.output.waiting → AppendedFront a c (output_of w vs)
-cut_at_end a b c w v vs is p q = rw (all_bytes a b w v vs is p) (flushed_front a b c v.output.waiting p.bytes (rw is.waiting at p.follows) q)
+pub cut_at_end : PiecesGoOn → (a b c : Option (List ℕ)) (w v : World) (vs : List Tagged) → IsBeginning w → PrintsOnPage a b w.output.waiting v.output.waiting (page_of_forms w vs) (λ t. Some (page_in v t)) → IsCutOff b c v.output.waiting → AppendedFront a c (output_of w vs)
+cut_at_end law a b c w v vs is p q = rw (all_bytes a b w v vs is p) (flushed_front law a b c v.output.waiting p.bytes (rw is.waiting at p.follows) q)
 
-pub halted : (a b c : Option (List ℕ)) (w v : World) (vs : List Tagged) → IsBeginning w → HaltsPage a b w.output.waiting v.output.waiting (page_of_forms w vs) → IsCutOff b c v.output.waiting → AppendedFront a c (output_of w vs)
-halted a b c w v vs is h q =
+pub halted : PiecesGoOn → (a b c : Option (List ℕ)) (w v : World) (vs : List Tagged) → IsBeginning w → HaltsPage a b w.output.waiting v.output.waiting (page_of_forms w vs) → IsCutOff b c v.output.waiting → AppendedFront a c (output_of w vs)
+halted law a b c w v vs is h q =
     let front = front_bytes w vs h.bytes is h.front in
-    front_of a c h.bytes front.0 (output_of w vs) (flushed_front a b c v.output.waiting h.bytes (rw is.waiting at h.follows) q) front.1
+    front_of law a c h.bytes front.0 (output_of w vs) (flushed_front law a b c v.output.waiting h.bytes (rw is.waiting at h.follows) q) front.1
 
-pub cut_off : (a c : Option (List ℕ)) (w : World) (vs : List Tagged) → IsBeginning w → CutsPage a c w.output.waiting (page_of_forms w vs) → AppendedFront a c (output_of w vs)
-cut_off a c w vs is h =
+pub cut_off : PiecesGoOn → (a c : Option (List ℕ)) (w : World) (vs : List Tagged) → IsBeginning w → CutsPage a c w.output.waiting (page_of_forms w vs) → AppendedFront a c (output_of w vs)
+cut_off law a c w vs is h =
     let front = front_bytes w vs h.bytes is h.front in
-    front_of a c h.bytes front.0 (output_of w vs) (rw is.waiting at h.cut) front.1
+    front_of law a c h.bytes front.0 (output_of w vs) (rw is.waiting at h.cut) front.1
 
 -- a sink that takes all has no faults
 pub rose_out : (a b : ℕ) → Rose a b ⊎ Rose 0 0 → Rose a b

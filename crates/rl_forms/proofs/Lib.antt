@@ -1,7 +1,6 @@
 pub mod Keeping
 pub mod Memories
 pub mod Built
-pub mod Waited
 pub mod Paging
 pub mod Testing
 pub mod Evaluating

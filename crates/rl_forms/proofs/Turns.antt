@@ -9,6 +9,7 @@ use Rattle.rl_tags.specs.Ids.{nil_id}
 use Rattle.rl_tree.specs.Printing.{Page}
 use Rattle.rl_text.specs.Datum.{Datum, Id, Pair, nil, quoted}
 use Rattle.rl_world.specs.declared.world.World.{World}
+use Rattle.rl_print.specs.Laws.{PiecesGoOn}
 use Rattle.rl_world.specs.Output.{Output}
 use Rattle.rl_print.specs.AtomText.{style_of}
 use Rattle.rl_print.specs.declared.atom.Style.{Style}
@@ -256,21 +257,21 @@ all_done a b x y one w k p e = record {
   means = λ text. p.means text ∙ ap (λ tasks. page_finished (steps_of w (record { tasks = tasks; values = k.values })) (map (datum_in w) k.values) (page_in w (text ++ p.bytes))) e;
 }
 
-pub further_prints : (a b c : Option (List ℕ)) (x : List ℕ) (one : Told) (w v : World) (k l m : Stacks) → k ≡ l → PrintsOnPage a b x w.output.waiting one (page_at_end w k) → IsFurther b c w l v m → PrintsOnPage a c x v.output.waiting one (page_at_end v m)
-further_prints a b c x one w v k l m e p q = prints_trans a b c x w.output.waiting v.output.waiting one (page_at_end w k) (page_at_end v m) p (rw e q.prints)
+pub further_prints : PiecesGoOn → (a b c : Option (List ℕ)) (x : List ℕ) (one : Told) (w v : World) (k l m : Stacks) → k ≡ l → PrintsOnPage a b x w.output.waiting one (page_at_end w k) → IsFurther b c w l v m → PrintsOnPage a c x v.output.waiting one (page_at_end v m)
+further_prints law a b c x one w v k l m e p q = prints_trans law a b c x w.output.waiting v.output.waiting one (page_at_end w k) (page_at_end v m) p (rw e q.prints)
 
-pub further_halts : (a b c : Option (List ℕ)) (x z : List ℕ) (one : Told) (w : World) (k l : Stacks) → k ≡ l → PrintsOnPage a b x w.output.waiting one (page_at_end w k) → HaltsPage b c w.output.waiting z (page_at_end w l) → HaltsPage a c x z one
-further_halts a b c x z one w k l e p h = halts_behind a b c x w.output.waiting z one (page_at_end w k) p (rw e h)
+pub further_halts : PiecesGoOn → (a b c : Option (List ℕ)) (x z : List ℕ) (one : Told) (w : World) (k l : Stacks) → k ≡ l → PrintsOnPage a b x w.output.waiting one (page_at_end w k) → HaltsPage b c w.output.waiting z (page_at_end w l) → HaltsPage a c x z one
+further_halts law a b c x z one w k l e p h = halts_behind law a b c x w.output.waiting z one (page_at_end w k) p (rw e h)
 
-pub further_cut : (a b c : Option (List ℕ)) (x : List ℕ) (one : Told) (w : World) (k l : Stacks) → k ≡ l → PrintsOnPage a b x w.output.waiting one (page_at_end w k) → CutsPage b c w.output.waiting (page_at_end w l) → CutsPage a c x one
-further_cut a b c x one w k l e p h = cut_behind a b c x w.output.waiting one (page_at_end w k) p (rw e h)
+pub further_cut : PiecesGoOn → (a b c : Option (List ℕ)) (x : List ℕ) (one : Told) (w : World) (k l : Stacks) → k ≡ l → PrintsOnPage a b x w.output.waiting one (page_at_end w k) → CutsPage b c w.output.waiting (page_at_end w l) → CutsPage a c x one
+further_cut law a b c x one w k l e p h = cut_behind law a b c x w.output.waiting one (page_at_end w k) p (rw e h)
 
 pub begins : (told : Option (List ℕ)) (w : World) (vs : List Tagged) (k : Stacks) → are_built w vs ≡ true → k ≡ tasks_begun vs → PrintsOnPage told told w.output.waiting w.output.waiting (page_of_forms w vs) (page_at_end w k)
 begins told w vs k built is = quiet told w.output.waiting w.output.waiting (page_of_forms w vs) (page_at_end w k) refl (λ text. forms_begun w vs k text built is)
 
 -- before anything is done
-pub halts_first : (told : Option (List ℕ)) (w : World) (vs : List Tagged) → are_built w vs ≡ true → HaltsPage told told w.output.waiting w.output.waiting (page_of_forms w vs)
-halts_first told w vs built = halts_behind told told told w.output.waiting w.output.waiting w.output.waiting (page_of_forms w vs) (page_at_end w (tasks_begun vs)) (begins told w vs (tasks_begun vs) built refl) (quiet_halts told w (tasks_begun vs) w.output.waiting refl)
+pub halts_first : PiecesGoOn → (told : Option (List ℕ)) (w : World) (vs : List Tagged) → are_built w vs ≡ true → HaltsPage told told w.output.waiting w.output.waiting (page_of_forms w vs)
+halts_first law told w vs built = halts_behind law told told told w.output.waiting w.output.waiting w.output.waiting (page_of_forms w vs) (page_at_end w (tasks_begun vs)) (begins told w vs (tasks_begun vs) built refl) (quiet_halts told w (tasks_begun vs) w.output.waiting refl)
 
 -- built forms are evaluated to their end
 pub not_stuck : (a b : Option (List ℕ)) (x : List ℕ) (w v : World) (vs : List Tagged) (k l : Stacks) → k ≡ l → PrintsOnPage a b x v.output.waiting (page_of_forms w vs) (page_at_end v k) → IsStuck v l → ⊥

@@ -14,6 +14,7 @@ use crate::memory::cons;
 use crate::printing::{Fault, end_line, print};
 use rl_io::{Files, Io, OutOfMemory, Sink, Source};
 use rl_print::Style;
+use rl_print::laws::pieces_go_on;
 use rl_tags::{NIL, Val};
 use rl_world::World;
 use std::alloc::Global;
@@ -259,6 +260,7 @@ pub(crate) fn evaluate_all<I: Source, O: Sink, N: Sink, F: Files>(
     ensures same_out { io.new.out.ghost_name ≡ io.old.out.ghost_name }
     ensures rest { io.new ≡ record io.old { out = io.new.out } }
 {
+    pieces_go_on();
     let mut work = match Work::of(alloc, forms) {
         Ok(work) => work,
         Err(_) => return Err(Fault::NoMemory),

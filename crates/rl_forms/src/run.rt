@@ -13,6 +13,7 @@ use crate::memory::open;
 use crate::printing::Fault;
 use crate::reading::forms_in;
 use rl_io::{Files, Io, NullSink, OutOfMemory, Sink, Source};
+use rl_print::laws::pieces_go_on;
 use rl_tags::Val;
 use rl_world::World;
 use std::alloc::Global;
@@ -94,6 +95,7 @@ fn print_forms<I: Source, O: Sink, F: Files>(
     ensures same_notes { io.new.notes.ghost_name ≡ io.old.notes.ghost_name }
     ensures rest { io.new ≡ record io.old { out = io.new.out; notes = io.new.notes } }
 {
+    pieces_go_on();
     match evaluate_all(alloc, world, forms, io) {
         Ok(()) => match world.flush(io) {
             Ok(()) => Ending::Done,

@@ -1,3 +1,4 @@
 pub mod AtomText
 pub mod Counted
 pub mod Walk
+pub mod Laws

@@ -3,6 +3,7 @@
 
 mod advance;
 mod atom;
+pub mod laws;
 mod print;
 mod put;
 mod show;

@@ -4,7 +4,7 @@ use Rattle.rl_forms.proofs.Turns.{all_done, begins, begun_known, further_prints,
 use Rattle.rl_forms.proofs.evaluator.evaluate_all.Goals as goal
 
 pub returns-in-Err-clause-halts : goal.returns-in-Err-clause-halts
-returns-in-Err-clause-halts g c = λ e. halts_first _ c.args.world.now c.args.forms.now c.requires.built
+returns-in-Err-clause-halts g c = λ e. halts_first c.pieces_go_on.ensures _ c.args.world.now c.args.forms.now c.requires.built
 
 pub tasks-init : goal.tasks-init
 tasks-init g c = record {
@@ -22,7 +22,7 @@ tasks-preserved g c =
     record {
       running = c.in-Ok-true.ensures.running;
       known = h.known;
-      prints = further_prints _ _ _ _ _ c.tasks.world c.turn.new.world c.tasks.work (with_task c.in-Some.task c.next.new.self) c.turn.new.self c.in-Some.ensures c.tasks.invariant.prints h;
+      prints = further_prints c.pieces_go_on.ensures _ _ _ _ _ c.tasks.world c.turn.new.world c.tasks.work (with_task c.in-Some.task c.next.new.self) c.turn.new.self c.in-Some.ensures c.tasks.invariant.prints h;
       steady = c.in-Ok-true.ensures.steady (λ e. cc) ∙ c.tasks.invariant.steady;
       same_out = c.in-Ok-true.ensures.same_out ∙ c.tasks.invariant.same_out;
       rest = rw (c.in-Ok-true.ensures.rest, c.tasks.invariant.rest) refl;
@@ -34,10 +34,10 @@ unreachable-requires g c =
     not_stuck _ _ _ c.args.world.now c.tasks.world c.args.forms.now c.tasks.work (with_task c.in-Some.task c.next.new.self) c.in-Some.ensures c.tasks.invariant.prints h
 
 pub returns-in-Err-turn-clause-halts : goal.returns-in-Err-turn-clause-halts
-returns-in-Err-turn-clause-halts g c = λ e. further_halts _ _ _ _ _ _ c.tasks.world c.tasks.work (with_task c.in-Some.task c.next.new.self) c.in-Some.ensures c.tasks.invariant.prints (c.in-Err-turn.ensures.halts (same_fault _ _ e))
+returns-in-Err-turn-clause-halts g c = λ e. further_halts c.pieces_go_on.ensures _ _ _ _ _ _ c.tasks.world c.tasks.work (with_task c.in-Some.task c.next.new.self) c.in-Some.ensures c.tasks.invariant.prints (c.in-Err-turn.ensures.halts (same_fault _ _ e))
 
 pub returns-in-Err-turn-clause-cut : goal.returns-in-Err-turn-clause-cut
-returns-in-Err-turn-clause-cut g c = λ e. further_cut _ _ _ _ _ c.tasks.world c.tasks.work (with_task c.in-Some.task c.next.new.self) c.in-Some.ensures c.tasks.invariant.prints (c.in-Err-turn.ensures.cut (same_fault _ _ e))
+returns-in-Err-turn-clause-cut g c = λ e. further_cut c.pieces_go_on.ensures _ _ _ _ _ c.tasks.world c.tasks.work (with_task c.in-Some.task c.next.new.self) c.in-Some.ensures c.tasks.invariant.prints (c.in-Err-turn.ensures.cut (same_fault _ _ e))
 
 pub returns-in-Err-turn-clause-failed : goal.returns-in-Err-turn-clause-failed
 returns-in-Err-turn-clause-failed g c = λ e. rw (← c.tasks.invariant.steady) (c.in-Err-turn.ensures.failed (same_fault _ _ e))
