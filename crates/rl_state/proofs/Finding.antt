@@ -1,5 +1,5 @@
 -- The identifier that has a name: what the definition finds by it is what the names of a world have.
-use Rattle.std.proofs.Common.{◌≡◌, ◌≢◌, ℕ, zero, suc, ◌+◌, ◌<◌, ◌≤◌, Bool, true, false, ◌&&◌, ◌||◌, ◌==◌, List, [], ◌∷◌, length, get_or, Option, Some, None, refl, sym, ap, subst, ◌∙◌, arith, inl, inr}
+use Rattle.std.proofs.Common.{◌≡◌, ◌≢◌, ℕ, zero, suc, ◌+◌, ◌<◌, ◌≤◌, Bool, true, false, ◌&&◌, ◌||◌, ◌==◌, List, [], ◌∷◌, length, get_or, Option, Some, None, Ok, refl, sym, ap, subst, ◌∙◌, arith, inl, inr}
 use Rattle.std.specs.Prelude.{if◌then◌else◌}
 use Rattle.std.specs.Str.{bytes_eq}
 use Rattle.std.proofs.lemmas.Slice.Eq.{bytes_eq-Decides}
@@ -14,8 +14,10 @@ use Rattle.rl_syms.specs.Table.{Among, IsFree, IsNamed, IsTable, ids_from, is_id
 use Rattle.rl_syms.specs.Laws.{AreIdentifiers}
 use Rattle.rl_world.specs.declared.world.World.{World}
 use Rattle.rl_meaning.specs.State.{State, Symbol}
-use Rattle.rl_meaning.specs.Symbols.{named_from, new_symbol, symbol_at}
+use Rattle.rl_meaning.specs.Outcome.{Done}
+use Rattle.rl_meaning.specs.Symbols.{interned, interned_at, named_from, new_symbol, symbol_at}
 use Rattle.rl_state.specs.ShownState.{ShowsState, is_listed, number_in, symbol_meant}
+use Rattle.rl_state.specs.Ending.{MeansValue}
 use Rattle.rl_state.proofs.Kept.{id_cell}
 
 -- ---- lists of symbols
@@ -75,7 +77,7 @@ named_here : (w : World) (name : Name) (k : ℕ) → is_id_cell (cell_at w.cells
 named_here w name k h a e s shown =
     matches_at w name k h s shown ∙ both_true _ _ (among_listed k _ a) ((bytes_eq-Decides (name_in_cells w.cells.cells k) name).1 e)
 
-false_unless : (b : Bool) → (b ≡ true → ⊥) → b ≡ false
+pub false_unless : (b : Bool) → (b ≡ true → ⊥) → b ≡ false
 false_unless true n = absurd (n refl)
 false_unless false n = refl
 
@@ -119,3 +121,14 @@ free_name law w name free s shown =
 -- what an interned identifier means
 pub named_means : (cells : List Cell) (head : Option Tagged) (name : Name) (id : Tagged) → IsNamed cells head name id → value_of cells id ≡ Id (number_in cells id)
 named_means cells head name id named = ap (value_of cells) named.interned.0
+
+pub found_means : (law : IdentifiersAreNumbered) (ids : AreIdentifiers) (w : World) (name : Name) (id : Tagged) → IsTable w.cells.cells w.syms.head → IsNamed w.cells.cells w.syms.head name id
+    → (s : State) → ShowsState w s → MeansValue s (interned name s) (Ok id) w
+found_means law ids w name id t named s shown = record {
+  state = s;
+  is = ap (λ o. interned_at o name s) (found_name law ids w name id t named s shown) ∙ ap (λ v. Done v s) (sym (named_means w.cells.cells w.syms.head name id named));
+  good = record {
+    shows = shown;
+    stays = record { functions = record { functions = refl; compilation = refl }; bindings = record { entries = refl; hidden = λ i b h. refl }; outside = refl };
+  };
+}

@@ -14,3 +14,4 @@ pub mod TiedBytes
 pub mod TiedBacks
 pub mod TiedRuns
 pub mod Finding
+pub mod Entering

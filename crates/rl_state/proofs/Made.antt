@@ -90,7 +90,7 @@ pub expansion_kept : (old new : List Cell) (inner : ℕ) (e : Option Expansion) 
 expansion_kept old new inner None same h = refl
 expansion_kept old new inner (Some e) same h = ap (λ n. Some (record { macro = n; inner_count = inner - 1; turns = 100000 - e.turns; cells = 1000000 - e.cells })) (named_same old new e.name same (h e refl))
 
-expanding_roomed : (cells : List Cell) (cost : ℕ) (outer : Option Expansion) → IsExpanding cells outer → IsExpanding cells (with_cells cost outer)
+pub expanding_roomed : (cells : List Cell) (cost : ℕ) (outer : Option Expansion) → IsExpanding cells outer → IsExpanding cells (with_cells cost outer)
 expanding_roomed cells cost None h = h
 expanding_roomed cells cost (Some e) h = λ x is. let q : record e { cells = e.cells + cost } ≡ x = cc in subst (λ (y : Expansion). is_id cells y.name ≡ true) q (h e refl)
 
@@ -276,3 +276,6 @@ rest_counts w x k e = record { rest = subst (λ (y : World). y ≡ record w { ce
 
 pub has_counted : (w r : World) (k : counted.WorldCounts) (cost : ℕ) → r ≡ record w { counts = k } → IsWorld w → room_stop w.counts w.cells cost ≡ None → has_room r.cells cost ≡ true
 has_counted w r k cost e i h = subst (λ (x : World). has_room x.cells cost ≡ true) (sym e) (room_fits w.cells w.counts cost i.running h)
+
+pub live_counted : (w r : World) (k : counted.WorldCounts) (v : Tagged) → r ≡ record w { counts = k } → is_live w.cells.cells v ≡ true → is_live r.cells.cells v ≡ true
+live_counted w r k v e h = subst (λ (x : World). is_live x.cells.cells v ≡ true) (sym e) h

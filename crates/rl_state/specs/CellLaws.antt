@@ -1,5 +1,6 @@
 -- What is known of cells: the laws of the crates below, together.
-use Rattle.rl_syms.specs.Laws.{ChangesMeaning, IsKept, IsRead, LeaveBlocks, MakesMeaning}
+use Rattle.rl_syms.specs.Laws.{ChangesMeaning, IsKept, IsRead, LeaveBlocks, MakesMeaning, NamesEnter}
+use Rattle.rl_syms.specs.Readings.{NamingMeans}
 use Rattle.rl_syms.specs.Numbers.{IdentifiersAreNumbered}
 
 pub record AreCellLaws : Type 0 where
@@ -9,3 +10,5 @@ pub record AreCellLaws : Type 0 where
   pub changes : ChangesMeaning
   pub reads : IsRead
   pub numbered : IdentifiersAreNumbered
+  pub enters : NamesEnter
+  pub naming : NamingMeans

@@ -5,7 +5,8 @@ ghost use Rattle.rl_state.specs.Ties.{EachWorldTies};
 ghost use Rattle.rl_state.specs.CellLaws.{AreCellLaws};
 
 use rl_syms::laws::{identifiers_are_numbered, meaning_of_change, meaning_of_making};
-use rl_syms::laws::{meaning_of_reading, others_leave_blocks, table_is_kept};
+use rl_syms::laws::{meaning_of_naming, meaning_of_reading, names_enter};
+use rl_syms::laws::{others_leave_blocks, table_is_kept};
 
 /// What is known of cells.
 pub(crate) fn cells_are_known()
@@ -17,6 +18,8 @@ pub(crate) fn cells_are_known()
     meaning_of_change();
     meaning_of_reading();
     identifiers_are_numbered();
+    names_enter();
+    meaning_of_naming();
 }
 
 /// A world determines a state but for what is beside it.

@@ -5,6 +5,7 @@ mod errors;
 mod identifiers;
 pub mod laws;
 mod levels;
+mod names;
 mod natives;
 mod objects;
 mod outside;
@@ -16,6 +17,7 @@ pub use identifiers::{
     definition, kind, name, properties, set_definition, set_kind, set_properties,
 };
 pub use levels::{deeper, shallower};
+pub use names::identifier;
 pub use natives::{car, cons, length, rplaca};
 pub use objects::{
     pair, parts, place, places, set_car, set_cdr, set_place, string, vector,

@@ -1,7 +1,13 @@
 use Rattle.std.proofs.Common.{refl, ◌∙◌}
 use Rattle.rl_cells.specs.Cell.{PairCell}
-use Rattle.rl_state.proofs.Made.{has_counted, made_ends, pair_ends, pair_stops, rest_made, rest_refl}
+use Rattle.rl_state.proofs.Made.{has_counted, live_counted, made_ends, pair_ends, pair_stops, rest_made, rest_refl}
 use Rattle.rl_state.proofs.objects.pair.Goals as goal
+
+pub cons-requires-clause-car_live : goal.cons-requires-clause-car_live
+cons-requires-clause-car_live c = live_counted c.args.w.now c.room.new.self _ c.args.a c.in-Ok.ensures.counted c.requires.a_live
+
+pub cons-requires-clause-cdr_live : goal.cons-requires-clause-cdr_live
+cons-requires-clause-cdr_live c = live_counted c.args.w.now c.room.new.self _ c.args.d c.in-Ok.ensures.counted c.requires.d_live
 
 pub unwrap-requires : goal.unwrap-requires
 unwrap-requires c = c.cons.ensures.full ∙ has_counted c.args.w.now c.room.new.self _ _ c.in-Ok.ensures.counted c.requires.world c.in-Ok.ensures.ok
