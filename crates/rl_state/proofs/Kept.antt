@@ -1,35 +1,31 @@
--- What leaves the blocks leaves the numbers of identifiers and functions, and what identifiers have.
-use Rattle.std.proofs.Common.{◌≡◌, ℕ, zero, suc, ◌+◌, ◌<◌, ◌≤◌, ◌%◌, ◌^◌, Bool, true, false, ◌&&◌, nat_le, cond, List, [], ◌∷◌, length, map, get_or, Option, Some, None, refl, sym, ap, ◌∙◌, arith, zero-add}
-use Rattle.std.specs.Prelude.{IsSome, is_some}
+-- What is shown of identifiers stays where cells keep it: numbers, names, chains and the meaning of what lives.
+use Rattle.std.proofs.Common.{◌≡◌, ℕ, zero, suc, ◌+◌, ◌<◌, ◌≤◌, ◌%◌, Bool, true, false, nat_le, cond, List, [], ◌∷◌, length, get_or, Option, Some, None, refl, sym, ap, ◌∙◌, arith}
+use Rattle.std.specs.Prelude.{IsSome}
 use Rattle.std.specs.List.{list_all}
 use Rattle.std.proofs.Math.ListN.{get_or-eq_default}
-use Rattle.std.proofs.lemmas.Bool.{and_parts}
+use Rattle.std.proofs.lemmas.Bool.{and_parts, leb-true, leb-false}
 use Rattle.rl_tags.specs.Tagged.{Tagged, Number, IdAt, StrAt, PairAt, VectorAt, BigAt, FunAt, index_of, tagged_of}
 use Rattle.rl_tags.specs.declared.Tag.{Tag}
 use Rattle.rl_tags.specs.declared.Tag.TheVariants as tag
-use Rattle.rl_tree.specs.Value.{Value, Int, Id, Str, Ref, Fun, Object, Pair, Vector}
+use Rattle.rl_tree.specs.Value.{Value, Id}
 use Rattle.rl_tree.specs.declared.held.Kind.{Kind}
 use Rattle.rl_tree.specs.declared.held.VarKind.{VarKind}
-use Rattle.rl_cells.specs.Cell.{Cell, PairCell, StrCell, VectorCell, BigCell, BlockCell, More, IsClosed, cell_at, is_closed_cell, is_id_cell, is_fun_cell, is_live, is_live_word, is_str, bytes_of, words_in}
-use Rattle.rl_syms.specs.Contents.{value_of}
+use Rattle.rl_cells.specs.Cell.{Cell, PairCell, StrCell, VectorCell, BigCell, BlockCell, More, IsClosed, cell_at, is_closed_cell, is_id_cell, is_live, is_live_word, is_str, bytes_of, words_in}
+use Rattle.rl_syms.specs.Contents.{ids_before, value_of}
+use Rattle.rl_syms.specs.Numbers.{IdentifiersAreNumbered}
 use Rattle.rl_syms.specs.Table as table
-use Rattle.rl_syms.specs.Table.{IsTable, SymbolCells, chain, ids_from, held_in, next_at, of_kind, rank_of, symbol_in_cells, kind_in_word}
+use Rattle.rl_syms.specs.Table.{IsTable, SymbolCells, chain, ids_from, is_id, held_in, kind_in_word, next_at, of_kind, rank_of, symbol_in_cells}
 use Rattle.rl_syms.specs.Frame.{KeepsBlocks, block_in}
 use Rattle.rl_syms.specs.Laws.{IsKept}
 use Rattle.rl_meaning.specs.State.{State}
 use Rattle.rl_meaning.specs.State as meaning
-use Rattle.rl_state.specs.Numbered.{ids_before, funs_before, renumbered, object_renumbered, value_in}
-use Rattle.rl_state.specs.ShownState.{ShowsSymbols, is_listed, definition_in, option_value_in, symbol_meant}
+use Rattle.rl_state.specs.ShownState.{ShowsSymbols, is_listed, definition_in, number_in, option_value_in, pointer_named, symbol_meant}
 
--- ---- numbers
+-- ---- identifiers
 
 id_from : Option (Tag × List ℕ) → Bool
 id_from (Some (tag.Id, words)) = true
 id_from _ = false
-
-fun_from : Option (Tag × List ℕ) → Bool
-fun_from (Some (tag.Fun, words)) = true
-fun_from _ = false
 
 id_is : (c : Cell) → is_id_cell c ≡ id_from (block_in c)
 unfolding id_from
@@ -42,81 +38,63 @@ id_is (BlockCell tag.Big words) = refl
 id_is (BlockCell tag.Fun words) = refl
 id_is _ = refl
 
-fun_is : (c : Cell) → is_fun_cell c ≡ fun_from (block_in c)
-unfolding fun_from
-fun_is (BlockCell tag.Int words) = refl
-fun_is (BlockCell tag.Id words) = refl
-fun_is (BlockCell tag.Str words) = refl
-fun_is (BlockCell tag.Pair words) = refl
-fun_is (BlockCell tag.Vector words) = refl
-fun_is (BlockCell tag.Big words) = refl
-fun_is (BlockCell tag.Fun words) = refl
-fun_is _ = refl
-
 pub id_same : (old new : List Cell) (k : ℕ) → KeepsBlocks old new → is_id_cell (cell_at new k) ≡ is_id_cell (cell_at old k)
 id_same old new k b = id_is (cell_at new k) ∙ ap id_from (b.blocks k) ∙ sym (id_is (cell_at old k))
 
-pub ids_same : (old new : List Cell) (k : ℕ) → ((k : ℕ) → is_id_cell (cell_at new k) ≡ is_id_cell (cell_at old k)) → ids_before new k ≡ ids_before old k
-unfolding ids_before
-ids_same old new zero b = refl
-ids_same old new (suc k) b = rw (b k, ids_same old new k b) refl
+pub id_inside : (cells : List Cell) (k : ℕ) → is_id_cell (cell_at cells k) ≡ true → k < length cells
+id_inside cells k h = go (nat_le (length cells) k) refl
+  where
+    go : (b : Bool) → nat_le (length cells) k ≡ b → k < length cells
+    go true e =
+        let past : cell_at cells k ≡ More = get_or-eq_default cells More (leb-true (length cells) k e) in
+        let no_id : false ≡ true = sym (ap is_id_cell past) ∙ h in
+        absurd (cc)
+    go false e = leb-false (length cells) k e
 
-fun_same : (old new : List Cell) (k : ℕ) → KeepsBlocks old new → is_fun_cell (cell_at new k) ≡ is_fun_cell (cell_at old k)
-fun_same old new k b = fun_is (cell_at new k) ∙ ap fun_from (b.blocks k) ∙ sym (fun_is (cell_at old k))
+pub id_cell : (cells : List Cell) (id : Tagged) → is_id cells id ≡ true → is_id_cell (cell_at cells (index_of id)) ≡ true
+id_cell cells (IdAt k) h = h
+id_cell cells (Number k) h = absurd (cc)
+id_cell cells (StrAt k) h = absurd (cc)
+id_cell cells (PairAt k) h = absurd (cc)
+id_cell cells (VectorAt k) h = absurd (cc)
+id_cell cells (BigAt k) h = absurd (cc)
+id_cell cells (FunAt k) h = absurd (cc)
 
-pub funs_same : (old new : List Cell) (k : ℕ) → ((k : ℕ) → is_fun_cell (cell_at new k) ≡ is_fun_cell (cell_at old k)) → funs_before new k ≡ funs_before old k
-unfolding funs_before
-funs_same old new zero b = refl
-funs_same old new (suc k) b = rw (b k, funs_same old new k b) refl
+pub id_live : (cells : List Cell) (id : Tagged) → is_id cells id ≡ true → is_live cells id ≡ true
+id_live cells (IdAt k) h = h
+id_live cells (Number k) h = absurd (cc)
+id_live cells (StrAt k) h = absurd (cc)
+id_live cells (PairAt k) h = absurd (cc)
+id_live cells (VectorAt k) h = absurd (cc)
+id_live cells (BigAt k) h = absurd (cc)
+id_live cells (FunAt k) h = absurd (cc)
 
--- there is none past the end
-ids_past : (cells : List Cell) (n m : ℕ) → length cells ≤ n → ids_before cells (n + m) ≡ ids_before cells n
-unfolding ids_before
-ids_past cells n zero l = ap (ids_before cells) (omega arith)
-ids_past cells n (suc m) l =
-    let up : n + suc m ≡ suc (n + m) = omega arith in
-    let none : cell_at cells (n + m) ≡ More = get_or-eq_default cells More (omega arith) in
-    ap (ids_before cells) up ∙ rw (none, ids_past cells n m l) (zero-add (ids_before cells n))
-
-pub all_ids_same : (old new : List Cell) → ((k : ℕ) → is_id_cell (cell_at new k) ≡ is_id_cell (cell_at old k)) → ids_before new (length new) ≡ ids_before old (length old)
-all_ids_same old new b =
-    let turned : length new + length old ≡ length old + length new = omega arith in
-    sym (ids_past new (length new) (length old) (omega arith)) ∙ ids_same old new (length new + length old) b ∙ ap (ids_before old) turned ∙ ids_past old (length old) (length new) (omega arith)
-
-pub record SameNumbers (old new : List Cell) : Type 0 where
-  pub ids : (k : ℕ) → ids_before new k ≡ ids_before old k
-  pub funs : (k : ℕ) → funs_before new k ≡ funs_before old k
-
-pub numbers_same : (old new : List Cell) → KeepsBlocks old new → SameNumbers old new
-numbers_same old new b = record { ids = λ k. ids_same old new k (λ k. id_same old new k b); funs = λ k. funs_same old new k (λ k. fun_same old new k b) }
-
-pub renumbered_same : (old new : List Cell) (v : Value) → SameNumbers old new → renumbered new v ≡ renumbered old v
-renumbered_same old new (Id k) b = ap Id (b.ids k)
-renumbered_same old new (Fun f p) b = ap (λ n. Fun n p) (b.funs f)
-renumbered_same old new (Int z) b = refl
-renumbered_same old new (Str bytes) b = refl
-renumbered_same old new (Ref r) b = refl
-
-values_same : (old new : List Cell) (xs : List Value) → SameNumbers old new → map (renumbered new) xs ≡ map (renumbered old) xs
-values_same old new [] b = refl
-values_same old new (x ∷ xs) b = rw (renumbered_same old new x b, values_same old new xs b) refl
-
-object_same : (old new : List Cell) (o : Object) → SameNumbers old new → object_renumbered new o ≡ object_renumbered old o
-object_same old new (Pair a d) b = rw (renumbered_same old new a b, renumbered_same old new d b) refl
-object_same old new (Vector xs) b = ap Vector (values_same old new xs b)
-
-pub objects_same : (old new : List Cell) (os : List Object) → SameNumbers old new → map (object_renumbered new) os ≡ map (object_renumbered old) os
-objects_same old new [] b = refl
-objects_same old new (o ∷ os) b = rw (object_same old new o b, objects_same old new os b) refl
-
--- what means the same by places means the same by numbers
-pub value_same : (old new : List Cell) (v : Tagged) → SameNumbers old new → value_of new v ≡ value_of old v → value_in new v ≡ value_in old v
-value_same old new v b e = ap (renumbered new) e ∙ renumbered_same old new (value_of old v) b
-
--- ---- what identifiers have
+-- ---- what lives means what it meant
 
 abbrev pub SameValues : List Cell → List Cell → Type 0
-SameValues old new = (v : Tagged) → is_live old v ≡ true → value_in new v ≡ value_in old v
+SameValues old new = (v : Tagged) → is_live old v ≡ true → value_of new v ≡ value_of old v
+
+id_number : Value → ℕ
+id_number (Id i) = i
+id_number v = 0
+
+pub same_id : (i j : ℕ) → Id i ≡ Id j → i ≡ j
+unfolding id_number
+same_id i j e = ap id_number e
+
+pub number_same : (old new : List Cell) (k : ℕ) → SameValues old new → is_id_cell (cell_at old k) ≡ true → ids_before new k ≡ ids_before old k
+number_same old new k same h = same_id (ids_before new k) (ids_before old k) (same (IdAt k) h)
+
+pub named_same : (old new : List Cell) (id : Tagged) → SameValues old new → is_id old id ≡ true → number_in new id ≡ number_in old id
+named_same old new id same h = number_same old new (index_of id) same (id_cell old id h)
+
+-- as many identifiers
+pub all_ids_same : (law : IdentifiersAreNumbered) (old new : List Cell) → ((k : ℕ) → is_id_cell (cell_at new k) ≡ is_id_cell (cell_at old k)) → ids_before new (length new) ≡ ids_before old (length old)
+all_ids_same law old new b =
+    let turned : length new + length old ≡ length old + length new = omega arith in
+    sym (law.past new (length new + length old) (omega arith)) ∙ law.same old new (length new + length old) (λ j l. b j) ∙ law.past old (length new + length old) (omega arith)
+
+-- ---- what identifiers hold is live
 
 list_all_get : (p : ℕ → Bool) (xs : List ℕ) (i : ℕ) → list_all p xs ≡ true → i < length xs → p (get_or xs i 0) ≡ true
 list_all_get p [] i h l = absurd (omega arith)
@@ -167,9 +145,12 @@ chain_same old new (suc n) (Some (BigAt k)) s = refl
 chain_same old new (suc n) (Some (FunAt k)) s = refl
 chain_same old new (suc n) None s = refl
 
-pub definition_same : (old new : List Cell) (d : Option (Kind × Tagged)) → ((k : ℕ) → funs_before new k ≡ funs_before old k) → definition_in new d ≡ definition_in old d
-definition_same old new None b = refl
-definition_same old new (Some p) b = rw (b (index_of p.1 % 2 ^ 32)) refl
+definition_same : (old new : List Cell) (kind : Kind) (w : ℕ) → is_live_word old w ≡ true → SameValues old new → definition_in new (of_kind kind (held_in w)) ≡ definition_in old (of_kind kind (held_in w))
+definition_same old new kind w h same = go (held_in w) refl
+  where
+    go : (o : Option Tagged) → o ≡ held_in w → definition_in new (of_kind kind o) ≡ definition_in old (of_kind kind o)
+    go None e = refl
+    go (Some v) e = ap (λ x. Some (record { kind = kind; function = pointer_named x })) (same v (held_live old w v h (sym e)))
 
 pub option_same : (old new : List Cell) (w : ℕ) → is_live_word old w ≡ true → SameValues old new → option_value_in new (held_in w) ≡ option_value_in old (held_in w)
 option_same old new w h same = go (held_in w) refl
@@ -178,37 +159,13 @@ option_same old new w h same = go (held_in w) refl
     go None e = refl
     go (Some v) e = ap Some (same v (held_live old w v h (sym e)))
 
-name_same : (old new : List Cell) (head : Option Tagged) (k : ℕ) → KeepsBlocks old new → IsTable old head → is_id_cell (cell_at old k) ≡ true → symbol_in_cells new k ≡ symbol_in_cells old k → table.name_in_cells new k ≡ table.name_in_cells old k
-name_same old new head k b t h e =
+-- a name is live
+pub name_string : (cells : List Cell) (head : Option Tagged) (k : ℕ) → IsTable cells head → is_id_cell (cell_at cells k) ≡ true → is_str cells (symbol_in_cells cells k).name ≡ true
+name_string cells head k t h =
     let n = t.chained.named k h in
-    let w = get_or (words_in (cell_at old k)) 0 0 in
+    let w = get_or (words_in (cell_at cells k)) 0 0 in
     let held : tagged_of w ≡ n.text = held_tagged w n.text n.is in
-    let string : is_str old (tagged_of w) ≡ true = rw held n.string in
-    ap (λ (y : SymbolCells). bytes_of new y.name) e ∙ b.texts (tagged_of w) string
-
--- two places have the same, but for the value
-pub record Alike (old new : List Cell) (head : Option Tagged) (k : ℕ) : Type 0 where
-  pub name : table.name_in_cells new k ≡ table.name_in_cells old k
-  pub names : ids_from new head ≡ ids_from old head
-  pub number : ids_before new k ≡ ids_before old k
-  pub plist : value_in new (symbol_in_cells new k).plist ≡ value_in old (symbol_in_cells old k).plist
-  pub defined : is_some (symbol_in_cells new k).definition ≡ is_some (symbol_in_cells old k).definition
-  pub definition : definition_in new (symbol_in_cells new k).definition ≡ definition_in old (symbol_in_cells old k).definition
-  pub kind : (symbol_in_cells new k).kind ≡ (symbol_in_cells old k).kind
-
-abbrev symbol_from : Option Value → List ℕ → Bool → Value → Option meaning.Definition → VarKind → meaning.Symbol
-symbol_from top name listed plist definition kind = record { name = name; interned = listed; top = top; properties = plist; definition = definition; kind = kind }
-
-pub symbol_like : (old new : List Cell) (head : Option Tagged) (k : ℕ) (top : Option Value) → Alike old new head k → symbol_meant new head k top ≡ symbol_meant old head k top
-unfolding symbol_meant
-symbol_like old new head k top a =
-    let y = symbol_in_cells new k in
-    let z = symbol_in_cells old k in
-    ap (λ x. symbol_from top x (is_listed k (ids_from new head)) (value_in new y.plist) (definition_in new y.definition) y.kind) a.name
-    ∙ ap (λ x. symbol_from top (table.name_in_cells old k) (is_listed k x) (value_in new y.plist) (definition_in new y.definition) y.kind) a.names
-    ∙ ap (λ x. symbol_from top (table.name_in_cells old k) (is_listed k (ids_from old head)) x (definition_in new y.definition) y.kind) a.plist
-    ∙ ap (λ x. symbol_from top (table.name_in_cells old k) (is_listed k (ids_from old head)) (value_in old z.plist) x y.kind) a.definition
-    ∙ ap (λ x. symbol_from top (table.name_in_cells old k) (is_listed k (ids_from old head)) (value_in old z.plist) (definition_in old z.definition) x) a.kind
+    rw held n.string
 
 -- the property list of an identifier is live
 pub plist_live : (cells : List Cell) (head : Option Tagged) (k : ℕ) → IsTable cells head → IsClosed cells → is_id_cell (cell_at cells k) ≡ true → is_live cells (symbol_in_cells cells k).plist ≡ true
@@ -216,31 +173,61 @@ plist_live cells head k t c h =
     let six : length (words_in (cell_at cells k)) ≡ 6 = t.chained.six k h in
     held_live cells (get_or (words_in (cell_at cells k)) 2 0) _ (words_live cells k 2 c (omega arith)) (held_is (get_or (words_in (cell_at cells k)) 2 0) (t.chained.listed k h))
 
-symbol_same : (law : IsKept) (old new : List Cell) (head : Option Tagged) (k : ℕ) (top : Option Value) → KeepsBlocks old new → IsTable old head → IsClosed old → SameValues old new
-    → is_id_cell (cell_at old k) ≡ true → symbol_meant new head k top ≡ symbol_meant old head k top
-symbol_same law old new head k top b t c same h =
-    let e : symbol_in_cells new k ≡ symbol_in_cells old k = law.symbols old new k b in
-    symbol_like old new head k top (record {
-      name = name_same old new head k b t h e;
-      names = chain_same old new (rank_of head) head (λ k. ap (λ (y : SymbolCells). y.next) (law.symbols old new k b));
-      number = ids_same old new k (λ k. id_same old new k b);
-      plist = ap (λ (y : SymbolCells). value_in new y.plist) e ∙ same _ (plist_live old head k t c h);
-      defined = ap (λ (y : SymbolCells). is_some y.definition) e;
-      definition = ap (λ (y : SymbolCells). definition_in new y.definition) e ∙ definition_same old new (symbol_in_cells old k).definition (numbers_same old new b).funs;
-      kind = ap (λ (y : SymbolCells). y.kind) e;
-    })
+-- ---- what is shown of an identifier
 
-pub symbols_kept : (law : IsKept) (old new : List Cell) (head : Option Tagged) (s : State) → KeepsBlocks old new → IsTable old head → IsClosed old → SameValues old new
+-- two cells have the same of an identifier, but for the value
+pub record AlikeShown (old new : List Cell) (before after : Option Tagged) (k : ℕ) : Type 0 where
+  pub name : table.name_in_cells new k ≡ table.name_in_cells old k
+  pub listed : is_listed k (ids_from new after) ≡ is_listed k (ids_from old before)
+  pub plist : value_of new (symbol_in_cells new k).plist ≡ value_of old (symbol_in_cells old k).plist
+  pub definition : definition_in new (symbol_in_cells new k).definition ≡ definition_in old (symbol_in_cells old k).definition
+  pub kind : (symbol_in_cells new k).kind ≡ (symbol_in_cells old k).kind
+
+abbrev symbol_from : Option Value → List ℕ → Bool → Value → Option meaning.Definition → VarKind → meaning.Symbol
+symbol_from top name listed plist definition kind = record { name = name; interned = listed; top = top; properties = plist; definition = definition; kind = kind }
+
+pub symbol_like : (old new : List Cell) (before after : Option Tagged) (k : ℕ) (top : Option Value) → AlikeShown old new before after k → symbol_meant new after k top ≡ symbol_meant old before k top
+unfolding symbol_meant
+symbol_like old new before after k top a =
+    let y = symbol_in_cells new k in
+    let z = symbol_in_cells old k in
+    ap (λ x. symbol_from top x (is_listed k (ids_from new after)) (value_of new y.plist) (definition_in new y.definition) y.kind) a.name
+    ∙ ap (λ x. symbol_from top (table.name_in_cells old k) x (value_of new y.plist) (definition_in new y.definition) y.kind) a.listed
+    ∙ ap (λ x. symbol_from top (table.name_in_cells old k) (is_listed k (ids_from old before)) x (definition_in new y.definition) y.kind) a.plist
+    ∙ ap (λ x. symbol_from top (table.name_in_cells old k) (is_listed k (ids_from old before)) (value_of old z.plist) x y.kind) a.definition
+    ∙ ap (λ x. symbol_from top (table.name_in_cells old k) (is_listed k (ids_from old before)) (value_of old z.plist) (definition_in old z.definition) x) a.kind
+
+-- the cells of the identifier are the same, and what lives means the same
+pub alike_stood : (old new : List Cell) (before after : Option Tagged) (k : ℕ) → IsTable old before → IsClosed old → SameValues old new → ((v : Tagged) → is_str old v ≡ true → bytes_of new v ≡ bytes_of old v)
+    → is_listed k (ids_from new after) ≡ is_listed k (ids_from old before) → is_id_cell (cell_at old k) ≡ true → symbol_in_cells new k ≡ symbol_in_cells old k → AlikeShown old new before after k
+alike_stood old new before after k t c same texts listed h e =
+    let six = t.chained.six k h in
+    record {
+      name = ap (λ (y : SymbolCells). bytes_of new y.name) e ∙ texts _ (name_string old before k t h);
+      listed = listed;
+      plist = ap (λ (y : SymbolCells). value_of new y.plist) e ∙ same _ (plist_live old before k t c h);
+      definition = ap (λ (y : SymbolCells). definition_in new y.definition) e ∙ definition_same old new (kind_in_word (get_or (words_in (cell_at old k)) 4 0)) (get_or (words_in (cell_at old k)) 3 0) (words_live old k 3 c (omega arith)) same;
+      kind = ap (λ (y : SymbolCells). y.kind) e;
+    }
+
+pub value_stood : (old new : List Cell) (head : Option Tagged) (k : ℕ) → IsTable old head → IsClosed old → SameValues old new → is_id_cell (cell_at old k) ≡ true → symbol_in_cells new k ≡ symbol_in_cells old k
+    → option_value_in new (symbol_in_cells new k).value ≡ option_value_in old (symbol_in_cells old k).value
+value_stood old new head k t c same h e =
+    let six = t.chained.six k h in
+    ap (λ (y : SymbolCells). option_value_in new y.value) e ∙ option_same old new _ (words_live old k 1 c (omega arith)) same
+
+pub symbols_kept : (law : IsKept) (numbers : IdentifiersAreNumbered) (old new : List Cell) (head : Option Tagged) (s : State) → KeepsBlocks old new → IsTable old head → IsClosed old → SameValues old new
     → ShowsSymbols old head s → ShowsSymbols new head s
-symbols_kept law old new head s b t c same shown = record {
-  many = shown.many ∙ sym (all_ids_same old new (λ k. id_same old new k b));
-  symbols = λ k h.
-      let was : is_id_cell (cell_at old k) ≡ true = sym (id_same old new k b) ∙ h in
-      let number = ids_same old new k (λ k. id_same old new k b) in
-      rw number (shown.symbols k was ∙ sym (symbol_same law old new head k _ b t c same was));
-  values = λ k h.
-      let was : is_id_cell (cell_at old k) ≡ true = sym (id_same old new k b) ∙ h in
-      let number = ids_same old new k (λ k. id_same old new k b) in
-      let six = t.chained.six k was in
-      rw number (shown.values k was ∙ sym (option_same old new _ (words_live old k 1 c (omega arith)) same) ∙ sym (ap (λ (y : SymbolCells). option_value_in new y.value) (law.symbols old new k b)));
-}
+symbols_kept law numbers old new head s b t c same shown =
+    let chains : ids_from new head ≡ ids_from old head = chain_same old new (rank_of head) head (λ k. ap (λ (y : SymbolCells). y.next) (law.symbols old new k b)) in
+    record {
+      many = shown.many ∙ sym (all_ids_same numbers old new (λ k. id_same old new k b));
+      symbols = λ k h.
+          let was : is_id_cell (cell_at old k) ≡ true = sym (id_same old new k b) ∙ h in
+          let number = number_same old new k same was in
+          rw number (shown.symbols k was ∙ sym (symbol_like old new head head k _ (alike_stood old new head head k t c same b.texts (ap (is_listed k) chains) was (law.symbols old new k b))));
+      values = λ k h.
+          let was : is_id_cell (cell_at old k) ≡ true = sym (id_same old new k b) ∙ h in
+          let number = number_same old new k same was in
+          rw number (shown.values k was ∙ sym (value_stood old new head k t c same was (law.symbols old new k b)));
+    }

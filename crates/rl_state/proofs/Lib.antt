@@ -8,4 +8,10 @@ pub mod Walking
 pub mod Once
 pub mod Totals
 pub mod Entered
-pub mod Grown
+pub mod ToldOn
+pub mod Takings
+pub mod TiedBytes
+pub mod TiedBacks
+pub mod TiedRuns
+pub mod Finding
+pub mod Entering

@@ -2,15 +2,17 @@
 use Rattle.std.proofs.Common.{◌≡◌, ℕ, zero, suc, ◌+◌, ◌-◌, ◌/◌, ◌<◌, Bool, true, false, List, [], ◌∷◌, ◌++◌, length, map, Option, Some, None, Result, Ok, Err, refl, sym, ap, subst, ◌∙◌, arith}
 use Rattle.std.specs.Prelude.{replicate, slice_index_or}
 use Rattle.std.specs.List.{list_all}
-use Rattle.std.proofs.lemmas.List.{map-append, length-map}
+use Rattle.std.specs.Option.{ForSome}
 use Rattle.rl_tags.specs.Tagged.{Tagged, Number, IdAt, StrAt, PairAt, VectorAt, BigAt, FunAt, index_of}
 use Rattle.rl_tags.specs.Ids.{nil_id}
-use Rattle.rl_tree.specs.Value.{Value, Id, Str, Ref, Pair, Vector, Store, cons_store, new_value}
+use Rattle.rl_tree.specs.Value.{Value, Id, Str, Ref, Vector, Store, cons_store, new_value, vector_store}
 use Rattle.rl_cells.specs.Cell as cell
 use Rattle.rl_cells.specs.Cell.{Cell, PairCell, StrCell, VectorCell, IsClosed, cost_of, grown, has_room, placed, is_live, is_str, used_of}
-use Rattle.rl_syms.specs.Contents.{object_count, value_of, store_of}
+use Rattle.rl_syms.specs.Contents.{value_of, store_of}
 use Rattle.rl_syms.specs.Frame.{KeepsBlocks, block_in}
-use Rattle.rl_syms.specs.Laws.{IsKept, MakesMeaning, LeaveBlocks}
+use Rattle.rl_syms.specs.Laws.{IsKept}
+use Rattle.rl_syms.specs.Table.{is_id}
+use Rattle.rl_state.specs.CellLaws.{AreCellLaws}
 use Rattle.rl_world.specs.Counts as counted
 use Rattle.rl_world.specs.Counts.{room_stop, roomed, with_cells}
 use Rattle.rl_world.specs.Errors.{AreTexts}
@@ -21,11 +23,10 @@ use Rattle.rl_meaning.specs.State.{State}
 use Rattle.rl_meaning.specs.Outcome.{Outcome, Done, room, made_pair, made_string}
 use Rattle.rl_meaning.specs.Atoms.{made_places}
 use Rattle.rl_meaning.specs.Symbols.{nil_value_of_state}
-use Rattle.rl_state.specs.Numbered.{ids_before, object_renumbered, renumbered, value_in, store_in}
 use Rattle.rl_state.specs.ShownState.{ShowsState, counts_in, expansion_in}
 use Rattle.rl_state.specs.Worlds.{IsWorld, AreRunCounts, HasNumber, ObjectsAlone, WorldGrows}
 use Rattle.rl_state.specs.Ending.{MeansValue}
-use Rattle.rl_state.proofs.Kept.{id_same, ids_same, numbers_same, objects_same, symbols_kept, value_same}
+use Rattle.rl_state.proofs.Kept.{SameValues, named_same, symbols_kept}
 use Rattle.rl_state.proofs.Room.{left, left_in, room_done, room_fits, room_full, roomed_in}
 
 string_kept : (old new : List Cell) (v : Tagged) → KeepsBlocks old new → is_str old v ≡ true → is_str new v ≡ true
@@ -37,10 +38,10 @@ string_kept old new (VectorAt k) b h = h
 string_kept old new (BigAt k) b h = h
 string_kept old new (FunAt k) b h = h
 
-numbered_kept : (law : IsKept) (old new : List Cell) (id : Tagged) (i : ℕ) → KeepsBlocks old new → HasNumber old id i → HasNumber new id i
-numbered_kept law old new id i b n = record {
+numbered_kept : (law : IsKept) (old new : List Cell) (id : Tagged) (i : ℕ) → KeepsBlocks old new → SameValues old new → HasNumber old id i → HasNumber new id i
+numbered_kept law old new id i b same n = record {
   is_id = law.ids old new id b ∙ n.is_id;
-  number = ids_same old new (index_of id) (λ k. id_same old new k b) ∙ n.number;
+  number = named_same old new id same n.is_id ∙ n.number;
 }
 
 texts_kept : (old new : List Cell) (texts : List Tagged) → KeepsBlocks old new → AreTexts old texts 14 → AreTexts new texts 14
@@ -49,15 +50,22 @@ texts_kept old new texts b t = record {
   text = λ i d l. b.texts (slice_index_or texts i d) (t.string i d l) ∙ t.text i d l;
 }
 
-pub world_kept : (law : IsKept) (w : World) (c : cell.CellStore) (k : counted.WorldCounts) → KeepsBlocks w.cells.cells c.cells → AreRunCounts c k → IsWorld w → IsWorld (record w { cells = c; counts = k })
-world_kept law w c k b r i = record {
+-- what is expanded stays a name
+abbrev pub IsExpanding : List Cell → Option Expansion → Type 0
+IsExpanding cells outer = ForSome outer (λ e. is_id cells e.name ≡ true)
+
+pub expanding_kept : (old new : List Cell) (outer : Option Expansion) → ((v : Tagged) → is_id old v ≡ true → is_id new v ≡ true) → IsExpanding old outer → IsExpanding new outer
+expanding_kept old new outer f h = λ e is. f e.name (h e is)
+
+pub world_kept : (law : IsKept) (w : World) (c : cell.CellStore) (k : counted.WorldCounts) → KeepsBlocks w.cells.cells c.cells → SameValues w.cells.cells c.cells → AreRunCounts c k → IsExpanding c.cells k.outermost → IsWorld w → IsWorld (record w { cells = c; counts = k })
+world_kept law w c k b same r x i = record {
   table = law.table w.cells.cells c.cells w.syms.head b i.table;
-  nil = numbered_kept law w.cells.cells c.cells _ 0 b i.nil;
-  t = numbered_kept law w.cells.cells c.cells _ 1 b i.t;
-  message = numbered_kept law w.cells.cells c.cells _ 3 b i.message;
+  t = numbered_kept law w.cells.cells c.cells _ 1 b same i.t;
+  message = numbered_kept law w.cells.cells c.cells _ 3 b same i.message;
   texts = texts_kept w.cells.cells c.cells w.texts b i.texts;
   running = r;
   levels = i.levels;
+  expanding = x;
 }
 
 -- ---- a new object
@@ -78,56 +86,67 @@ running_made s k c r = record {
 used_made : (s : cell.CellStore) (k : counted.WorldCounts) (c : Cell) → AreRunCounts s k → used_of (grown s c) ≡ used_of s + cost_of c
 used_made s k c r = rw (r.counted.1, r.unmarked) refl
 
-pub expansion_kept : (old new : List Cell) (inner : ℕ) (e : Option Expansion) → ((k : ℕ) → ids_before new k ≡ ids_before old k) → expansion_in new inner e ≡ expansion_in old inner e
-expansion_kept old new inner None b = refl
-expansion_kept old new inner (Some e) b = rw (b (index_of e.name)) refl
+pub expansion_kept : (old new : List Cell) (inner : ℕ) (e : Option Expansion) → SameValues old new → IsExpanding old e → expansion_in new inner e ≡ expansion_in old inner e
+expansion_kept old new inner None same h = refl
+expansion_kept old new inner (Some e) same h = ap (λ n. Some (record { macro = n; inner_count = inner - 1; turns = 100000 - e.turns; cells = 1000000 - e.cells })) (named_same old new e.name same (h e refl))
 
-counts_made : (s : cell.CellStore) (k : counted.WorldCounts) (c : Cell) → KeepsBlocks s.cells (s.cells ++ placed c) → AreRunCounts s k → roomed_in s k (cost_of c) ≡ counts_in (grown s c) (roomed k (cost_of c))
-counts_made s k c b r =
-    let used = used_made s k c r in
-    let after = left_in (grown s c) (roomed k (cost_of c)) (running_made s k c r) in
-    let expands = expansion_kept s.cells (s.cells ++ placed c) k.open_count (with_cells (cost_of c) k.outermost) (λ j. ids_same s.cells (s.cells ++ placed c) j (λ k. id_same s.cells (s.cells ++ placed c) k b)) in
+pub expanding_roomed : (cells : List Cell) (cost : ℕ) (outer : Option Expansion) → IsExpanding cells outer → IsExpanding cells (with_cells cost outer)
+expanding_roomed cells cost None h = h
+expanding_roomed cells cost (Some e) h = λ x is. let q : record e { cells = e.cells + cost } ≡ x = cc in subst (λ (y : Expansion). is_id cells y.name ≡ true) q (h e refl)
+
+same_made : (law : AreCellLaws) (w : World) (c : Cell) → SameValues w.cells.cells (w.cells.cells ++ placed c)
+same_made law w c v h = law.makes.values w.cells.cells c v h
+
+counts_made : (law : AreCellLaws) (w : World) (c : Cell) → IsWorld w → roomed_in w.cells w.counts (cost_of c) ≡ counts_in (grown w.cells c) (roomed w.counts (cost_of c))
+counts_made law w c i =
+    let s = w.cells in
+    let k = w.counts in
+    let used = used_made s k c i.running in
+    let after = left_in (grown s c) (roomed k (cost_of c)) (running_made s k c i.running) in
+    let expands = expansion_kept s.cells (s.cells ++ placed c) k.open_count (with_cells (cost_of c) k.outermost) (same_made law w c) (expanding_roomed s.cells (cost_of c) k.outermost i.expanding) in
     sym (after ∙ ap (λ n. left k.bound (k.bound - k.turns) (k.cells_bound - n) (expansion_in (s.cells ++ placed c) k.open_count (with_cells (cost_of c) k.outermost))) used
     ∙ ap (λ e. left k.bound (k.bound - k.turns) (k.cells_bound - (used_of s + cost_of c)) e) expands)
 
-pub made_grows : (law : IsKept) (blocks : LeaveBlocks) (made : MakesMeaning) (w : World) (c : Cell) → block_in c ≡ None → IsWorld w → WorldGrows w (with_made w c)
-made_grows law blocks made w c none i =
-    let b = blocks.made w.cells.cells c none in
+pub made_grows : (law : AreCellLaws) (w : World) (c : Cell) → block_in c ≡ None → IsWorld w → WorldGrows w (with_made w c)
+made_grows law w c none i =
+    let b = law.blocks.made w.cells.cells c none in
     record {
-      world = world_kept law w (grown w.cells c) (roomed w.counts (cost_of c)) b (running_made w.cells w.counts c i.running) i;
+      world = world_kept law.kept w (grown w.cells c) (roomed w.counts (cost_of c)) b (same_made law w c) (running_made w.cells w.counts c i.running)
+          (expanding_kept w.cells.cells (w.cells.cells ++ placed c) (with_cells (cost_of c) w.counts.outermost) (λ v h. law.kept.ids w.cells.cells (w.cells.cells ++ placed c) v b ∙ h) (expanding_roomed w.cells.cells (cost_of c) w.counts.outermost i.expanding)) i;
       live = b.live;
-      values = λ v h. value_same w.cells.cells (w.cells.cells ++ placed c) v (numbers_same w.cells.cells (w.cells.cells ++ placed c) b) (made.values w.cells.cells c v h);
+      values = same_made law w c;
     }
 
-shows_made : (law : IsKept) (blocks : LeaveBlocks) (made : MakesMeaning) (w : World) (c : Cell) (s : State) (store : Store) → block_in c ≡ None → IsWorld w → IsClosed w.cells.cells → ShowsState w s → store ≡ store_in (w.cells.cells ++ placed c)
+shows_made : (law : AreCellLaws) (w : World) (c : Cell) (s : State) (store : Store) → block_in c ≡ None → IsWorld w → IsClosed w.cells.cells → ShowsState w s → store ≡ store_of (w.cells.cells ++ placed c)
     → ShowsState (with_made w c) (record s { counts = roomed_in w.cells w.counts (cost_of c); store = store })
-shows_made law blocks made w c s store none i closed shown e =
-    let b = blocks.made w.cells.cells c none in
-    let kept = symbols_kept law w.cells.cells (w.cells.cells ++ placed c) w.syms.head s b i.table closed (λ v h. value_same w.cells.cells (w.cells.cells ++ placed c) v (numbers_same w.cells.cells (w.cells.cells ++ placed c) b) (made.values w.cells.cells c v h)) shown.symbols in
+shows_made law w c s store none i closed shown e =
+    let b = law.blocks.made w.cells.cells c none in
+    let kept = symbols_kept law.kept law.numbered w.cells.cells (w.cells.cells ++ placed c) w.syms.head s b i.table closed (same_made law w c) shown.symbols in
     record {
       store = e;
       symbols = record { many = kept.many; symbols = kept.symbols; values = kept.values };
-      counts = counts_made w.cells w.counts c b i.running;
+      counts = counts_made law w c i;
       gensyms = shown.gensyms;
       column = shown.column;
       line_length = shown.line_length;
       taken = shown.taken;
       free = shown.free;
+      bound = shown.bound;
     }
 
 -- ---- a value that names the new object
 
 -- where there is room, what is made by the definition is what the cells hold
-pub value_made : (law : IsKept) (blocks : LeaveBlocks) (made : MakesMeaning) (w : World) (c : Cell) (at : Tagged) (s : State) (next : State → Outcome Value) (v : Value) (store : Store)
+pub value_made : (law : AreCellLaws) (w : World) (c : Cell) (at : Tagged) (s : State) (next : State → Outcome Value) (v : Value) (store : Store)
     → block_in c ≡ None → IsWorld w → IsClosed w.cells.cells → room_stop w.counts w.cells (cost_of c) ≡ None → ShowsState w s
     → next (record s { counts = roomed_in w.cells w.counts (cost_of c) }) ≡ Done v (record s { counts = roomed_in w.cells w.counts (cost_of c); store = store })
-    → store ≡ store_in (w.cells.cells ++ placed c) → value_in (w.cells.cells ++ placed c) at ≡ v
+    → store ≡ store_of (w.cells.cells ++ placed c) → value_of (w.cells.cells ++ placed c) at ≡ v
     → MeansValue s (room (cost_of c) s next) (Ok at) (with_made w c)
-value_made law blocks made w c at s next v store none i closed stop shown then_is stored named = record {
+value_made law w c at s next v store none i closed stop shown then_is stored named = record {
   state = record s { counts = roomed_in w.cells w.counts (cost_of c); store = store };
   is = room_done w.cells w.counts (cost_of c) s next i.running shown.counts stop ∙ then_is ∙ ap (λ x. Done x (record s { counts = roomed_in w.cells w.counts (cost_of c); store = store })) (sym named);
   good = record {
-    shows = shows_made law blocks made w c s store none i closed shown stored;
+    shows = shows_made law w c s store none i closed shown stored;
     stays = record { functions = record { functions = refl; compilation = refl }; bindings = record { entries = refl; hidden = λ i b h. refl }; outside = refl };
   };
 }
@@ -147,20 +166,20 @@ pub record IsMadeIn (w r : World) (cs : cell.CellStore) (c : Cell) (tag : ℕ �
 pub closed_before : (w r : World) (cs : cell.CellStore) (c : Cell) (tag : ℕ → Tagged) (v : Tagged) → IsMadeIn w r cs c tag v → IsClosed w.cells.cells
 closed_before w r cs c tag v m = subst (λ (x : World). IsClosed x.cells.cells) m.counted m.closed
 
-pub ends_made : (law : IsKept) (blocks : LeaveBlocks) (made : MakesMeaning) (w r : World) (cs : cell.CellStore) (c : Cell) (tag : ℕ → Tagged) (v : Tagged) (s : State) (next : State → Outcome Value) (x : Value) (store : Store)
+pub ends_made : (law : AreCellLaws) (w r : World) (cs : cell.CellStore) (c : Cell) (tag : ℕ → Tagged) (v : Tagged) (s : State) (next : State → Outcome Value) (x : Value) (store : Store)
     → IsMadeIn w r cs c tag v → block_in c ≡ None → IsWorld w → ShowsState w s
     → next (record s { counts = roomed_in w.cells w.counts (cost_of c) }) ≡ Done x (record s { counts = roomed_in w.cells w.counts (cost_of c); store = store })
-    → store ≡ store_in (w.cells.cells ++ placed c) → value_in (w.cells.cells ++ placed c) (tag (length w.cells.cells)) ≡ x
+    → store ≡ store_of (w.cells.cells ++ placed c) → value_of (w.cells.cells ++ placed c) (tag (length w.cells.cells)) ≡ x
     → MeansValue s (room (cost_of c) s next) (Ok v) (record r { cells = cs })
-ends_made law blocks made w r cs c tag v s next x store m none i shown then_is stored named =
+ends_made law w r cs c tag v s next x store m none i shown then_is stored named =
     let at : v ≡ tag (length w.cells.cells) = m.named ∙ ap (λ (y : World). tag (length y.cells.cells)) m.counted in
     subst (λ y. MeansValue s (room (cost_of c) s next) (Ok v) y) (sym (final_is w r cs c m.counted m.made))
     (subst (λ y. MeansValue s (room (cost_of c) s next) (Ok y) (with_made w c)) (sym at)
-    (value_made law blocks made w c (tag (length w.cells.cells)) s next x store none i (closed_before w r cs c tag v m) m.room shown then_is stored named))
+    (value_made law w c (tag (length w.cells.cells)) s next x store none i (closed_before w r cs c tag v m) m.room shown then_is stored named))
 
-pub made_ends : (law : IsKept) (blocks : LeaveBlocks) (made : MakesMeaning) (w r : World) (cs : cell.CellStore) (c : Cell)
+pub made_ends : (law : AreCellLaws) (w r : World) (cs : cell.CellStore) (c : Cell)
     → r ≡ record w { counts = roomed w.counts (cost_of c) } → cs ≡ grown r.cells c → block_in c ≡ None → IsWorld w → WorldGrows w (record r { cells = cs })
-made_ends law blocks made w r cs c e f none i = subst (λ x. WorldGrows w x) (sym (final_is w r cs c e f)) (made_grows law blocks made w c none i)
+made_ends law w r cs c e f none i = subst (λ x. WorldGrows w x) (sym (final_is w r cs c e f)) (made_grows law w c none i)
 
 pub grows_refl : (w x : World) → x ≡ w → IsWorld w → WorldGrows w x
 grows_refl w x e i = subst (λ y. WorldGrows w y) (sym e) (record { world = i; live = λ v h. h; values = λ v h. refl })
@@ -172,44 +191,31 @@ made_stops w x cost s next why e i p stop shown = subst (λ y. MeansValue s (roo
 -- ---- pairs
 
 pub pair_stops : (w x : World) (a d : Tagged) (why : stops.Stop) → x ≡ w → IsWorld w → room_stop w.counts w.cells 1 ≡ Some why
-    → (s : State) → ShowsState w s → MeansValue s (made_pair (value_in w.cells.cells a) (value_in w.cells.cells d) s) (Err why) x
-pair_stops w x a d why e i stop s shown = made_stops w x 1 s (λ s. Done (new_value s.store) (record s { store = cons_store s.store (value_in w.cells.cells a) (value_in w.cells.cells d) })) why e i (omega arith) stop shown
+    → (s : State) → ShowsState w s → MeansValue s (made_pair (value_of w.cells.cells a) (value_of w.cells.cells d) s) (Err why) x
+pair_stops w x a d why e i stop s shown = made_stops w x 1 s (λ s. Done (new_value s.store) (record s { store = cons_store s.store (value_of w.cells.cells a) (value_of w.cells.cells d) })) why e i (omega arith) stop shown
 
-pub pair_ends : (law : IsKept) (blocks : LeaveBlocks) (made : MakesMeaning) (w r : World) (cs : cell.CellStore) (a d v : Tagged)
+pub pair_ends : (law : AreCellLaws) (w r : World) (cs : cell.CellStore) (a d v : Tagged)
     → IsMadeIn w r cs (PairCell a d) PairAt v → IsWorld w → is_live w.cells.cells a ≡ true → is_live w.cells.cells d ≡ true
-    → (s : State) → ShowsState w s → MeansValue s (made_pair (value_in w.cells.cells a) (value_in w.cells.cells d) s) (Ok v) (record r { cells = cs })
-unfolding store_in
-pair_ends law blocks made w r cs a d v m i la ld s shown =
+    → (s : State) → ShowsState w s → MeansValue s (made_pair (value_of w.cells.cells a) (value_of w.cells.cells d) s) (Ok v) (record r { cells = cs })
+pair_ends law w r cs a d v m i la ld s shown =
     let cells = w.cells.cells in
     let closed = closed_before w r cs (PairCell a d) PairAt v m in
-    let new = cells ++ placed (PairCell a d) in
-    let b : KeepsBlocks cells new = blocks.made cells (PairCell a d) refl in
-    let va = value_in cells a in
-    let vd = value_in cells d in
-    let long : length s.store ≡ length (store_of cells) = ap length shown.store ∙ length-map (store_of cells) (object_renumbered cells) in
-    ends_made law blocks made w r cs (PairCell a d) PairAt v s (λ s. Done (new_value s.store) (record s { store = cons_store s.store va vd })) (new_value s.store) (cons_store s.store va vd) m refl i shown refl
-    (sym (ap (map (object_renumbered new)) (made.pair cells a d closed la ld)
-    ∙ objects_same cells new (store_of cells ++ Pair (value_of cells a) (value_of cells d) ∷ []) (numbers_same cells new b)
-    ∙ map-append (object_renumbered cells) (store_of cells) (Pair (value_of cells a) (value_of cells d) ∷ [])
-    ∙ ap (λ os. os ++ Pair va vd ∷ []) (sym shown.store)))
-    (ap (renumbered new) (made.pair_named cells a d) ∙ ap Ref (sym long))
+    let va = value_of cells a in
+    let vd = value_of cells d in
+    ends_made law w r cs (PairCell a d) PairAt v s (λ s. Done (new_value s.store) (record s { store = cons_store s.store va vd })) (new_value s.store) (cons_store s.store va vd) m refl i shown refl
+    (ap (λ os. cons_store os va vd) shown.store ∙ sym (law.makes.pair cells a d closed la ld))
+    (law.makes.pair_named cells a d ∙ ap new_value (sym shown.store))
 
 -- ---- strings
 
-store_kept : (law : IsKept) (blocks : LeaveBlocks) (made : MakesMeaning) (cells : List Cell) (c : Cell) → block_in c ≡ None → object_count c ≡ 0 → IsClosed cells → store_in (cells ++ placed c) ≡ store_in cells
-unfolding store_in
-store_kept law blocks made cells c none zero_objects closed =
-    ap (map (object_renumbered (cells ++ placed c))) (made.others cells c closed zero_objects)
-    ∙ objects_same cells (cells ++ placed c) (store_of cells) (numbers_same cells (cells ++ placed c) (blocks.made cells c none))
-
-pub string_ends : (law : IsKept) (blocks : LeaveBlocks) (made : MakesMeaning) (w r : World) (cs : cell.CellStore) (bytes : List ℕ) (v : Tagged)
+pub string_ends : (law : AreCellLaws) (w r : World) (cs : cell.CellStore) (bytes : List ℕ) (v : Tagged)
     → IsMadeIn w r cs (StrCell bytes) StrAt v → IsWorld w → (s : State) → ShowsState w s → MeansValue s (made_string bytes s) (Ok v) (record r { cells = cs })
-string_ends law blocks made w r cs bytes v m i s shown =
+string_ends law w r cs bytes v m i s shown =
     let cells = w.cells.cells in
     let closed = closed_before w r cs (StrCell bytes) StrAt v m in
-    ends_made law blocks made w r cs (StrCell bytes) StrAt v s (λ s. Done (Str bytes) s) (Str bytes) s.store m refl i shown refl
-    (shown.store ∙ sym (store_kept law blocks made cells (StrCell bytes) refl refl closed))
-    (ap (renumbered (cells ++ placed (StrCell bytes))) (made.string_named cells bytes))
+    ends_made law w r cs (StrCell bytes) StrAt v s (λ s. Done (Str bytes) s) (Str bytes) s.store m refl i shown refl
+    (shown.store ∙ sym (law.makes.others cells (StrCell bytes) closed refl))
+    (law.makes.string_named cells bytes)
 
 pub string_stops : (w x : World) (bytes : List ℕ) (why : stops.Stop) → x ≡ w → IsWorld w → room_stop w.counts w.cells (cost_of (StrCell bytes)) ≡ Some why
     → (s : State) → ShowsState w s → MeansValue s (made_string bytes s) (Err why) x
@@ -232,29 +238,20 @@ long_copies x (suc n) = ap suc (long_copies x n)
 pub vector_cost : (n : ℕ) → cost_of (VectorCell (replicate n nil_id)) ≡ 1 + (n + 1) / 2
 vector_cost n = ap (λ l. 1 + (l + 1) / 2) (long_copies nil_id n)
 
-pub vector_ends : (law : IsKept) (blocks : LeaveBlocks) (made : MakesMeaning) (w r : World) (cs : cell.CellStore) (n : ℕ) (v : Tagged)
+pub vector_ends : (law : AreCellLaws) (w r : World) (cs : cell.CellStore) (n : ℕ) (v : Tagged)
     → IsMadeIn w r cs (VectorCell (replicate n nil_id)) VectorAt v → IsWorld w → (s : State) → ShowsState w s → MeansValue s (made_places n s) (Ok v) (record r { cells = cs })
-unfolding store_in
-vector_ends law blocks made w r cs n v m i s shown =
+vector_ends law w r cs n v m i s shown =
     let cells = w.cells.cells in
     let xs = replicate n nil_id in
     let c = VectorCell xs in
     let closed = closed_before w r cs c VectorAt v m in
-    let new = cells ++ placed c in
-    let b : KeepsBlocks cells new = blocks.made cells c refl in
     let nils = replicate n nil_value_of_state in
     let next : State → Outcome Value = λ s. Done (Ref (length s.store)) (record s { store = s.store ++ Vector nils ∷ [] }) in
-    let long : length s.store ≡ length (store_of cells) = ap length shown.store ∙ length-map (store_of cells) (object_renumbered cells) in
-    let places : map (renumbered cells) (map (value_of cells) xs) ≡ nils =
-    ap (map (renumbered cells)) (map_copies (value_of cells) nil_id n) ∙ map_copies (renumbered cells) (value_of cells nil_id) n ∙ ap (λ k. replicate n (Id k)) i.nil.number in
+    let places : map (value_of cells) xs ≡ nils = map_copies (value_of cells) nil_id n ∙ ap (λ k. replicate n (Id k)) i.table.first in
     subst (λ cost. MeansValue s (room cost s next) (Ok v) (record r { cells = cs })) (vector_cost n)
-    (ends_made law blocks made w r cs c VectorAt v s next (Ref (length s.store)) (s.store ++ Vector nils ∷ []) m refl i shown refl
-    (sym (ap (map (object_renumbered new)) (made.vector cells xs closed (all_copies (is_live cells) nil_id n i.table.nil))
-    ∙ objects_same cells new (store_of cells ++ Vector (map (value_of cells) xs) ∷ []) (numbers_same cells new b)
-    ∙ map-append (object_renumbered cells) (store_of cells) (Vector (map (value_of cells) xs) ∷ [])
-    ∙ ap (λ os. os ++ Vector (map (renumbered cells) (map (value_of cells) xs)) ∷ []) (sym shown.store)
-    ∙ ap (λ ys. s.store ++ Vector ys ∷ []) places))
-    (ap (renumbered new) (made.vector_named cells xs) ∙ ap Ref (sym long)))
+    (ends_made law w r cs c VectorAt v s next (Ref (length s.store)) (s.store ++ Vector nils ∷ []) m refl i shown refl
+    (ap (λ os. vector_store os nils) shown.store ∙ ap (λ ys. vector_store (store_of cells) ys) (sym places) ∙ sym (law.makes.vector cells xs closed (all_copies (is_live cells) nil_id n i.table.nil)))
+    (law.makes.vector_named cells xs ∙ ap new_value (sym shown.store)))
 
 pub vector_stops : (w x : World) (n : ℕ) (why : stops.Stop) → x ≡ w → IsWorld w → room_stop w.counts w.cells (cost_of (VectorCell (replicate n nil_id))) ≡ Some why
     → (s : State) → ShowsState w s → MeansValue s (made_places n s) (Err why) x
@@ -279,3 +276,6 @@ rest_counts w x k e = record { rest = subst (λ (y : World). y ≡ record w { ce
 
 pub has_counted : (w r : World) (k : counted.WorldCounts) (cost : ℕ) → r ≡ record w { counts = k } → IsWorld w → room_stop w.counts w.cells cost ≡ None → has_room r.cells cost ≡ true
 has_counted w r k cost e i h = subst (λ (x : World). has_room x.cells cost ≡ true) (sym e) (room_fits w.cells w.counts cost i.running h)
+
+pub live_counted : (w r : World) (k : counted.WorldCounts) (v : Tagged) → r ≡ record w { counts = k } → is_live w.cells.cells v ≡ true → is_live r.cells.cells v ≡ true
+live_counted w r k v e h = subst (λ (x : World). is_live x.cells.cells v ≡ true) (sym e) h

@@ -1,7 +1,9 @@
 -- Turns and room: what a world counts is what the definition counts.
 use Rattle.std.proofs.Common.{◌≡◌, ℕ, suc, ◌+◌, ◌-◌, ◌^◌, ◌<◌, ◌≤◌, Bool, true, false, nat_le, nat_lt, cond, List, length, Option, Some, None, Ok, Err, refl, sym, ap, subst, ◌∙◌, arith}
 use Rattle.std.proofs.lemmas.Bool.{leb-true, leb-false, le-leb, lt-leb, ltb-true, ltb-false}
+use Rattle.std.specs.Option.{ForSome}
 use Rattle.rl_tags.specs.Tagged.{index_of}
+use Rattle.rl_syms.specs.Table.{is_id}
 use Rattle.rl_cells.specs.Cell.{Cell, has_room, room_in, used_of}
 use Rattle.rl_cells.specs.Cell as cell
 use Rattle.rl_world.specs.Counts as counted
@@ -12,7 +14,7 @@ use Rattle.rl_world.specs.declared.stop.Stop.TheVariants as stop
 use Rattle.rl_world.specs.declared.world.World.{World}
 use Rattle.rl_meaning.specs.State.{State, Counts, Expansion}
 use Rattle.rl_meaning.specs.Outcome.{Outcome, Done, Stopped, Cells, room, turn, cells_within, expansion_within, run_room, run_turn, expansion_turn}
-use Rattle.rl_state.specs.Numbered.{ids_before}
+use Rattle.rl_syms.specs.Contents.{ids_before}
 use Rattle.rl_state.specs.ShownState.{ShowsState, counts_in, expansion_in}
 use Rattle.rl_state.specs.Worlds.{IsWorld, AreRunCounts, WorldGrows}
 use Rattle.rl_state.specs.Beside.{StaysBeside}
@@ -243,13 +245,21 @@ turn_means w x e i h s shown = subst (λ y. MeansDone s (turn s (λ t. Done tt t
     line_length = shown.line_length;
     taken = shown.taken;
     free = shown.free;
+    bound = shown.bound;
   };
   stays = record { functions = record { functions = refl; compilation = refl }; bindings = record { entries = refl; hidden = λ i b h. refl }; outside = refl } };
 })
 
+expanding_ticked : (cells : List Cell) (k : counted.WorldCounts) → k.opening ≡ None → ForSome k.outermost (λ e. is_id cells e.name ≡ true) → ForSome (ticked k).outermost (λ e. is_id cells e.name ≡ true)
+expanding_ticked cells k o h = subst (λ x. ForSome (counted.ticked_at x k.outermost k).outermost (λ e. is_id cells e.name ≡ true)) (sym o) (go k.outermost refl)
+  where
+    go : (outer : Option expansion.Expansion) → k.outermost ≡ outer → ForSome (counted.ticked_at None outer k).outermost (λ e. is_id cells e.name ≡ true)
+    go None is = h
+    go (Some e) is = λ x same. let q : record e { turns = e.turns + 1 } ≡ x = cc in subst (λ (y : expansion.Expansion). is_id cells y.name ≡ true) q (h e is)
+
 pub turn_grows : (w x : World) → x ≡ record w { counts = ticked w.counts } → IsWorld w → WorldGrows w x
 turn_grows w x e i = subst (λ y. WorldGrows w y) (sym e) (record {
-  world = record { table = i.table; nil = i.nil; t = i.t; message = i.message; texts = i.texts; running = running_ticked w.cells w.counts i.running; levels = i.levels };
+  world = record { table = i.table; t = i.t; message = i.message; texts = i.texts; running = running_ticked w.cells w.counts i.running; levels = i.levels; expanding = expanding_ticked w.cells.cells w.counts i.running.opened i.expanding };
   live = λ v h. h;
   values = λ v h. refl;
 })

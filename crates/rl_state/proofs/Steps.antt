@@ -18,7 +18,7 @@ use Rattle.rl_meaning.specs.Symbols.{nil_value_of_state, message_id, new_symbol,
 use Rattle.rl_meaning.specs.Constants.{reading_object, changing}
 use Rattle.rl_meaning.specs.Copying.{with_object}
 use Rattle.rl_tree.specs.Value as value
-use Rattle.rl_state.specs.Numbered.{value_in}
+use Rattle.rl_syms.specs.Contents.{value_of}
 use Rattle.rl_state.specs.ShownState.{ShowsState}
 use Rattle.rl_state.specs.Worlds.{IsWorld, WorldGrows}
 use Rattle.rl_state.specs.Beside.{StaysBeside}
@@ -77,6 +77,7 @@ shows_reading w v s h = record {
   line_length = h.line_length;
   taken = h.taken;
   free = h.free;
+  bound = h.bound;
 }
 
 pub stays_reading : (v : Value) (s : State) → StaysBeside s (reading_object v s)
@@ -92,6 +93,7 @@ shows_changing w (value.Ref r) s h = record {
   line_length = h.line_length;
   taken = h.taken;
   free = h.free;
+  bound = h.bound;
 }
 shows_changing w (value.Int z) s h = h
 shows_changing w (value.Id i) s h = h
@@ -117,7 +119,7 @@ str_live cells (BigAt k) h = absurd (cc)
 str_live cells (FunAt k) h = absurd (cc)
 
 -- what a string means is its bytes
-pub str_means : (cells : List Cell) (v : Tagged) → is_str cells v ≡ true → value_in cells v ≡ Str (bytes_of cells v)
+pub str_means : (cells : List Cell) (v : Tagged) → is_str cells v ≡ true → value_of cells v ≡ Str (bytes_of cells v)
 str_means cells (StrAt k) h = refl
 str_means cells (Number k) h = absurd (cc)
 str_means cells (IdAt k) h = absurd (cc)
@@ -129,10 +131,10 @@ str_means cells (FunAt k) h = absurd (cc)
 abbrev first_pair : ℕ → State → Outcome Value
 first_pair n s = made_pair (Str (error_text n)) nil_value_of_state s
 
-first_is : (w : World) (n : ℕ) (text : Tagged) (s : State) → value_in w.cells.cells text ≡ Str (error_text n) → IsWorld w → made_pair (value_in w.cells.cells text) (value_in w.cells.cells nil_id) s ≡ first_pair n s
+first_is : (w : World) (n : ℕ) (text : Tagged) (s : State) → value_of w.cells.cells text ≡ Str (error_text n) → IsWorld w → made_pair (value_of w.cells.cells text) (value_of w.cells.cells nil_id) s ≡ first_pair n s
 first_is w n text s is i =
-    ap (λ v. made_pair v (value_in w.cells.cells nil_id) s) is
-    ∙ ap (λ k. made_pair (Str (error_text n)) (Id k) s) i.nil.number
+    ap (λ v. made_pair v (value_of w.cells.cells nil_id) s) is
+    ∙ ap (λ k. made_pair (Str (error_text n)) (Id k) s) i.table.first
 
 -- EMSG!* is never bound
 stays_message : (v : Value) (t : State) → nearest message_id t ≡ None → StaysBeside t (with_top message_id v t)
@@ -143,33 +145,33 @@ stays_message v t free = record {
 }
 
 pub fails : (w w1 w2 w3 : World) (n : ℕ) (culprit text rest message : Tagged)
-    → value_in w.cells.cells text ≡ Str (error_text n)
+    → value_of w.cells.cells text ≡ Str (error_text n)
     → IsWorld w → is_live w.cells.cells culprit ≡ true → is_live w2.cells.cells message ≡ true
-    → ((s : State) → ShowsState w s → MeansValue s (made_pair (value_in w.cells.cells text) (value_in w.cells.cells nil_id) s) (Ok rest) w1) → WorldGrows w w1
-    → ((s : State) → ShowsState w1 s → MeansValue s (made_pair (value_in w1.cells.cells culprit) (value_in w1.cells.cells rest) s) (Ok message) w2)
-    → ((s : State) → ShowsState w2 s → ShowsState w3 (with_top message_id (value_in w2.cells.cells message) s)) → WorldGrows w2 w3
-    → (s : State) → ShowsState w s → MeansAnswer s (fail n (value_in w.cells.cells culprit) s) (step.Error (Number (pos n)) message) w3
+    → ((s : State) → ShowsState w s → MeansValue s (made_pair (value_of w.cells.cells text) (value_of w.cells.cells nil_id) s) (Ok rest) w1) → WorldGrows w w1
+    → ((s : State) → ShowsState w1 s → MeansValue s (made_pair (value_of w1.cells.cells culprit) (value_of w1.cells.cells rest) s) (Ok message) w2)
+    → ((s : State) → ShowsState w2 s → ShowsState w3 (with_top message_id (value_of w2.cells.cells message) s)) → WorldGrows w2 w3
+    → (s : State) → ShowsState w s → MeansAnswer s (fail n (value_of w.cells.cells culprit) s) (step.Error (Number (pos n)) message) w3
 fails w w1 w2 w3 n culprit text rest message is i live live2 m1 g1 m2 sh g3 s shown =
-    after s _ (value_in w1.cells.cells rest) w1 w3 _ _ (subst (λ o. EndsShown s o (λ t. Done (value_in w1.cells.cells rest) t) w1) (first_is w n text s is i) (m1 s shown)) (λ t shown1.
-    after t _ (value_in w2.cells.cells message) w2 w3 _ _ (subst (λ v. EndsShown t (made_pair v (value_in w1.cells.cells rest) t) (λ t. Done (value_in w2.cells.cells message) t) w2) (g1.values culprit live) (m2 t shown1)) (λ t shown2.
+    after s _ (value_of w1.cells.cells rest) w1 w3 _ _ (subst (λ o. EndsShown s o (λ t. Done (value_of w1.cells.cells rest) t) w1) (first_is w n text s is i) (m1 s shown)) (λ t shown1.
+    after t _ (value_of w2.cells.cells message) w2 w3 _ _ (subst (λ v. EndsShown t (made_pair v (value_of w1.cells.cells rest) t) (λ t. Done (value_of w2.cells.cells message) t) w2) (g1.values culprit live) (m2 t shown1)) (λ t shown2.
     record {
-      state = with_top message_id (value_in w2.cells.cells message) t;
-      is = ap (λ m. Failed (pos n) m (with_top message_id (value_in w2.cells.cells message) t)) (sym (g3.values message live2));
-      good = record { shows = sh t shown2; stays = stays_message (value_in w2.cells.cells message) t shown2.free };
+      state = with_top message_id (value_of w2.cells.cells message) t;
+      is = ap (λ m. Failed (pos n) m (with_top message_id (value_of w2.cells.cells message) t)) (sym (g3.values message live2));
+      good = record { shows = sh t shown2; stays = stays_message (value_of w2.cells.cells message) t shown2.free };
     }))
 
 pub fails_first : (w x : World) (n : ℕ) (culprit text : Tagged) (why : stops.Stop)
-    → value_in w.cells.cells text ≡ Str (error_text n) → IsWorld w
-    → ((s : State) → ShowsState w s → MeansValue s (made_pair (value_in w.cells.cells text) (value_in w.cells.cells nil_id) s) (Err why) x)
-    → (s : State) → ShowsState w s → MeansAnswer s (fail n (value_in w.cells.cells culprit) s) (step.Stop why) x
+    → value_of w.cells.cells text ≡ Str (error_text n) → IsWorld w
+    → ((s : State) → ShowsState w s → MeansValue s (made_pair (value_of w.cells.cells text) (value_of w.cells.cells nil_id) s) (Err why) x)
+    → (s : State) → ShowsState w s → MeansAnswer s (fail n (value_of w.cells.cells culprit) s) (step.Stop why) x
 fails_first w x n culprit text why is i m s shown =
     stops_first s _ _ _ (subst (λ o. StopsWith s o (stop_in x.cells.cells why)) (first_is w n text s is i) (m s shown))
 
 pub fails_second : (w w1 x : World) (n : ℕ) (culprit text rest : Tagged) (why : stops.Stop)
-    → value_in w.cells.cells text ≡ Str (error_text n) → IsWorld w → is_live w.cells.cells culprit ≡ true
-    → ((s : State) → ShowsState w s → MeansValue s (made_pair (value_in w.cells.cells text) (value_in w.cells.cells nil_id) s) (Ok rest) w1) → WorldGrows w w1
-    → ((s : State) → ShowsState w1 s → MeansValue s (made_pair (value_in w1.cells.cells culprit) (value_in w1.cells.cells rest) s) (Err why) x)
-    → (s : State) → ShowsState w s → MeansAnswer s (fail n (value_in w.cells.cells culprit) s) (step.Stop why) x
+    → value_of w.cells.cells text ≡ Str (error_text n) → IsWorld w → is_live w.cells.cells culprit ≡ true
+    → ((s : State) → ShowsState w s → MeansValue s (made_pair (value_of w.cells.cells text) (value_of w.cells.cells nil_id) s) (Ok rest) w1) → WorldGrows w w1
+    → ((s : State) → ShowsState w1 s → MeansValue s (made_pair (value_of w1.cells.cells culprit) (value_of w1.cells.cells rest) s) (Err why) x)
+    → (s : State) → ShowsState w s → MeansAnswer s (fail n (value_of w.cells.cells culprit) s) (step.Stop why) x
 fails_second w w1 x n culprit text rest why is i live m1 g1 m2 s shown =
-    stops_after s _ (value_in w1.cells.cells rest) w1 _ _ (subst (λ o. EndsShown s o (λ t. Done (value_in w1.cells.cells rest) t) w1) (first_is w n text s is i) (m1 s shown)) (λ t shown1.
-    stops_first t _ _ _ (subst (λ v. StopsWith t (made_pair v (value_in w1.cells.cells rest) t) (stop_in x.cells.cells why)) (g1.values culprit live) (m2 t shown1)))
+    stops_after s _ (value_of w1.cells.cells rest) w1 _ _ (subst (λ o. EndsShown s o (λ t. Done (value_of w1.cells.cells rest) t) w1) (first_is w n text s is i) (m1 s shown)) (λ t shown1.
+    stops_first t _ _ _ (subst (λ v. StopsWith t (made_pair v (value_of w1.cells.cells rest) t) (stop_in x.cells.cells why)) (g1.values culprit live) (m2 t shown1)))

@@ -12,7 +12,7 @@ use Rattle.rl_meaning.specs.Symbols.{pair_at}
 use Rattle.rl_meaning.specs.Constants.{reading_object}
 use Rattle.rl_meaning.specs.Lists.{list_length}
 use Rattle.rl_meaning.specs.Walks.{Further, Goes, Walked, walk, walk_pair, walk_within}
-use Rattle.rl_state.specs.Numbered.{value_in}
+use Rattle.rl_syms.specs.Contents.{value_of}
 use Rattle.rl_state.specs.ShownState.{ShowsState}
 use Rattle.rl_state.specs.Worlds.{WorldGrows}
 use Rattle.rl_state.specs.Beside.{StaysBeside}
@@ -84,43 +84,43 @@ pub record Walking (s : State) (u : Value) (w : World) (n : ℕ) (at : Tagged) :
   pub state : State
   pub shows : ShowsState w state
   pub stays : StaysBeside s state
-  pub goes : walk counting 0 u s ≡ walk counting n (value_in w.cells.cells at) state
+  pub goes : walk counting 0 u s ≡ walk counting n (value_of w.cells.cells at) state
 
-pub begins : (s : State) (w : World) (u : Tagged) → ShowsState w s → Walking s (value_in w.cells.cells u) w 0 u
+pub begins : (s : State) (w : World) (u : Tagged) → ShowsState w s → Walking s (value_of w.cells.cells u) w 0 u
 begins s w u h = record { state = s; shows = h; stays = record { functions = record { functions = refl; compilation = refl }; bindings = record { entries = refl; hidden = λ i b h. refl }; outside = refl }; goes = refl }
 
 pub walks_on : (s : State) (u : Value) (w x : World) (n : ℕ) (at : Tagged) (p : Tagged × Tagged) → Walking s u w n at
-    → ((t : State) → ShowsState w t → pair_at t (value_in w.cells.cells at) ≡ parts_in w.cells.cells (Some p))
+    → ((t : State) → ShowsState w t → pair_at t (value_of w.cells.cells at) ≡ parts_in w.cells.cells (Some p))
     → ((t : State) → ShowsState w t → MeansDone t (turn t (λ t. Done (tt {0}) t)) (Ok tt) x) → WorldGrows w x → is_live w.cells.cells p.1 ≡ true → Walking s u x (suc n) p.1
 walks_on s u w x n at p k parts step grows live =
-    let v = value_in w.cells.cells at in
+    let v = value_of w.cells.cells at in
     let t = step k.state k.shows in
     record {
       state = reading_object v t.state;
       shows = shows_reading x v t.state t.good.shows;
       stays = stays_watched s t.state (reading_object v t.state) (stays_trans s k.state t.state k.stays t.good.stays) refl refl refl refl refl;
-      goes = k.goes ∙ goes_on n v k.state (value_in w.cells.cells p.0, value_in w.cells.cells p.1) (parts k.state k.shows) ∙ turn_then k.state (λ t. walk counting (suc n) (value_in w.cells.cells p.1) (reading_object v t))
-          ∙ ap (λ (o : Outcome (Unit {0})). then_do o (λ u t. walk counting (suc n) (value_in w.cells.cells p.1) (reading_object v t))) t.is
+      goes = k.goes ∙ goes_on n v k.state (value_of w.cells.cells p.0, value_of w.cells.cells p.1) (parts k.state k.shows) ∙ turn_then k.state (λ t. walk counting (suc n) (value_of w.cells.cells p.1) (reading_object v t))
+          ∙ ap (λ (o : Outcome (Unit {0})). then_do o (λ u t. walk counting (suc n) (value_of w.cells.cells p.1) (reading_object v t))) t.is
           ∙ ap (λ d. walk counting (suc n) d (reading_object v t.state)) (sym (grows.values p.1 live));
     }
 
 pub walks_to_stop : (s : State) (u : Value) (w x : World) (n : ℕ) (at : Tagged) (p : Tagged × Tagged) (why : stops.Stop) → Walking s u w n at
-    → ((t : State) → ShowsState w t → pair_at t (value_in w.cells.cells at) ≡ parts_in w.cells.cells (Some p))
+    → ((t : State) → ShowsState w t → pair_at t (value_of w.cells.cells at) ≡ parts_in w.cells.cells (Some p))
     → ((t : State) → ShowsState w t → MeansDone t (turn t (λ t. Done (tt {0}) t)) (Err why) x) → MeansAnswer s (list_length u s) (step.Stop why) x
 walks_to_stop s u w x n at p why k parts step =
-    let v = value_in w.cells.cells at in
+    let v = value_of w.cells.cells at in
     let t = step k.state k.shows in
     record {
       state = t.state;
-      is = ap (λ (o : Outcome (Walked ℕ)). then_do o (λ walked s. Done (Int (pos walked.result)) s)) (k.goes ∙ goes_on n v k.state (value_in w.cells.cells p.0, value_in w.cells.cells p.1) (parts k.state k.shows) ∙ turn_then k.state (λ t. walk counting (suc n) (value_in w.cells.cells p.1) (reading_object v t))
-          ∙ ap (λ (o : Outcome (Unit {0})). then_do o (λ u t. walk counting (suc n) (value_in w.cells.cells p.1) (reading_object v t))) t.is);
+      is = ap (λ (o : Outcome (Walked ℕ)). then_do o (λ walked s. Done (Int (pos walked.result)) s)) (k.goes ∙ goes_on n v k.state (value_of w.cells.cells p.0, value_of w.cells.cells p.1) (parts k.state k.shows) ∙ turn_then k.state (λ t. walk counting (suc n) (value_of w.cells.cells p.1) (reading_object v t))
+          ∙ ap (λ (o : Outcome (Unit {0})). then_do o (λ u t. walk counting (suc n) (value_of w.cells.cells p.1) (reading_object v t))) t.is);
       good = stays_trans s k.state t.state k.stays t.good;
     }
 
 pub walks_to_end : (s : State) (u : Value) (w : World) (n : ℕ) (at : Tagged) → Walking s u w n at
-    → ((t : State) → ShowsState w t → pair_at t (value_in w.cells.cells at) ≡ None) → MeansAnswer s (list_length u s) (step.Done (Number (pos n))) w
+    → ((t : State) → ShowsState w t → pair_at t (value_of w.cells.cells at) ≡ None) → MeansAnswer s (list_length u s) (step.Done (Number (pos n))) w
 walks_to_end s u w n at k parts = record {
   state = k.state;
-  is = ap (λ (o : Outcome (Walked ℕ)). then_do o (λ walked s. Done (Int (pos walked.result)) s)) (k.goes ∙ ends n (value_in w.cells.cells at) k.state (parts k.state k.shows));
+  is = ap (λ (o : Outcome (Walked ℕ)). then_do o (λ walked s. Done (Int (pos walked.result)) s)) (k.goes ∙ ends n (value_of w.cells.cells at) k.state (parts k.state k.shows));
   good = record { shows = k.shows; stays = k.stays };
 }

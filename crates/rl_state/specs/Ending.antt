@@ -10,7 +10,8 @@ use Rattle.rl_world.specs.declared.stop.NStep.TheVariants as step
 use Rattle.rl_world.specs.declared.world.World.{World}
 use Rattle.rl_meaning.specs.State.{State}
 use Rattle.rl_meaning.specs.Outcome.{Outcome, Done, Failed, Stopped, Stop, Turns, Cells, Depth, Expands, Unbuilt}
-use Rattle.rl_state.specs.Numbered.{number_in, value_in}
+use Rattle.rl_syms.specs.Contents.{value_of}
+use Rattle.rl_state.specs.ShownState.{number_in}
 use Rattle.rl_state.specs.ShownState.{ShowsState}
 use Rattle.rl_state.specs.Beside.{StaysBeside}
 
@@ -41,7 +42,7 @@ abbrev pub StopsWith : {A : Type 0} → State → Outcome A → Stop → Type 0
 StopsWith s o why = Reaches (StaysBeside s) o (λ t. Stopped why t)
 
 abbrev pub MeansValue : State → Outcome Value → Result Tagged stops.Stop → World → Type 0
-MeansValue s o (Ok v) w = EndsShown s o (λ t. Done (value_in w.cells.cells v) t) w
+MeansValue s o (Ok v) w = EndsShown s o (λ t. Done (value_of w.cells.cells v) t) w
 MeansValue s o (Err why) w = StopsWith s o (stop_in w.cells.cells why)
 
 -- a step of which nothing is given
@@ -50,13 +51,13 @@ MeansDone s o (Ok v) w = EndsShown s o (λ t. Done tt t) w
 MeansDone s o (Err why) w = StopsWith s o (stop_in w.cells.cells why)
 
 abbrev pub MeansAnswer : State → Outcome Value → steps.NStep → World → Type 0
-MeansAnswer s o (step.Done v) w = EndsShown s o (λ t. Done (value_in w.cells.cells v) t) w
-MeansAnswer s o (step.Error n m) w = EndsShown s o (λ t. Failed (number_of n) (value_in w.cells.cells m) t) w
+MeansAnswer s o (step.Done v) w = EndsShown s o (λ t. Done (value_of w.cells.cells v) t) w
+MeansAnswer s o (step.Error n m) w = EndsShown s o (λ t. Failed (number_of n) (value_of w.cells.cells m) t) w
 MeansAnswer s o (step.Stop why) w = StopsWith s o (stop_in w.cells.cells why)
 
 abbrev pub parts_in : List Cell → Option (Tagged × Tagged) → Option (Value × Value)
 parts_in cells None = None
-parts_in cells (Some p) = Some (value_in cells p.0, value_in cells p.1)
+parts_in cells (Some p) = Some (value_of cells p.0, value_of cells p.1)
 
 -- what is answered is live
 abbrev pub IsAnswerLive : List Cell → steps.NStep → Type 0

@@ -1,7 +1,8 @@
-pub mod Numbered
+pub mod CellLaws
 pub mod ShownState
 pub mod Beside
 pub mod Worlds
 pub mod Ending
 pub mod Descents
 pub mod StateOfWorld
+pub mod Ties

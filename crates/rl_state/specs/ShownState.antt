@@ -1,7 +1,7 @@
 -- The states that a world may stand for: what a world determines of a state. Functions, bindings, what is watched, files, and what was read and printed are no part of a world.
-use Rattle.std.specs.Prelude.{◌≡◌, ℕ, ◌-◌, ◌%◌, ◌/◌, ◌^◌, ◌==◌, Bool, true, false, ◌||◌, List, [], ◌∷◌, length, Option, Some, None}
+use Rattle.std.specs.Prelude.{◌≡◌, ◌≤◌, ℕ, ◌-◌, ◌%◌, ◌/◌, ◌^◌, ◌==◌, Bool, true, false, ◌||◌, List, [], ◌∷◌, length, Option, Some, None}
 use Rattle.rl_tags.specs.Tagged.{Tagged, index_of}
-use Rattle.rl_tree.specs.Value.{Value}
+use Rattle.rl_tree.specs.Value.{Value, Fun}
 use Rattle.rl_tree.specs.declared.held.Kind.{Kind}
 use Rattle.rl_cells.specs.Cell as cell
 use Rattle.rl_cells.specs.Cell.{Cell, cell_at, is_id_cell, used_of}
@@ -14,7 +14,7 @@ use Rattle.rl_world.specs.declared.world.World.{World}
 use Rattle.rl_meaning.specs.State.{State, Symbol, Definition, Pointer, Counts, Expansion}
 use Rattle.rl_meaning.specs.Symbols.{symbol_at, message_id}
 use Rattle.rl_meaning.specs.Variables.{Nearest, nearest}
-use Rattle.rl_state.specs.Numbered.{ids_before, funs_before, value_in, store_in}
+use Rattle.rl_syms.specs.Contents.{ids_before, funs_before, value_of, store_of}
 
 -- ---- identifiers
 
@@ -22,16 +22,22 @@ abbrev pub is_listed : ℕ → List ℕ → Bool
 is_listed k [] = false
 is_listed k (x ∷ xs) = k == x || is_listed k xs
 
-abbrev pub pointer_in : List Cell → Tagged → Pointer
-pointer_in cells v = record { function = funs_before cells (index_of v % 2 ^ 32); place = index_of v / 2 ^ 32 }
+-- the number of an identifier
+abbrev pub number_in : List Cell → Tagged → ℕ
+number_in cells id = ids_before cells (index_of id)
+
+-- the function, and the place in it, that a value points to
+abbrev pub pointer_named : Value → Pointer
+pointer_named (Fun f place) = record { function = f; place = place }
+pointer_named v = record { function = 0; place = 0 }
 
 abbrev pub definition_in : List Cell → Option (Kind × Tagged) → Option Definition
 definition_in cells None = None
-definition_in cells (Some p) = Some (record { kind = p.0; function = pointer_in cells p.1 })
+definition_in cells (Some p) = Some (record { kind = p.0; function = pointer_named (value_of cells p.1) })
 
 abbrev pub option_value_in : List Cell → Option Tagged → Option Value
 option_value_in cells None = None
-option_value_in cells (Some v) = Some (value_in cells v)
+option_value_in cells (Some v) = Some (value_of cells v)
 
 -- what the identifier at a place has, with this value below all bindings
 unfoldable pub symbol_meant : List Cell → Option Tagged → ℕ → Option Value → Symbol
@@ -39,7 +45,7 @@ symbol_meant cells head k top = record {
   name = table.name_in_cells cells k;
   interned = is_listed k (ids_from cells head);
   top = top;
-  properties = value_in cells (table.symbol_in_cells cells k).plist;
+  properties = value_of cells (table.symbol_in_cells cells k).plist;
   definition = definition_in cells (table.symbol_in_cells cells k).definition;
   kind = (table.symbol_in_cells cells k).kind;
 }
@@ -56,7 +62,7 @@ value_seen s i = seen_of (nearest i s) (symbol_at s i).top
 
 abbrev pub expansion_in : List Cell → ℕ → Option expansion.Expansion → Option Expansion
 expansion_in cells inner None = None
-expansion_in cells inner (Some e) = Some (record { macro = ids_before cells (index_of e.name); inner_count = inner - 1; turns = 100000 - e.turns; cells = 1000000 - e.cells })
+expansion_in cells inner (Some e) = Some (record { macro = number_in cells e.name; inner_count = inner - 1; turns = 100000 - e.turns; cells = 1000000 - e.cells })
 
 abbrev pub turns_in : Option ℕ → ℕ → ℕ → ℕ
 turns_in None bound turns = bound - turns
@@ -89,7 +95,7 @@ pub record ShowsSymbols (cells : List Cell) (head : Option Tagged) (s : State) :
   pub values : (k : ℕ) → is_id_cell (cell_at cells k) ≡ true → value_seen s (ids_before cells k) ≡ option_value_in cells (table.symbol_in_cells cells k).value
 
 pub record ShowsState (w : World) (s : State) : Type 0 where
-  pub store : s.store ≡ store_in w.cells.cells
+  pub store : s.store ≡ store_of w.cells.cells
   pub symbols : ShowsSymbols w.cells.cells w.syms.head s
   pub counts : s.counts ≡ counts_in w.cells w.counts
   pub gensyms : s.gensyms ≡ w.syms.made
@@ -98,3 +104,5 @@ pub record ShowsState (w : World) (s : State) : Type 0 where
   pub taken : s.outside.taken ≡ w.input.given
   -- EMSG!* is GLOBAL, and so is never bound
   pub free : nearest message_id s ≡ None
+  -- what is bound is an identifier that there is
+  pub bound : (i : ℕ) → length s.symbols ≤ i → nearest i s ≡ None

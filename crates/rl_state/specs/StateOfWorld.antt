@@ -5,7 +5,7 @@ use Rattle.rl_cells.specs.Cell.{Cell, cell_at, is_id_cell}
 use Rattle.rl_syms.specs.Table as table
 use Rattle.rl_world.specs.declared.world.World.{World}
 use Rattle.rl_meaning.specs.State.{State, Symbol}
-use Rattle.rl_state.specs.Numbered.{store_in}
+use Rattle.rl_syms.specs.Contents.{store_of}
 use Rattle.rl_state.specs.ShownState.{ShowsState, counts_in, option_value_in, symbol_meant}
 
 abbrev pub symbol_there : List Cell → Option Tagged → ℕ → Bool → List Symbol
@@ -18,7 +18,7 @@ symbols_below cells head (suc k) = symbols_below cells head k ++ symbol_there ce
 
 unfoldable pub state_in : World → State
 state_in w = record {
-  store = store_in w.cells.cells;
+  store = store_of w.cells.cells;
   symbols = symbols_below w.cells.cells w.syms.head (length w.cells.cells);
   functions = [];
   bindings = [];

@@ -1,14 +1,15 @@
 -- Worlds of a run, and what stays as a run goes on.
 use Rattle.std.specs.Prelude.{◌≡◌, ◌≢◌, length, Option, ◌≤◌, ◌-◌, ◌^◌, ℕ, true, List, Some, None}
+use Rattle.std.specs.Option.{ForSome}
 use Rattle.rl_tags.specs.Tagged.{Tagged, index_of}
-use Rattle.rl_tags.specs.Ids.{nil_id, t_id, emsg_star_id}
+use Rattle.rl_tags.specs.Ids.{t_id, emsg_star_id}
 use Rattle.rl_cells.specs.Cell.{Cell, CellStore, is_live}
 use Rattle.rl_syms.specs.Table.{IsTable, is_id}
 use Rattle.rl_world.specs.Counts.{WorldCounts}
 use Rattle.rl_world.specs.Errors.{AreTexts}
 use Rattle.rl_world.specs.declared.world.World.{World}
 use Rattle.rl_tree.specs.Value.{Value}
-use Rattle.rl_state.specs.Numbered.{ids_before, value_in}
+use Rattle.rl_syms.specs.Contents.{ids_before, value_of}
 use Rattle.rl_state.specs.ShownState.{ShowsState, value_seen}
 use Rattle.rl_meaning.specs.State.{State}
 use Rattle.rl_meaning.specs.Symbols.{symbol_at, message_id}
@@ -31,18 +32,19 @@ pub record HasNumber (cells : List Cell) (id : Tagged) (i : ℕ) : Type 0 where
 
 pub record IsWorld (w : World) : Type 0 where
   pub table : IsTable w.cells.cells w.syms.head
-  pub nil : HasNumber w.cells.cells nil_id 0
   pub t : HasNumber w.cells.cells t_id 1
   pub message : HasNumber w.cells.cells emsg_star_id 3
   pub texts : AreTexts w.cells.cells w.texts 14
   pub running : AreRunCounts w.cells w.counts
   pub levels : w.levels.level ≤ w.levels.bound
+  -- what is expanded is a name
+  pub expanding : ForSome w.counts.outermost (λ e. is_id w.cells.cells e.name ≡ true)
 
 -- what was live is live, and means what it meant
 pub record WorldGrows (old new : World) : Type 0 where
   pub world : IsWorld new
   pub live : (v : Tagged) → is_live old.cells.cells v ≡ true → is_live new.cells.cells v ≡ true
-  pub values : (v : Tagged) → is_live old.cells.cells v ≡ true → value_in new.cells.cells v ≡ value_in old.cells.cells v
+  pub values : (v : Tagged) → is_live old.cells.cells v ≡ true → value_of new.cells.cells v ≡ value_of old.cells.cells v
 
 -- of a world nothing but objects, names and counts has changed: levels, output, input and notes are as they were
 pub record ObjectsAlone (old new : World) : Type 0 where
@@ -75,3 +77,4 @@ pub record SeenOtherwise (i : ℕ) (o : Option Value) (s t : State) : Type 0 whe
   pub here : value_seen t i ≡ o
   pub others : (j : ℕ) → j ≢ i → value_seen t j ≡ value_seen s j
   pub free : nearest message_id t ≡ None
+  pub bound : (j : ℕ) → length t.symbols ≤ j → nearest j t ≡ None

@@ -1,13 +1,44 @@
 //! Laws of what a world means. A law is the contract of a function that does nothing.
 ghost use Rattle.rl_state.specs.Worlds.{WorldDetermines};
 ghost use Rattle.rl_state.specs.StateOfWorld.{WorldIsShown};
+ghost use Rattle.rl_state.specs.Ties.{EachWorldTies};
+ghost use Rattle.rl_state.specs.CellLaws.{AreCellLaws};
+
+use rl_syms::laws::{identifiers_are_numbered, meaning_of_change, meaning_of_making};
+use rl_syms::laws::{meaning_of_naming, meaning_of_reading, names_enter};
+use rl_syms::laws::{others_leave_blocks, table_is_kept};
+
+/// What is known of cells.
+pub(crate) fn cells_are_known()
+    ensures { AreCellLaws }
+{
+    table_is_kept();
+    others_leave_blocks();
+    meaning_of_making();
+    meaning_of_change();
+    meaning_of_reading();
+    identifiers_are_numbered();
+    names_enter();
+    meaning_of_naming();
+}
 
 /// A world determines a state but for what is beside it.
 pub fn a_world_determines_a_state()
     ensures { WorldDetermines }
-{}
+{
+    identifiers_are_numbered();
+}
 
 /// Each world shows a state.
 pub fn a_world_shows_a_state()
     ensures { WorldIsShown }
-{}
+{
+    identifiers_are_numbered();
+}
+
+/// Each world has a state to which it ties, whatever is to come.
+pub fn a_world_is_tied()
+    ensures { EachWorldTies }
+{
+    identifiers_are_numbered();
+}

@@ -2,18 +2,26 @@
 #![tactic(auto)]
 
 mod errors;
+mod identifiers;
 pub mod laws;
 mod levels;
+mod names;
 mod natives;
 mod objects;
+mod outside;
 mod turns;
 mod variables;
 
 pub use errors::fail;
+pub use identifiers::{
+    definition, kind, name, properties, set_definition, set_kind, set_properties,
+};
 pub use levels::{deeper, shallower};
+pub use names::identifier;
 pub use natives::{car, cons, length, rplaca};
 pub use objects::{
     pair, parts, place, places, set_car, set_cdr, set_place, string, vector,
 };
+pub use outside::{flush, next_byte, peek, put_back, put_byte};
 pub use turns::turn;
 pub use variables::{cell, set_cell};

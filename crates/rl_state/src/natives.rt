@@ -4,7 +4,7 @@ ghost use Rattle.rl_cells.specs.Cell.{is_live};
 ghost use Rattle.rl_meaning.specs.State.{State};
 ghost use Rattle.rl_meaning.specs.Names.{Cons, Length, Part, Rplaca};
 ghost use Rattle.rl_meaning.specs.Natives.{native};
-ghost use Rattle.rl_state.specs.Numbered.{value_in};
+ghost use Rattle.rl_syms.specs.Contents.{value_of};
 ghost use Rattle.rl_state.specs.ShownState.{ShowsState};
 ghost use Rattle.rl_state.specs.Worlds.{IsWorld, WorldGrows, ObjectsAlone};
 ghost use Rattle.rl_state.specs.Ending.{MeansAnswer};
@@ -21,7 +21,7 @@ pub fn cons(w: &mut World, a: Val, d: Val) -> NStep
     requires world { IsWorld w.old }
     requires a_live { IsTrue (is_live w.old.cells.cells a) }
     requires d_live { IsTrue (is_live w.old.cells.cells d) }
-    ensures means { (s : State) → ShowsState w.old s → MeansAnswer s (native Cons None (value_in w.old.cells.cells a ∷ value_in w.old.cells.cells d ∷ []) s) result w.new }
+    ensures means { (s : State) → ShowsState w.old s → MeansAnswer s (native Cons None (value_of w.old.cells.cells a ∷ value_of w.old.cells.cells d ∷ []) s) result w.new }
     ensures grows { WorldGrows w.old w.new }
     ensures rest { ObjectsAlone w.old w.new }
 {
@@ -35,7 +35,7 @@ pub fn cons(w: &mut World, a: Val, d: Val) -> NStep
 pub fn car(w: &mut World, v: Val) -> NStep
     requires world { IsWorld w.old }
     requires v_live { IsTrue (is_live w.old.cells.cells v) }
-    ensures means { (s : State) → ShowsState w.old s → MeansAnswer s (native (Part (true ∷ [])) None (value_in w.old.cells.cells v ∷ []) s) result w.new }
+    ensures means { (s : State) → ShowsState w.old s → MeansAnswer s (native (Part (true ∷ [])) None (value_of w.old.cells.cells v ∷ []) s) result w.new }
     ensures grows { WorldGrows w.old w.new }
     ensures rest { ObjectsAlone w.old w.new }
 {
@@ -50,7 +50,7 @@ pub fn rplaca(w: &mut World, u: Val, v: Val) -> NStep
     requires world { IsWorld w.old }
     requires u_live { IsTrue (is_live w.old.cells.cells u) }
     requires v_live { IsTrue (is_live w.old.cells.cells v) }
-    ensures means { (s : State) → ShowsState w.old s → MeansAnswer s (native Rplaca None (value_in w.old.cells.cells u ∷ value_in w.old.cells.cells v ∷ []) s) result w.new }
+    ensures means { (s : State) → ShowsState w.old s → MeansAnswer s (native Rplaca None (value_of w.old.cells.cells u ∷ value_of w.old.cells.cells v ∷ []) s) result w.new }
     ensures grows { WorldGrows w.old w.new }
     ensures rest { ObjectsAlone w.old w.new }
 {
@@ -75,7 +75,7 @@ fn count(n: u64) -> Val
 pub fn length(w: &mut World, u: Val) -> NStep
     requires world { IsWorld w.old }
     requires u_live { IsTrue (is_live w.old.cells.cells u) }
-    ensures means { (s : State) → ShowsState w.old s → MeansAnswer s (native Length None (value_in w.old.cells.cells u ∷ []) s) result w.new }
+    ensures means { (s : State) → ShowsState w.old s → MeansAnswer s (native Length None (value_of w.old.cells.cells u ∷ []) s) result w.new }
     ensures grows { WorldGrows w.old w.new }
     ensures rest { ObjectsAlone w.old w.new }
 {

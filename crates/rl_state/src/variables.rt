@@ -3,11 +3,12 @@ ghost use Rattle.std.specs.Prelude.{◌≡◌, IsTrue};
 ghost use Rattle.rl_cells.specs.Cell.{is_live};
 ghost use Rattle.rl_meaning.specs.State.{State};
 ghost use Rattle.rl_syms.specs.Table.{is_id};
-ghost use Rattle.rl_state.specs.Numbered.{number_in};
+ghost use Rattle.rl_state.specs.ShownState.{number_in};
 ghost use Rattle.rl_state.specs.ShownState.{ShowsState, option_value_in, value_seen};
 ghost use Rattle.rl_state.specs.Worlds.{IsWorld, WorldGrows, ObjectsAlone, SeenOtherwise};
 ghost use Rattle.std.specs.Option.{ForSome};
 
+use rl_syms::laws::identifiers_are_numbered;
 use rl_tags::Val;
 use rl_world::World;
 
@@ -20,6 +21,7 @@ pub fn set_cell(w: &mut World, id: Val, v: Option<Val>)
     ensures grows { WorldGrows w.old w.new }
     ensures rest { ObjectsAlone w.old w.new }
 {
+    identifiers_are_numbered();
     w.syms.set_value(&mut w.cells, id, v);
 }
 

@@ -3,7 +3,7 @@ use Rattle.rl_tree.specs.Value.{Str}
 use Rattle.rl_world.specs.declared.stop.NStep.TheVariants as step
 use Rattle.rl_meaning.specs.Errors.{fail as failing}
 use Rattle.rl_state.specs.Ending.{MeansAnswer, IsAnswerLive}
-use Rattle.rl_state.specs.Numbered.{value_in}
+use Rattle.rl_syms.specs.Contents.{value_of}
 use Rattle.rl_state.proofs.Steps.{fails, fails_first, fails_second, grows_trans, str_means}
 use Rattle.rl_state.proofs.Made.{rest_trans}
 use Rattle.rl_state.proofs.errors.fail.Goals as goal
@@ -27,7 +27,7 @@ returns-in-Err-pair-clause-grows c = grows_trans c.args.w.now c.pair.new.w c.pai
 
 pub returns-clause-means : goal.returns-clause-means
 returns-clause-means c s shown =
-    subst (λ n. MeansAnswer s (failing c.args.n (value_in c.args.w.now.cells.cells c.args.culprit) s) (step.Error n c.in-Ok-pair.v) c.set_message.new.w) (sym c.number.ensures)
+    subst (λ n. MeansAnswer s (failing c.args.n (value_of c.args.w.now.cells.cells c.args.culprit) s) (step.Error n c.in-Ok-pair.v) c.set_message.new.w) (sym c.number.ensures)
     (fails c.args.w.now c.pair.new.w c.pair-2.new.w c.set_message.new.w c.args.n c.args.culprit c.error_text-text.result c.in-Ok.v c.in-Ok-pair.v
     (str_means c.args.w.now.cells.cells c.error_text-text.result c.error_text-text.ensures.string ∙ ap Str c.error_text-text.ensures.text) c.requires.world c.requires.culprit_live c.in-Ok-pair.ensures.live
     c.in-Ok.ensures.means c.pair.ensures.grows c.in-Ok-pair.ensures.means c.set_message.ensures.shows c.set_message.ensures.grows s shown)

@@ -2,7 +2,7 @@ use Rattle.std.proofs.Common.{◌≡◌, ◌+◌, arith, refl, subst, sym, suc}
 use Rattle.rl_world.specs.declared.stop.NStep.TheVariants as step
 use Rattle.rl_meaning.specs.Lists.{list_length}
 use Rattle.rl_state.specs.Ending.{MeansAnswer}
-use Rattle.rl_state.specs.Numbered.{value_in}
+use Rattle.rl_syms.specs.Contents.{value_of}
 use Rattle.rl_state.proofs.Room.{few_left}
 use Rattle.rl_state.proofs.Made.{rest_trans}
 use Rattle.rl_state.proofs.Steps.{grows_trans}
@@ -30,7 +30,7 @@ loop-p-preserved c =
       count = omega (arith, falls, c.loop-p.invariant.count);
       grows = grows_trans _ _ _ c.loop-p.invariant.grows c.turn.ensures.grows;
       rest = rest_trans _ _ _ c.loop-p.invariant.rest c.turn.ensures.rest;
-      walking = λ s shown. subst (λ n. Walking s (value_in c.args.w.now.cells.cells c.args.u) c.turn.new.w n c.in-Some.p.1) next
+      walking = λ s shown. subst (λ n. Walking s (value_of c.args.w.now.cells.cells c.args.u) c.turn.new.w n c.in-Some.p.1) next
           (walks_on s _ c.loop-p.w c.turn.new.w c.loop-p.n c.loop-p.at c.in-Some.p (c.loop-p.invariant.walking s shown) c.in-Some.ensures.means c.in_default-turn.ensures.means c.turn.ensures.grows live);
     }
 
@@ -39,5 +39,5 @@ count-requires c = omega (arith, few_left c.args.w.now.cells c.args.w.now.counts
 
 pub returns-clause-means : goal.returns-clause-means
 returns-clause-means c s shown =
-    subst (λ n. MeansAnswer s (list_length (value_in c.args.w.now.cells.cells c.args.u) s) (step.Done n) c.loop-p.w) (sym c.count.ensures)
+    subst (λ n. MeansAnswer s (list_length (value_of c.args.w.now.cells.cells c.args.u) s) (step.Done n) c.loop-p.w) (sym c.count.ensures)
     (walks_to_end s _ c.loop-p.w c.loop-p.n c.loop-p.at (c.loop-p.invariant.walking s shown) c.in_default.ensures.means)

@@ -1,16 +1,25 @@
-use Rattle.std.proofs.Common.{refl}
+use Rattle.std.proofs.Common.{refl, ◌∙◌}
 use Rattle.rl_cells.specs.Cell.{PairCell}
-use Rattle.rl_state.proofs.Made.{made_ends, pair_ends, pair_stops, rest_made, rest_refl}
+use Rattle.rl_state.proofs.Made.{has_counted, live_counted, made_ends, pair_ends, pair_stops, rest_made, rest_refl}
 use Rattle.rl_state.proofs.objects.pair.Goals as goal
+
+pub cons-requires-clause-car_live : goal.cons-requires-clause-car_live
+cons-requires-clause-car_live c = live_counted c.args.w.now c.room.new.self _ c.args.a c.in-Ok.ensures.counted c.requires.a_live
+
+pub cons-requires-clause-cdr_live : goal.cons-requires-clause-cdr_live
+cons-requires-clause-cdr_live c = live_counted c.args.w.now c.room.new.self _ c.args.d c.in-Ok.ensures.counted c.requires.d_live
+
+pub unwrap-requires : goal.unwrap-requires
+unwrap-requires c = c.cons.ensures.full ∙ has_counted c.args.w.now c.room.new.self _ _ c.in-Ok.ensures.counted c.requires.world c.in-Ok.ensures.ok
 
 pub returns-in-Ok-clause-means : goal.returns-in-Ok-clause-means
 returns-in-Ok-clause-means c =
-    pair_ends c.table_is_kept.ensures c.others_leave_blocks.ensures c.meaning_of_making.ensures c.args.w.now c.room.new.self c.cons.new.self c.args.a c.args.d c.unwrap.result
+    pair_ends c.cells_are_known.ensures c.args.w.now c.room.new.self c.cons.new.self c.args.a c.args.d c.unwrap.result
     (record { counted = c.in-Ok.ensures.counted; made = rw c.unwrap.ensures at c.cons.ensures.ok; named = rw c.unwrap.ensures at c.cons.ensures.names; closed = c.cons.ensures.closed; room = c.in-Ok.ensures.ok }) c.requires.world c.requires.a_live c.requires.d_live
 
 pub returns-in-Ok-clause-grows : goal.returns-in-Ok-clause-grows
 returns-in-Ok-clause-grows c =
-    made_ends c.table_is_kept.ensures c.others_leave_blocks.ensures c.meaning_of_making.ensures c.args.w.now c.room.new.self c.cons.new.self (PairCell c.args.a c.args.d)
+    made_ends c.cells_are_known.ensures c.args.w.now c.room.new.self c.cons.new.self (PairCell c.args.a c.args.d)
     c.in-Ok.ensures.counted (rw c.unwrap.ensures at c.cons.ensures.ok) refl c.requires.world
 
 pub returns-in-Ok-clause-rest : goal.returns-in-Ok-clause-rest

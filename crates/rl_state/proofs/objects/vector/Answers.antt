@@ -10,12 +10,12 @@ unwrap-requires c = c.vector.ensures.full ∙ (has_counted c.args.w.now c.room.n
 
 pub returns-in-Ok-clause-means : goal.returns-in-Ok-clause-means
 returns-in-Ok-clause-means c =
-    vector_ends c.table_is_kept.ensures c.others_leave_blocks.ensures c.meaning_of_making.ensures c.args.w.now c.room.new.self c.vector.new.self c.args.places c.unwrap.result
+    vector_ends c.cells_are_known.ensures c.args.w.now c.room.new.self c.vector.new.self c.args.places c.unwrap.result
     (record { counted = (rw c.vector_cost.ensures at c.in-Ok.ensures.counted); made = rw c.unwrap.ensures at c.vector.ensures.ok; named = rw c.unwrap.ensures at c.vector.ensures.names; closed = c.vector.ensures.closed; room = (rw c.vector_cost.ensures at c.in-Ok.ensures.ok) }) c.requires.world
 
 pub returns-in-Ok-clause-grows : goal.returns-in-Ok-clause-grows
 returns-in-Ok-clause-grows c =
-    made_ends c.table_is_kept.ensures c.others_leave_blocks.ensures c.meaning_of_making.ensures c.args.w.now c.room.new.self c.vector.new.self (VectorCell (replicate c.args.places nil_id))
+    made_ends c.cells_are_known.ensures c.args.w.now c.room.new.self c.vector.new.self (VectorCell (replicate c.args.places nil_id))
     (rw c.vector_cost.ensures at c.in-Ok.ensures.counted) (rw c.unwrap.ensures at c.vector.ensures.ok) refl c.requires.world
 
 pub returns-in-Ok-clause-rest : goal.returns-in-Ok-clause-rest

@@ -1,0 +1,311 @@
+-- A new identifier before the others on the chain: the world is one of a run, and shows the state with one more symbol.
+use Rattle.std.proofs.Common.{◌≡◌, ◌≢◌, ℕ, ◌+◌, ◌-◌, ◌<◌, ◌≤◌, ◌⊎◌, Bool, true, false, ◌||◌, ◌==◌, nat_le, List, [], ◌∷◌, ◌++◌, length, Option, Some, None, Ok, Err, refl, sym, ap, subst, ◌∙◌, arith, inl, inr, length-append}
+use Rattle.std.specs.Prelude.{slice_index_or, Result, OnErr, is_ok}
+use Rattle.std.proofs.lemmas.Bool.{eqb-true, leb-true, leb-false}
+use Rattle.std.proofs.lemmas.List.{get_or_append_left}
+use Rattle.std.proofs.Math.Seq.{get_or-append_seam}
+use Rattle.rl_tags.specs.Tagged.{Tagged, Number, IdAt, StrAt, PairAt, VectorAt, BigAt, FunAt, index_of}
+use Rattle.rl_tree.specs.Value.{Value, Id, Str}
+use Rattle.rl_tree.specs.Name.{Name}
+use Rattle.rl_tree.specs.declared.held.VarKind.{VarKind}
+use Rattle.rl_tree.specs.declared.held.VarKind.TheVariants.{Plain}
+use Rattle.rl_cells.specs.Cell as cell
+use Rattle.rl_cells.specs.Cell.{Cell, StrCell, IsClosed, cell_at, cost_of, is_id_cell, is_live, is_str, bytes_of, used_of, words_in}
+use Rattle.rl_syms.specs.Contents.{ids_before, value_of}
+use Rattle.rl_syms.specs.Frame.{Adds}
+use Rattle.rl_syms.specs.Laws.{GainsName}
+use Rattle.rl_syms.specs.Made.{Enters, Finds, id_cost, new_id, with_id}
+use Rattle.rl_syms.specs.Opened.{IsBlank}
+use Rattle.rl_syms.specs.Table as table
+use Rattle.rl_syms.specs.Table.{IsFree, IsTable, SymbolCells, ids_from, is_id, nil_value, symbol_in_cells}
+use Rattle.rl_syms.specs.declared.table.Syms.{Syms}
+use Rattle.rl_world.specs.Counts as counted
+use Rattle.rl_world.specs.Counts.{room_stop, roomed, with_cells}
+use Rattle.rl_world.specs.declared.stop.Stop as stops
+use Rattle.rl_world.specs.declared.world.World.{World}
+use Rattle.rl_meaning.specs.State.{State}
+use Rattle.rl_meaning.specs.State as meaning
+use Rattle.rl_meaning.specs.Outcome.{Outcome, Done, room, string_cost}
+use Rattle.rl_meaning.specs.Symbols.{interned, interned_at, new_symbol, symbol_at, nil_value_of_state}
+use Rattle.rl_meaning.specs.Variables.{Nearest, nearest}
+use Rattle.rl_state.specs.CellLaws.{AreCellLaws}
+use Rattle.rl_state.specs.ShownState.{ShowsState, ShowsSymbols, counts_in, definition_in, expansion_in, is_listed, option_value_in, seen_of, symbol_meant, value_seen}
+use Rattle.rl_state.specs.Beside.{StaysBeside}
+use Rattle.rl_state.specs.Worlds.{AreRunCounts, HasNumber, IsWorld, ObjectsAlone, WorldGrows}
+use Rattle.rl_state.specs.Ending.{MeansValue}
+use Rattle.rl_state.proofs.Kept.{SameValues, alike_stood, id_inside, named_same, number_same, same_id, symbol_like, value_stood}
+use Rattle.rl_state.proofs.Room.{left, left_in, room_done, room_full, roomed_in}
+use Rattle.rl_state.proofs.Made.{expanding_kept, expanding_roomed, expansion_kept}
+use Rattle.rl_state.proofs.Finding.{among_listed, false_unless, free_name}
+
+module _ (law : AreCellLaws) (w : World) (name : Name) (some : 1 ≤ length name) (short : length name ≤ 255) (i : IsWorld w) (free : IsFree w.cells.cells w.syms.head name) where
+  abbrev old_cells : List Cell
+  old_cells = w.cells.cells
+
+  abbrev new_cells : List Cell
+  new_cells = (with_id w.cells name nil_value w.syms.head).cells
+
+  abbrev entered_id : Tagged
+  entered_id = new_id w.cells name
+
+  abbrev place : ℕ
+  place = index_of entered_id
+
+  abbrev after : Option Tagged
+  after = Some entered_id
+
+  abbrev entered_counts : counted.WorldCounts
+  entered_counts = roomed w.counts (id_cost name)
+
+  -- the world with the new identifier
+  abbrev pub entered_world : World
+  entered_world = record w { cells = with_id w.cells name nil_value w.syms.head; counts = entered_counts; syms = record w.syms { head = after } }
+
+  gains : GainsName old_cells new_cells w.syms.head after name entered_id
+  gains = law.enters w.cells w.syms.head name some short i.table free
+
+  same : SameValues old_cells new_cells
+  same v h = law.naming.values w.cells name w.syms.head v h
+
+  string_stands : (v : Tagged) → is_str old_cells v ≡ true → is_str new_cells v ≡ true
+  string_stands (StrAt k) h = gains.adds.live (StrAt k) h
+  string_stands (Number k) h = absurd (cc)
+  string_stands (IdAt k) h = absurd (cc)
+  string_stands (PairAt k) h = absurd (cc)
+  string_stands (VectorAt k) h = absurd (cc)
+  string_stands (BigAt k) h = absurd (cc)
+  string_stands (FunAt k) h = absurd (cc)
+
+  text_of : Value → List ℕ
+  text_of (Str bytes) = bytes
+  text_of v = []
+
+  text_stands : (v : Tagged) → is_str old_cells v ≡ true → bytes_of new_cells v ≡ bytes_of old_cells v
+  unfolding text_of
+  text_stands (StrAt k) h = ap text_of (same (StrAt k) h)
+  text_stands (Number k) h = absurd (cc)
+  text_stands (IdAt k) h = absurd (cc)
+  text_stands (PairAt k) h = absurd (cc)
+  text_stands (VectorAt k) h = absurd (cc)
+  text_stands (BigAt k) h = absurd (cc)
+  text_stands (FunAt k) h = absurd (cc)
+
+  numbered_stands : (id : Tagged) (n : ℕ) → HasNumber old_cells id n → HasNumber new_cells id n
+  numbered_stands id n h = record { is_id = gains.adds.ids id h.is_id; number = named_same old_cells new_cells id same h.is_id ∙ h.number }
+
+  counted_entered : AreRunCounts (with_id w.cells name nil_value w.syms.head) entered_counts
+  counted_entered = record {
+    opened = i.running.opened;
+    together = i.running.together;
+    counted = (i.running.counted.0 + cost_of (StrCell name) + 3, rw (i.running.counted.1, i.running.unmarked) refl);
+    unmarked = i.running.unmarked;
+    bound = i.running.bound;
+    few = i.running.few;
+  }
+
+  used_entered : used_of (with_id w.cells name nil_value w.syms.head) ≡ used_of w.cells + id_cost name
+  used_entered =
+      let a : used_of (with_id w.cells name nil_value w.syms.head) ≡ i.running.counted.0 + cost_of (StrCell name) + 3 = rw (i.running.counted.1, i.running.unmarked) refl in
+      let b : used_of w.cells ≡ i.running.counted.0 = rw i.running.counted.1 refl in
+      a ∙ three i.running.counted.0 (cost_of (StrCell name)) ∙ ap (λ n. n + id_cost name) (sym b)
+    where
+      three : (n c : ℕ) → n + c + 3 ≡ n + (c + 3)
+      three n c = omega arith
+
+  pub entered_grows : WorldGrows w entered_world
+  entered_grows = record {
+    world = record {
+      table = gains.table;
+      t = numbered_stands _ 1 i.t;
+      message = numbered_stands _ 3 i.message;
+      texts = record {
+        string = λ n d l. string_stands (slice_index_or w.texts n d) (i.texts.string n d l);
+        text = λ n d l. text_stands (slice_index_or w.texts n d) (i.texts.string n d l) ∙ i.texts.text n d l;
+      };
+      running = counted_entered;
+      levels = i.levels;
+      expanding = expanding_kept old_cells new_cells (with_cells (id_cost name) w.counts.outermost) gains.adds.ids (expanding_roomed old_cells (id_cost name) w.counts.outermost i.expanding);
+    };
+    live = gains.adds.live;
+    values = same;
+  }
+
+  counts_entered : roomed_in w.cells w.counts (id_cost name) ≡ counts_in (with_id w.cells name nil_value w.syms.head) entered_counts
+  counts_entered =
+      let k = w.counts in
+      let now = left_in (with_id w.cells name nil_value w.syms.head) entered_counts counted_entered in
+      let expands = expansion_kept old_cells new_cells k.open_count (with_cells (id_cost name) k.outermost) same (expanding_roomed old_cells (id_cost name) k.outermost i.expanding) in
+      sym (now ∙ ap (λ n. left k.bound (k.bound - k.turns) (k.cells_bound - n) (expansion_in new_cells k.open_count (with_cells (id_cost name) k.outermost))) used_entered
+      ∙ ap (λ e. left k.bound (k.bound - k.turns) (k.cells_bound - (used_of w.cells + id_cost name)) e) expands)
+
+  -- ---- the new symbol
+
+  abbrev entered_symbol : meaning.Symbol
+  entered_symbol = new_symbol name true
+
+  abbrev with_entered : State → State
+  with_entered s = record s { counts = roomed_in w.cells w.counts (id_cost name); symbols = s.symbols ++ entered_symbol ∷ [] }
+
+  number_there : (s : State) → ShowsState w s → ids_before new_cells place ≡ length s.symbols
+  number_there s shown = same_id (ids_before new_cells place) (ids_before old_cells (length old_cells)) (law.naming.named w.cells name w.syms.head) ∙ sym shown.symbols.many
+
+  blank : IsBlank (symbol_in_cells new_cells place)
+  blank = law.naming.blank w.cells name w.syms.head
+
+  symbol_there : (top : Option Value) → top ≡ None → symbol_meant new_cells after place top ≡ entered_symbol
+  unfolding symbol_meant
+  symbol_there top e =
+      ap (λ t. made (table.name_in_cells new_cells place) (is_listed place (ids_from new_cells after)) t (value_of new_cells (symbol_in_cells new_cells place).plist) (definition_in new_cells (symbol_in_cells new_cells place).definition) (symbol_in_cells new_cells place).kind) e
+      ∙ ap (λ x. made x (is_listed place (ids_from new_cells after)) None (value_of new_cells (symbol_in_cells new_cells place).plist) (definition_in new_cells (symbol_in_cells new_cells place).definition) (symbol_in_cells new_cells place).kind) gains.named.name_is
+      ∙ ap (λ x. made name x None (value_of new_cells (symbol_in_cells new_cells place).plist) (definition_in new_cells (symbol_in_cells new_cells place).definition) (symbol_in_cells new_cells place).kind) (among_listed place (ids_from new_cells after) gains.named.interned.1)
+      ∙ ap (λ x. made name true None x (definition_in new_cells (symbol_in_cells new_cells place).definition) (symbol_in_cells new_cells place).kind) (ap (value_of new_cells) blank.plist ∙ ap Id gains.table.first)
+      ∙ ap (λ x. made name true None nil_value_of_state (definition_in new_cells x) (symbol_in_cells new_cells place).kind) blank.definition
+      ∙ ap (λ x. made name true None nil_value_of_state None x) blank.kind
+    where
+      made : Name → Bool → Option Value → Value → Option meaning.Definition → VarKind → meaning.Symbol
+      made name listed top plist definition kind = record { name = name; interned = listed; top = top; properties = plist; definition = definition; kind = kind }
+
+  at_end : (s : State) → symbol_at (with_entered s) (length s.symbols) ≡ entered_symbol
+  at_end s = get_or-append_seam s.symbols entered_symbol [] (new_symbol [] false)
+
+  at_front : (s : State) (n : ℕ) → n < length s.symbols → symbol_at (with_entered s) n ≡ symbol_at s n
+  at_front s n l = get_or_append_left s.symbols (entered_symbol ∷ []) (new_symbol [] false) n l
+
+  cells_stand : (k : ℕ) → is_id_cell (cell_at old_cells k) ≡ true → symbol_in_cells new_cells k ≡ symbol_in_cells old_cells k
+  cells_stand k h = ap (λ c. table.symbol_of (words_in c)) (gains.adds.stands k (id_inside old_cells k h))
+
+  listed_stands : (k : ℕ) → is_id_cell (cell_at old_cells k) ≡ true → is_listed k (ids_from new_cells after) ≡ is_listed k (ids_from old_cells w.syms.head)
+  listed_stands k h =
+      let l = id_inside old_cells k h in
+      ap (is_listed k) (law.naming.entered w.cells name w.syms.head some short i.table)
+      ∙ ap (λ b. b || is_listed k (ids_from old_cells w.syms.head)) (false_unless (k == place) (λ e. let q = eqb-true k place e in absurd (omega (arith, q, l))))
+
+  symbols_entered : IsClosed old_cells → (s : State) → ShowsState w s → ShowsSymbols new_cells after (with_entered s)
+  symbols_entered closed s shown = record {
+    many = length-append s.symbols (entered_symbol ∷ []) ∙ ap (λ n. n + 1) shown.symbols.many ∙ sym (law.naming.many w.cells name w.syms.head);
+    symbols = λ k h. symbol k (law.naming.only w.cells name w.syms.head k h);
+    values = λ k h. value k (law.naming.only w.cells name w.syms.head k h);
+  }
+    where
+      within : (k : ℕ) → is_id_cell (cell_at old_cells k) ≡ true → ids_before old_cells k < length s.symbols
+      within k h = subst (λ n. ids_before old_cells k < n) (sym shown.symbols.many) (law.numbered.within old_cells k h)
+
+      symbol : (k : ℕ) → (k ≡ place) ⊎ (is_id_cell (cell_at old_cells k) ≡ true) → symbol_at (with_entered s) (ids_before new_cells k) ≡ symbol_meant new_cells after k (symbol_at (with_entered s) (ids_before new_cells k)).top
+      symbol k (inl e) =
+          let P : ℕ → Type 0 = λ j. symbol_at (with_entered s) (ids_before new_cells j) ≡ symbol_meant new_cells after j (symbol_at (with_entered s) (ids_before new_cells j)).top in
+          let Q : ℕ → Type 0 = λ n. symbol_at (with_entered s) n ≡ symbol_meant new_cells after place (symbol_at (with_entered s) n).top in
+          subst P (sym e) (subst Q (sym (number_there s shown)) (at_end s ∙ sym (symbol_there _ (ap (λ (y : meaning.Symbol). y.top) (at_end s)))))
+      symbol k (inr h) =
+          let Q : ℕ → Type 0 = λ n. symbol_at (with_entered s) n ≡ symbol_meant new_cells after k (symbol_at (with_entered s) n).top in
+          let front = at_front s (ids_before old_cells k) (within k h) in
+          subst Q (sym (number_same old_cells new_cells k same h)) (front ∙ shown.symbols.symbols k h
+          ∙ sym (symbol_like old_cells new_cells w.syms.head after k _ (alike_stood old_cells new_cells w.syms.head after k i.table closed same text_stands (listed_stands k h) h (cells_stand k h)))
+          ∙ ap (λ (y : meaning.Symbol). symbol_meant new_cells after k y.top) (sym front))
+
+      value : (k : ℕ) → (k ≡ place) ⊎ (is_id_cell (cell_at old_cells k) ≡ true) → value_seen (with_entered s) (ids_before new_cells k) ≡ option_value_in new_cells (symbol_in_cells new_cells k).value
+      value k (inl e) =
+          let P : ℕ → Type 0 = λ j. value_seen (with_entered s) (ids_before new_cells j) ≡ option_value_in new_cells (symbol_in_cells new_cells j).value in
+          let Q : ℕ → Type 0 = λ n. value_seen (with_entered s) n ≡ option_value_in new_cells (symbol_in_cells new_cells place).value in
+          subst P (sym e) (subst Q (sym (number_there s shown)) (ap (λ o. seen_of o (symbol_at (with_entered s) (length s.symbols)).top) (shown.bound (length s.symbols) (omega arith))
+          ∙ ap (λ (y : meaning.Symbol). y.top) (at_end s) ∙ ap (option_value_in new_cells) (sym blank.value)))
+      value k (inr h) =
+          let Q : ℕ → Type 0 = λ n. value_seen (with_entered s) n ≡ option_value_in new_cells (symbol_in_cells new_cells k).value in
+          subst Q (sym (number_same old_cells new_cells k same h)) (ap (λ (y : meaning.Symbol). seen_of (nearest (ids_before old_cells k) s) y.top) (at_front s (ids_before old_cells k) (within k h))
+          ∙ shown.symbols.values k h ∙ sym (value_stood old_cells new_cells w.syms.head k i.table closed same h (cells_stand k h)))
+
+  entered_shows : IsClosed old_cells → (s : State) → ShowsState w s → ShowsState entered_world (with_entered s)
+  entered_shows closed s shown = let y = symbols_entered closed s shown in record {
+    store = shown.store ∙ sym (law.naming.store w.cells name w.syms.head closed);
+    symbols = record { many = y.many; symbols = y.symbols; values = y.values };
+    counts = counts_entered;
+    gensyms = shown.gensyms;
+    column = shown.column;
+    line_length = shown.line_length;
+    taken = shown.taken;
+    free = shown.free;
+    bound = λ j l. shown.bound j (let more = length-append s.symbols (entered_symbol ∷ []) in omega (arith, more, l));
+  }
+
+  entered_stays : (s : State) → ShowsState w s → StaysBeside s (with_entered s)
+  entered_stays s shown = record {
+    functions = record { functions = refl; compilation = refl };
+    bindings = record { entries = refl; hidden = λ n b h. go n b h (nat_le (length s.symbols) n) refl };
+    outside = refl;
+  }
+    where
+      go : (n : ℕ) (b : Nearest) → nearest n s ≡ Some b → (q : Bool) → nat_le (length s.symbols) n ≡ q → (symbol_at (with_entered s) n).top ≡ (symbol_at s n).top
+      go n b h true e = absurd (let none = shown.bound n (leb-true (length s.symbols) n e) in let f : None ≡ Some b = sym none ∙ h in cc)
+      go n b h false e = ap (λ (y : meaning.Symbol). y.top) (at_front s n (leb-false (length s.symbols) n e))
+
+  abbrev entering : State → Outcome Value
+  entering t = Done (Id (length t.symbols)) (record t { symbols = t.symbols ++ entered_symbol ∷ [] })
+
+  costs : 3 + string_cost name ≡ id_cost name
+  costs = three (string_cost name)
+    where
+      three : (c : ℕ) → 3 + c ≡ c + 3
+      three c = omega arith
+
+  pub entered_means : IsClosed old_cells → room_stop w.counts w.cells (id_cost name) ≡ None → (s : State) → ShowsState w s → MeansValue s (interned name s) (Ok entered_id) entered_world
+  entered_means closed stop s shown = record {
+    state = with_entered s;
+    is = ap (λ o. interned_at o name s) (free_name law.numbered w name free s shown) ∙ ap (λ c. room c s entering) costs
+        ∙ room_done w.cells w.counts (id_cost name) s entering i.running shown.counts stop
+        ∙ ap (λ v. Done v (with_entered s)) (ap Id (sym (number_there s shown)));
+    good = record { shows = entered_shows closed s shown; stays = entered_stays s shown };
+  }
+
+  pub entered_stops : (x : World) (why : stops.Stop) → x ≡ w → room_stop w.counts w.cells (id_cost name) ≡ Some why → (s : State) → ShowsState w s → MeansValue s (interned name s) (Err why) x
+  entered_stops x why e stop s shown =
+      let r = room_full w.cells w.counts (id_cost name) s entering why i.running shown.counts (omega arith) stop in
+      subst (λ y. MeansValue s (interned name s) (Err why) y) (sym e) (record {
+        state = r.state;
+        is = ap (λ o. interned_at o name s) (free_name law.numbered w name free s shown) ∙ ap (λ c. room c s entering) costs ∙ r.is;
+        good = r.good;
+      })
+
+  -- the calls of a world, one after the other
+  pub entered_final : (cs : cell.CellStore) (names : Syms) (v : Tagged) → Enters w.cells cs w.syms.head names.head name v → names.made ≡ w.syms.made → record w { counts = entered_counts; cells = cs; syms = names } ≡ entered_world
+  entered_final cs names v enters made =
+      ap (λ c. record w { counts = entered_counts; cells = c; syms = names }) enters.cells
+      ∙ ap (λ (n : Syms). record w { counts = entered_counts; cells = with_id w.cells name nil_value w.syms.head; syms = n })
+      (ap (λ h. record names { head = h }) (enters.head ∙ ap Some enters.place) ∙ ap (λ m. record names { head = after; made = m }) made)
+
+-- a name that none has is not found
+enters_alone : (o n : cell.CellStore) (h k : Option Tagged) (name : Name) (id : Tagged) → IsFree o.cells h name → (Finds o n h k name id) ⊎ (Enters o n h k name id) → Enters o n h k name id
+enters_alone o n h k name id free (inl f) = absurd (free.other (index_of id) f.named.interned.1 f.named.name_is)
+enters_alone o n h k name id free (inr e) = e
+
+pub entered_calls : (law : AreCellLaws) (w r : World) (name : Name) (some : 1 ≤ length name) (short : length name ≤ 255) (i : IsWorld w) (free : IsFree w.cells.cells w.syms.head name) (cs : cell.CellStore) (names : Syms) (v : Tagged)
+    → r ≡ record w { counts = roomed w.counts (id_cost name) } → (Finds r.cells cs r.syms.head names.head name v) ⊎ (Enters r.cells cs r.syms.head names.head name v) → names.made ≡ r.syms.made
+    → (record r { cells = cs; syms = names } ≡ entered_world law w name some short i free) × (v ≡ new_id w.cells name)
+entered_calls law w r name some short i free cs names v e =
+    subst (λ (y : World). (Finds y.cells cs y.syms.head names.head name v) ⊎ (Enters y.cells cs y.syms.head names.head name v) → names.made ≡ y.syms.made
+        → (record y { cells = cs; syms = names } ≡ entered_world law w name some short i free) × (v ≡ new_id w.cells name)) (sym e)
+    (λ both made. let enters = enters_alone w.cells cs w.syms.head names.head name v free both in (entered_final law w name some short i free cs names v enters made, enters.place))
+
+pub entered_ends : (law : AreCellLaws) (w r : World) (name : Name) (some : 1 ≤ length name) (short : length name ≤ 255) (i : IsWorld w) (free : IsFree w.cells.cells w.syms.head name) (cs : cell.CellStore) (names : Syms) (v : Tagged)
+    → r ≡ record w { counts = roomed w.counts (id_cost name) } → (Finds r.cells cs r.syms.head names.head name v) ⊎ (Enters r.cells cs r.syms.head names.head name v) → names.made ≡ r.syms.made
+    → IsClosed r.cells.cells → room_stop w.counts w.cells (id_cost name) ≡ None → (s : State) → ShowsState w s → MeansValue s (interned name s) (Ok v) (record r { cells = cs; syms = names })
+entered_ends law w r name some short i free cs names v e both made closed stop s shown =
+    let f = entered_calls law w r name some short i free cs names v e both made in
+    subst (λ x. MeansValue s (interned name s) (Ok v) x) (sym f.0)
+    (subst (λ y. MeansValue s (interned name s) (Ok y) (entered_world law w name some short i free)) (sym f.1)
+    (entered_means law w name some short i free (subst (λ (y : World). IsClosed y.cells.cells) e closed) stop s shown))
+
+pub entered_all_grows : (law : AreCellLaws) (w r : World) (name : Name) (some : 1 ≤ length name) (short : length name ≤ 255) (i : IsWorld w) (free : IsFree w.cells.cells w.syms.head name) (cs : cell.CellStore) (names : Syms) (v : Tagged)
+    → r ≡ record w { counts = roomed w.counts (id_cost name) } → (Finds r.cells cs r.syms.head names.head name v) ⊎ (Enters r.cells cs r.syms.head names.head name v) → names.made ≡ r.syms.made
+    → WorldGrows w (record r { cells = cs; syms = names })
+entered_all_grows law w r name some short i free cs names v e both made =
+    let f = entered_calls law w r name some short i free cs names v e both made in
+    subst (λ x. WorldGrows w x) (sym f.0) (entered_grows law w name some short i free)
+
+pub entered_rest : (w r : World) (cs : cell.CellStore) (names : Syms) (k : counted.WorldCounts) → r ≡ record w { counts = k } → ObjectsAlone w (record r { cells = cs; syms = names })
+entered_rest w r cs names k e = record { rest = subst (λ (y : World). record y { cells = cs; syms = names } ≡ record w { cells = cs; syms = names; counts = y.counts }) (sym e) refl }
+
+pub table_counted : (w r : World) (k : counted.WorldCounts) → r ≡ record w { counts = k } → IsTable w.cells.cells w.syms.head → IsTable r.cells.cells r.syms.head
+table_counted w r k e t = subst (λ (y : World). IsTable y.cells.cells y.syms.head) (sym e) t
+
+pub ok_with_room : {T E : Type 0} (r : Result T E) (b : Bool) → OnErr r (b ≡ false) → b ≡ true → is_ok r ≡ true
+ok_with_room (Ok x) b h t = refl
+ok_with_room (Err e) b h t = absurd (let f : b ≡ false = h in cc)

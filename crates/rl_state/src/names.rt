@@ -1,0 +1,65 @@
+//! Identifiers by their names.
+ghost use Rattle.std.specs.Prelude.{◌≡◌, ◌≤◌, IfOk, IsTrue, length};
+ghost use Rattle.rl_cells.specs.Cell.{is_live};
+ghost use Rattle.rl_syms.specs.Made.{id_cost};
+ghost use Rattle.rl_syms.specs.Table.{IsFree, is_id};
+ghost use Rattle.rl_meaning.specs.State.{State};
+ghost use Rattle.rl_meaning.specs.Symbols.{interned};
+ghost use Rattle.rl_state.specs.ShownState.{ShowsState};
+ghost use Rattle.rl_state.specs.Worlds.{IsWorld, ObjectsAlone, WorldGrows};
+ghost use Rattle.rl_state.specs.Ending.{MeansValue};
+
+use crate::laws::cells_are_known;
+use rl_syms::laws::{identifiers_are_numbered, names_are_identifiers};
+use rl_tags::Val;
+use rl_world::{Stop, World};
+
+/// The interned identifier of this name of 1 to 255 bytes; where there is none yet it is made. After a stop the objects are
+/// as before.
+pub fn identifier(w: &mut World, name: &[u8]) -> Result<Val, Stop>
+    requires world { IsWorld w.old }
+    requires some { 1 ≤ length name.now }
+    requires short { length name.now ≤ 255 }
+    ensures means { (s : State) → ShowsState w.old s → MeansValue s (interned name.now s) result w.new }
+    ensures live { IfOk result (λ v. IsTrue (is_live w.new.cells.cells v)) }
+    ensures id { IfOk result (λ v. IsTrue (is_id w.new.cells.cells v)) }
+    ensures grows { WorldGrows w.old w.new }
+    ensures rest { ObjectsAlone w.old w.new }
+{
+    identifiers_are_numbered();
+    names_are_identifiers();
+    match w.syms.find(&w.cells, name) {
+        Some(id) => Ok(id),
+        None => enter(w, name),
+    }
+}
+
+/// The cells of an identifier of this name.
+fn identifier_cost(name: &[u8]) -> u32
+    requires { length name.now ≤ 255 }
+    ensures { result ≡ id_cost name.now }
+{
+    1 + (name.len() as u32 + 15) / 16 + 3
+}
+
+/// A new identifier of a name that no interned one has.
+fn enter(w: &mut World, name: &[u8]) -> Result<Val, Stop>
+    requires world { IsWorld w.old }
+    requires some { 1 ≤ length name.now }
+    requires short { length name.now ≤ 255 }
+    requires free { IsFree w.old.cells.cells w.old.syms.head name.now }
+    ensures means { (s : State) → ShowsState w.old s → MeansValue s (interned name.now s) result w.new }
+    ensures live { IfOk result (λ v. IsTrue (is_live w.new.cells.cells v)) }
+    ensures id { IfOk result (λ v. IsTrue (is_id w.new.cells.cells v)) }
+    ensures grows { WorldGrows w.old w.new }
+    ensures rest { ObjectsAlone w.old w.new }
+{
+    cells_are_known();
+    match w.room(identifier_cost(name)) {
+        Ok(()) => {
+            w.cells.is_closed();
+            Ok(w.syms.intern(&mut w.cells, name).unwrap())
+        }
+        Err(why) => Err(why),
+    }
+}
