@@ -8,3 +8,4 @@ pub mod Turns
 pub mod Finding
 pub mod ReadForms
 pub mod Closing
+pub mod Faulting

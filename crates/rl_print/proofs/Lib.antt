@@ -6,3 +6,4 @@ pub mod Reached
 pub mod Shown
 pub mod Going
 pub mod AtomTexts
+pub mod Writings

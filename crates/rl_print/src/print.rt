@@ -1,9 +1,9 @@
 //! PRIN1 and PRIN2.
 ghost use Rattle.std.specs.Prelude.{◌≡◌, ◌≢◌, ◌<◌, Some, [], length, Ok, Err, IsTrue, IfOk, IfErr, OnOk};
-ghost use Rattle.rl_io.specs.Faults.{Rose};
 ghost use Rattle.rl_cells.specs.Cell.{is_live};
 ghost use Rattle.rl_syms.specs.Table.{IsTable};
 ghost use Rattle.rl_tree.specs.Atoms.{Prin1, Prin2};
+ghost use Rattle.rl_world.specs.Writing.{ChangesOutObject, WriteFaults};
 ghost use Rattle.rl_world.specs.declared.stop.Stop.TheVariants as stop;
 ghost use Rattle.rl_print.specs.AtomText.{style_of};
 ghost use Rattle.rl_print.specs.Walk.{CutsPrinting, Goes, HaltsPrinting, IsPrinted, IsPrinting, IsReadyToPrint, IsState, walk_meaning, walk_weight, whole_printed};
@@ -35,12 +35,9 @@ pub fn print1<I: Source, O: Sink, N: Sink, F: Files>(
     ensures ok { OnOk result (IsPrinted (O.contents io.old.out.now) (O.contents io.new.out.now) Prin1 w.old w.new v) }
     ensures halts { IfErr result (λ s. s ≢ stop.Write → HaltsPrinting (O.contents io.old.out.now) (O.contents io.new.out.now) w.old w.new (whole_printed Prin1 w.old v) s) }
     ensures cut { IfErr result (λ s. s ≡ stop.Write → CutsPrinting (O.contents io.old.out.now) (O.contents io.new.out.now) w.old.output.waiting (whole_printed Prin1 w.old v)) }
-    ensures dropped { IfErr result (λ s. s ≡ stop.Write → w.new.output.waiting ≡ []) }
-    ensures failed { IfErr result (λ s. s ≡ stop.Write → Rose (O.faults io.old.out.now) (O.faults io.new.out.now)) }
-    ensures steady { result ≢ Err stop.Write → O.faults io.new.out.now ≡ O.faults io.old.out.now }
+    ensures faults { WriteFaults result (O.faults io.old.out.now) (O.faults io.new.out.now) w.new.output.waiting }
     ensures world { IsPrinting (length w.old.levels.walk) w.old w.new }
-    ensures same_out { io.new.out.ghost_name ≡ io.old.out.ghost_name }
-    ensures rest { io.new ≡ record io.old { out = io.new.out } }
+    ensures outside { ChangesOutObject io.old io.new }
 {
     print(w, v, Style::Prin1, io)
 }
@@ -59,12 +56,9 @@ pub fn print2<I: Source, O: Sink, N: Sink, F: Files>(
     ensures ok { OnOk result (IsPrinted (O.contents io.old.out.now) (O.contents io.new.out.now) Prin2 w.old w.new v) }
     ensures halts { IfErr result (λ s. s ≢ stop.Write → HaltsPrinting (O.contents io.old.out.now) (O.contents io.new.out.now) w.old w.new (whole_printed Prin2 w.old v) s) }
     ensures cut { IfErr result (λ s. s ≡ stop.Write → CutsPrinting (O.contents io.old.out.now) (O.contents io.new.out.now) w.old.output.waiting (whole_printed Prin2 w.old v)) }
-    ensures dropped { IfErr result (λ s. s ≡ stop.Write → w.new.output.waiting ≡ []) }
-    ensures failed { IfErr result (λ s. s ≡ stop.Write → Rose (O.faults io.old.out.now) (O.faults io.new.out.now)) }
-    ensures steady { result ≢ Err stop.Write → O.faults io.new.out.now ≡ O.faults io.old.out.now }
+    ensures faults { WriteFaults result (O.faults io.old.out.now) (O.faults io.new.out.now) w.new.output.waiting }
     ensures world { IsPrinting (length w.old.levels.walk) w.old w.new }
-    ensures same_out { io.new.out.ghost_name ≡ io.old.out.ghost_name }
-    ensures rest { io.new ≡ record io.old { out = io.new.out } }
+    ensures outside { ChangesOutObject io.old io.new }
 {
     print(w, v, Style::Prin2, io)
 }
@@ -83,12 +77,9 @@ fn step<I: Source, O: Sink, N: Sink, F: Files>(
     ensures less { IfOk result (λ next. walk_weight w.new next < walk_weight w.old (Some at)) }
     ensures halts { IfErr result (λ s. s ≢ stop.Write → HaltsPrinting (O.contents io.old.out.now) (O.contents io.new.out.now) w.old w.new (walk_meaning (style_of style) w.old base (Some at)) s) }
     ensures cut { IfErr result (λ s. s ≡ stop.Write → CutsPrinting (O.contents io.old.out.now) (O.contents io.new.out.now) w.old.output.waiting (walk_meaning (style_of style) w.old base (Some at))) }
-    ensures dropped { IfErr result (λ s. s ≡ stop.Write → w.new.output.waiting ≡ []) }
-    ensures failed { IfErr result (λ s. s ≡ stop.Write → Rose (O.faults io.old.out.now) (O.faults io.new.out.now)) }
-    ensures steady { result ≢ Err stop.Write → O.faults io.new.out.now ≡ O.faults io.old.out.now }
+    ensures faults { WriteFaults result (O.faults io.old.out.now) (O.faults io.new.out.now) w.new.output.waiting }
     ensures world { IsPrinting base w.old w.new }
-    ensures same_out { io.new.out.ghost_name ≡ io.old.out.ghost_name }
-    ensures rest { io.new ≡ record io.old { out = io.new.out } }
+    ensures outside { ChangesOutObject io.old io.new }
 {
     let (piece, next) = match advance(w, at, base) {
         Ok(step) => step,
@@ -114,12 +105,9 @@ fn start<I: Source, O: Sink, N: Sink, F: Files>(
     ensures ok { IfOk result (λ next. Goes (O.contents io.old.out.now) (O.contents io.new.out.now) base (style_of style) w.old w.new (whole_printed (style_of style) w.old v) next) }
     ensures halts { IfErr result (λ s. s ≢ stop.Write → HaltsPrinting (O.contents io.old.out.now) (O.contents io.new.out.now) w.old w.new (whole_printed (style_of style) w.old v) s) }
     ensures cut { IfErr result (λ s. s ≡ stop.Write → CutsPrinting (O.contents io.old.out.now) (O.contents io.new.out.now) w.old.output.waiting (whole_printed (style_of style) w.old v)) }
-    ensures dropped { IfErr result (λ s. s ≡ stop.Write → w.new.output.waiting ≡ []) }
-    ensures failed { IfErr result (λ s. s ≡ stop.Write → Rose (O.faults io.old.out.now) (O.faults io.new.out.now)) }
-    ensures steady { result ≢ Err stop.Write → O.faults io.new.out.now ≡ O.faults io.old.out.now }
+    ensures faults { WriteFaults result (O.faults io.old.out.now) (O.faults io.new.out.now) w.new.output.waiting }
     ensures world { IsPrinting base w.old w.new }
-    ensures same_out { io.new.out.ghost_name ≡ io.old.out.ghost_name }
-    ensures rest { io.new ≡ record io.old { out = io.new.out } }
+    ensures outside { ChangesOutObject io.old io.new }
 {
     let (piece, next) = match begin(w, v, base) {
         Ok(step) => step,
@@ -143,12 +131,9 @@ fn print<I: Source, O: Sink, N: Sink, F: Files>(
     ensures ok { OnOk result (IsPrinted (O.contents io.old.out.now) (O.contents io.new.out.now) (style_of style) w.old w.new v) }
     ensures halts { IfErr result (λ s. s ≢ stop.Write → HaltsPrinting (O.contents io.old.out.now) (O.contents io.new.out.now) w.old w.new (whole_printed (style_of style) w.old v) s) }
     ensures cut { IfErr result (λ s. s ≡ stop.Write → CutsPrinting (O.contents io.old.out.now) (O.contents io.new.out.now) w.old.output.waiting (whole_printed (style_of style) w.old v)) }
-    ensures dropped { IfErr result (λ s. s ≡ stop.Write → w.new.output.waiting ≡ []) }
-    ensures failed { IfErr result (λ s. s ≡ stop.Write → Rose (O.faults io.old.out.now) (O.faults io.new.out.now)) }
-    ensures steady { result ≢ Err stop.Write → O.faults io.new.out.now ≡ O.faults io.old.out.now }
+    ensures faults { WriteFaults result (O.faults io.old.out.now) (O.faults io.new.out.now) w.new.output.waiting }
     ensures world { IsPrinting (length w.old.levels.walk) w.old w.new }
-    ensures same_out { io.new.out.ghost_name ≡ io.old.out.ghost_name }
-    ensures rest { io.new ≡ record io.old { out = io.new.out } }
+    ensures outside { ChangesOutObject io.old io.new }
 {
     let base = w.walk_len();
     let mut at = match start(w, v, base, style, io) {

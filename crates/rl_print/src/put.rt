@@ -1,13 +1,12 @@
 //! Bytes and atoms on their way to the output.
-ghost use Rattle.std.specs.Prelude.{◌≡◌, ◌+◌, ◌-◌, ◌^◌, ◌&&◌, ◌++◌, ℕ, [], fold, length, min, nat_lt, IsTrue, OnOk, OnErr, IfErr};
-ghost use Rattle.rl_io.specs.Faults.{Rose};
+ghost use Rattle.std.specs.Prelude.{◌≡◌, ◌+◌, ◌-◌, ◌^◌, ◌&&◌, ◌++◌, ℕ, [], fold, length, min, nat_lt, IsTrue, OnOk, OnErr};
 ghost use Rattle.rl_syms.specs.Contents.{value_of};
 ghost use Rattle.rl_syms.specs.Numbers.{numbered_name};
 ghost use Rattle.rl_syms.specs.Table.{IsTable};
 ghost use Rattle.rl_tree.specs.Atoms.{atom_text};
 ghost use Rattle.rl_tree.specs.Printing.{column_with, with_atom};
 ghost use Rattle.rl_world.specs.Waiting.{Follows, IsCutOff};
-ghost use Rattle.rl_world.specs.declared.stop.Stop.TheVariants as stop;
+ghost use Rattle.rl_world.specs.Writing.{ChangesOutAlone, OnlyWriteFaults};
 ghost use Rattle.rl_print.specs.AtomText.{is_atom, line_break, style_of, text_left};
 
 use crate::atom::{AtomText, Style};
@@ -24,13 +23,8 @@ pub(crate) fn put_bytes<I: Source, O: Sink, N: Sink, F: Files>(
     ensures ok { OnOk result (Follows (O.contents io.old.out.now) w.old.output.waiting (O.contents io.new.out.now) w.new.output.waiting bytes.now) }
     ensures column { OnOk result (w.new.output.column ≡ fold column_with w.old.output.column bytes.now) }
     ensures front { OnErr result (IsCutOff (O.contents io.old.out.now) (O.contents io.new.out.now) (w.old.output.waiting ++ bytes.now)) }
-    ensures dropped { OnErr result (w.new.output.waiting ≡ []) }
-    ensures stop { IfErr result (λ s. s ≡ stop.Write) }
-    ensures failed { OnErr result (Rose (O.faults io.old.out.now) (O.faults io.new.out.now)) }
-    ensures steady { OnOk result (O.faults io.new.out.now ≡ O.faults io.old.out.now) }
-    ensures world { w.new ≡ record w.old { output = record w.old.output { waiting = w.new.output.waiting; column = w.new.output.column } } }
-    ensures same_out { io.new.out.ghost_name ≡ io.old.out.ghost_name }
-    ensures rest { io.new ≡ record io.old { out = io.new.out } }
+    ensures faults { OnlyWriteFaults result (O.faults io.old.out.now) (O.faults io.new.out.now) w.new.output.waiting }
+    ensures outside { ChangesOutAlone w.old w.new io.old io.new }
 {
     for i in 0..bytes.len() {
         let b = bytes[i];
@@ -53,13 +47,8 @@ pub(crate) fn put_atom<I: Source, O: Sink, N: Sink, F: Files>(
     ensures ok { OnOk result (Follows (O.contents io.old.out.now) w.old.output.waiting (O.contents io.new.out.now) w.new.output.waiting (with_atom w.old.output.line_length (record { text = []; column = w.old.output.column }) (atom_text (style_of style) (numbered_name w.old.cells.cells) (value_of w.old.cells.cells a))).text) }
     ensures column { OnOk result (w.new.output.column ≡ (with_atom w.old.output.line_length (record { text = []; column = w.old.output.column }) (atom_text (style_of style) (numbered_name w.old.cells.cells) (value_of w.old.cells.cells a))).column) }
     ensures front { OnErr result (IsCutOff (O.contents io.old.out.now) (O.contents io.new.out.now) (w.old.output.waiting ++ (with_atom w.old.output.line_length (record { text = []; column = w.old.output.column }) (atom_text (style_of style) (numbered_name w.old.cells.cells) (value_of w.old.cells.cells a))).text)) }
-    ensures dropped { OnErr result (w.new.output.waiting ≡ []) }
-    ensures stop { IfErr result (λ s. s ≡ stop.Write) }
-    ensures failed { OnErr result (Rose (O.faults io.old.out.now) (O.faults io.new.out.now)) }
-    ensures steady { OnOk result (O.faults io.new.out.now ≡ O.faults io.old.out.now) }
-    ensures world { w.new ≡ record w.old { output = record w.old.output { waiting = w.new.output.waiting; column = w.new.output.column } } }
-    ensures same_out { io.new.out.ghost_name ≡ io.old.out.ghost_name }
-    ensures rest { io.new ≡ record io.old { out = io.new.out } }
+    ensures faults { OnlyWriteFaults result (O.faults io.old.out.now) (O.faults io.new.out.now) w.new.output.waiting }
+    ensures outside { ChangesOutAlone w.old w.new io.old io.new }
 {
     let long = text_length(w, AtomText::styled(a, style));
     let broken = breaks(w, long);
@@ -81,13 +70,8 @@ fn put_break<I: Source, O: Sink, N: Sink, F: Files>(
     ensures ok { OnOk result (Follows (O.contents io.old.out.now) w.old.output.waiting (O.contents io.new.out.now) w.new.output.waiting (line_break broken)) }
     ensures column { OnOk result (w.new.output.column ≡ fold column_with w.old.output.column (line_break broken)) }
     ensures front { OnErr result (IsCutOff (O.contents io.old.out.now) (O.contents io.new.out.now) (w.old.output.waiting ++ line_break broken)) }
-    ensures dropped { OnErr result (w.new.output.waiting ≡ []) }
-    ensures stop { IfErr result (λ s. s ≡ stop.Write) }
-    ensures failed { OnErr result (Rose (O.faults io.old.out.now) (O.faults io.new.out.now)) }
-    ensures steady { OnOk result (O.faults io.new.out.now ≡ O.faults io.old.out.now) }
-    ensures world { w.new ≡ record w.old { output = record w.old.output { waiting = w.new.output.waiting; column = w.new.output.column } } }
-    ensures same_out { io.new.out.ghost_name ≡ io.old.out.ghost_name }
-    ensures rest { io.new ≡ record io.old { out = io.new.out } }
+    ensures faults { OnlyWriteFaults result (O.faults io.old.out.now) (O.faults io.new.out.now) w.new.output.waiting }
+    ensures outside { ChangesOutAlone w.old w.new io.old io.new }
 {
     if !broken {
         return Ok(());
@@ -132,13 +116,8 @@ fn put_text<I: Source, O: Sink, N: Sink, F: Files>(
     ensures ok { OnOk result (Follows (O.contents io.old.out.now) w.old.output.waiting (O.contents io.new.out.now) w.new.output.waiting (text_left w.old.cells.cells text)) }
     ensures column { OnOk result (w.new.output.column ≡ fold column_with w.old.output.column (text_left w.old.cells.cells text)) }
     ensures front { OnErr result (IsCutOff (O.contents io.old.out.now) (O.contents io.new.out.now) (w.old.output.waiting ++ text_left w.old.cells.cells text)) }
-    ensures dropped { OnErr result (w.new.output.waiting ≡ []) }
-    ensures stop { IfErr result (λ s. s ≡ stop.Write) }
-    ensures failed { OnErr result (Rose (O.faults io.old.out.now) (O.faults io.new.out.now)) }
-    ensures steady { OnOk result (O.faults io.new.out.now ≡ O.faults io.old.out.now) }
-    ensures world { w.new ≡ record w.old { output = record w.old.output { waiting = w.new.output.waiting; column = w.new.output.column } } }
-    ensures same_out { io.new.out.ghost_name ≡ io.old.out.ghost_name }
-    ensures rest { io.new ≡ record io.old { out = io.new.out } }
+    ensures faults { OnlyWriteFaults result (O.faults io.old.out.now) (O.faults io.new.out.now) w.new.output.waiting }
+    ensures outside { ChangesOutAlone w.old w.new io.old io.new }
 {
     let mut left = text;
     while let Some(b) = left.next(w) {

@@ -1,9 +1,8 @@
 //! What is printed at once.
-ghost use Rattle.std.specs.Prelude.{◌≡◌, ◌++◌, [], IsTrue, OnOk, OnErr, IfErr};
-ghost use Rattle.rl_io.specs.Faults.{Rose};
+ghost use Rattle.std.specs.Prelude.{◌++◌, IsTrue, OnOk, OnErr};
 ghost use Rattle.rl_syms.specs.Table.{IsTable};
 ghost use Rattle.rl_world.specs.Waiting.{IsCutOff};
-ghost use Rattle.rl_world.specs.declared.stop.Stop.TheVariants as stop;
+ghost use Rattle.rl_world.specs.Writing.{ChangesOutAlone, OnlyWriteFaults};
 ghost use Rattle.rl_print.specs.AtomText.{is_atom, style_of};
 ghost use Rattle.rl_print.specs.Walk.{IsPiece, Shows, ShowsFront};
 ghost use Rattle.rl_print.specs.declared.walk.Piece.TheVariants as piece;
@@ -26,13 +25,8 @@ pub(crate) fn show<I: Source, O: Sink, N: Sink, F: Files>(
     requires piece { IsPiece w.old.cells.cells piece }
     ensures ok { OnOk result (Shows (O.contents io.old.out.now) (O.contents io.new.out.now) (style_of style) w.old w.new piece.entry) }
     ensures front { OnErr result (ShowsFront (O.contents io.old.out.now) (O.contents io.new.out.now) (style_of style) w.old piece.entry) }
-    ensures dropped { OnErr result (w.new.output.waiting ≡ []) }
-    ensures stop { IfErr result (λ s. s ≡ stop.Write) }
-    ensures failed { OnErr result (Rose (O.faults io.old.out.now) (O.faults io.new.out.now)) }
-    ensures steady { OnOk result (O.faults io.new.out.now ≡ O.faults io.old.out.now) }
-    ensures world { w.new ≡ record w.old { output = record w.old.output { waiting = w.new.output.waiting; column = w.new.output.column } } }
-    ensures same_out { io.new.out.ghost_name ≡ io.old.out.ghost_name }
-    ensures rest { io.new ≡ record io.old { out = io.new.out } }
+    ensures faults { OnlyWriteFaults result (O.faults io.old.out.now) (O.faults io.new.out.now) w.new.output.waiting }
+    ensures outside { ChangesOutAlone w.old w.new io.old io.new }
 {
     match piece {
         Piece::Mark(bytes) => show_mark(w, bytes, style, io),
@@ -51,13 +45,8 @@ fn show_mark<I: Source, O: Sink, N: Sink, F: Files>(
     ensures ok { OnOk result (Shows (O.contents io.old.out.now) (O.contents io.new.out.now) (style_of style) w.old w.new (piece.Mark bytes.entry)) }
     ensures cut { OnErr result (IsCutOff (O.contents io.old.out.now) (O.contents io.new.out.now) (w.old.output.waiting ++ bytes.now)) }
     ensures front { OnErr result (ShowsFront (O.contents io.old.out.now) (O.contents io.new.out.now) (style_of style) w.old (piece.Mark bytes.entry)) }
-    ensures dropped { OnErr result (w.new.output.waiting ≡ []) }
-    ensures stop { IfErr result (λ s. s ≡ stop.Write) }
-    ensures failed { OnErr result (Rose (O.faults io.old.out.now) (O.faults io.new.out.now)) }
-    ensures steady { OnOk result (O.faults io.new.out.now ≡ O.faults io.old.out.now) }
-    ensures world { w.new ≡ record w.old { output = record w.old.output { waiting = w.new.output.waiting; column = w.new.output.column } } }
-    ensures same_out { io.new.out.ghost_name ≡ io.old.out.ghost_name }
-    ensures rest { io.new ≡ record io.old { out = io.new.out } }
+    ensures faults { OnlyWriteFaults result (O.faults io.old.out.now) (O.faults io.new.out.now) w.new.output.waiting }
+    ensures outside { ChangesOutAlone w.old w.new io.old io.new }
 {
     let _ = style;
     match put_bytes(w, bytes, io) {
@@ -77,13 +66,8 @@ fn show_atom<I: Source, O: Sink, N: Sink, F: Files>(
     requires atom { IsTrue (is_atom w.old.cells.cells v) }
     ensures ok { OnOk result (Shows (O.contents io.old.out.now) (O.contents io.new.out.now) (style_of style) w.old w.new (piece.Atom v)) }
     ensures front { OnErr result (ShowsFront (O.contents io.old.out.now) (O.contents io.new.out.now) (style_of style) w.old (piece.Atom v)) }
-    ensures dropped { OnErr result (w.new.output.waiting ≡ []) }
-    ensures stop { IfErr result (λ s. s ≡ stop.Write) }
-    ensures failed { OnErr result (Rose (O.faults io.old.out.now) (O.faults io.new.out.now)) }
-    ensures steady { OnOk result (O.faults io.new.out.now ≡ O.faults io.old.out.now) }
-    ensures world { w.new ≡ record w.old { output = record w.old.output { waiting = w.new.output.waiting; column = w.new.output.column } } }
-    ensures same_out { io.new.out.ghost_name ≡ io.old.out.ghost_name }
-    ensures rest { io.new ≡ record io.old { out = io.new.out } }
+    ensures faults { OnlyWriteFaults result (O.faults io.old.out.now) (O.faults io.new.out.now) w.new.output.waiting }
+    ensures outside { ChangesOutAlone w.old w.new io.old io.new }
 {
     match put_atom(w, v, style, io) {
         Ok(()) => Ok(()),
@@ -102,13 +86,8 @@ fn show_dotted<I: Source, O: Sink, N: Sink, F: Files>(
     requires atom { IsTrue (is_atom w.old.cells.cells v) }
     ensures ok { OnOk result (Shows (O.contents io.old.out.now) (O.contents io.new.out.now) (style_of style) w.old w.new (piece.Dotted v)) }
     ensures front { OnErr result (ShowsFront (O.contents io.old.out.now) (O.contents io.new.out.now) (style_of style) w.old (piece.Dotted v)) }
-    ensures dropped { OnErr result (w.new.output.waiting ≡ []) }
-    ensures stop { IfErr result (λ s. s ≡ stop.Write) }
-    ensures failed { OnErr result (Rose (O.faults io.old.out.now) (O.faults io.new.out.now)) }
-    ensures steady { OnOk result (O.faults io.new.out.now ≡ O.faults io.old.out.now) }
-    ensures world { w.new ≡ record w.old { output = record w.old.output { waiting = w.new.output.waiting; column = w.new.output.column } } }
-    ensures same_out { io.new.out.ghost_name ≡ io.old.out.ghost_name }
-    ensures rest { io.new ≡ record io.old { out = io.new.out } }
+    ensures faults { OnlyWriteFaults result (O.faults io.old.out.now) (O.faults io.new.out.now) w.new.output.waiting }
+    ensures outside { ChangesOutAlone w.old w.new io.old io.new }
 {
     if let Err(s) = show_mark(w, b" . ", style, io) {
         return Err(s);

@@ -2,3 +2,5 @@ pub mod Threes
 pub mod Texts
 pub mod Waited
 pub mod BoundsKept
+pub mod TextsStay
+pub mod Openings

@@ -6,3 +6,6 @@ pub mod Output
 pub mod Input
 pub mod Errors
 pub mod Walks
+pub mod Writing
+pub mod OpeningCells
+pub mod TextsKept

@@ -1,10 +1,12 @@
 //! The texts of system errors, as strings that opening makes.
-ghost use Rattle.std.specs.Prelude.{◌≡◌, ◌+◌, ◌*◌, ◌<◌, ◌≤◌, [], length, slice_index_or, IsTrue};
-ghost use Rattle.rl_cells.specs.Cell.{bytes_of, is_str};
+ghost use Rattle.std.specs.Prelude.{◌≡◌, ◌+◌, ◌*◌, ◌<◌, ◌≤◌, ◌++◌, [], length, slice_index_or, IsTrue};
+ghost use Rattle.rl_tags.specs.Tagged.{StrAt};
+ghost use Rattle.rl_cells.specs.Cell.{StrCell, bytes_of, is_str, placed};
 ghost use Rattle.rl_syms.specs.Frame.{KeepsBlocks};
 ghost use Rattle.rl_syms.specs.Made.{IsOpening};
 ghost use Rattle.rl_tree.specs.ErrorTexts.{error_texts};
 ghost use Rattle.rl_world.specs.Errors.{AddsTexts, AreTexts};
+ghost use Rattle.rl_world.specs.OpeningCells.{strings_named, with_strings};
 
 use rl_cells::Cells;
 use rl_cells::laws::objects_are_added;
@@ -38,15 +40,19 @@ fn text_bytes(i: usize) -> &'static [u8]
     }
 }
 
-/// The strings of all texts, in cells that opening has just begun to take.
+/// The strings of all texts, one after another, in cells that opening has just begun to take.
 pub(crate) fn make_texts(c: &mut Cells) -> [Val; ERRORS]
     requires opening { IsOpening c.old c.old.bound }
     requires long { length c.old.cells ≤ 2115 }
     ensures texts { AreTexts c.new.cells result 14 }
     ensures keeps { KeepsBlocks c.old.cells c.new.cells }
     ensures strings { AddsTexts c.old.cells c.new.cells }
+    ensures made { c.new.cells ≡ with_strings error_texts c.old.cells }
+    ensures named { result ≡ strings_named error_texts c.old.cells }
+    ensures long { length c.new.cells ≡ length c.old.cells + 35 }
     ensures opening { IsOpening c.new c.old.bound }
 {
+    objects_are_added();
     let mut texts = [Val::small(0); ERRORS];
     for i in 0..ERRORS {
         texts[i] = make_text(c, i);
@@ -64,6 +70,8 @@ fn make_text(c: &mut Cells, i: usize) -> Val
     ensures text { bytes_of c.new.cells result ≡ slice_index_or error_texts i [] }
     ensures keeps { KeepsBlocks c.old.cells c.new.cells }
     ensures strings { AddsTexts c.old.cells c.new.cells }
+    ensures made { c.new.cells ≡ c.old.cells ++ placed (StrCell (slice_index_or error_texts i [])) }
+    ensures named { result ≡ StrAt (length c.old.cells) }
     ensures opening { IsOpening c.new c.old.bound }
     ensures long { length c.new.cells ≤ 2115 + 4 * (i + 1) }
 {

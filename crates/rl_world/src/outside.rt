@@ -5,6 +5,7 @@ ghost use Rattle.rl_io.specs.Told.{WhereTold};
 ghost use Rattle.rl_world.specs.Input.{Gives, ended_after, given_after, to_come};
 ghost use Rattle.rl_tree.specs.Printing.{column_with};
 ghost use Rattle.rl_world.specs.Waiting.{Follows, IsCutOff};
+ghost use Rattle.rl_world.specs.Writing.{ChangesNotesAlone, ChangesOutAlone, EmptiesBuffersAlone, FlushFaults, OnlyWriteFaults};
 ghost use Rattle.rl_world.specs.declared.stop.Stop.TheVariants as stop;
 
 use crate::stop::Stop;
@@ -21,13 +22,9 @@ impl World {
     ) -> Result<(), Stop>
         ensures ok { OnOk result (Follows (O.contents io.old.out.now) self.old.output.waiting (O.contents io.new.out.now) self.new.output.waiting (b ∷ [])) }
         ensures front { OnErr result (IsCutOff (O.contents io.old.out.now) (O.contents io.new.out.now) (self.old.output.waiting ++ b ∷ [])) }
-        ensures dropped { OnErr result (self.new.output.waiting ≡ []) }
-        ensures stop { IfErr result (λ s. s ≡ stop.Write) }
-        ensures failed { OnErr result (Rose (O.faults io.old.out.now) (O.faults io.new.out.now)) }
-        ensures steady { OnOk result (O.faults io.new.out.now ≡ O.faults io.old.out.now) }
-        ensures world { self.new ≡ record self.old { output = record self.old.output { waiting = self.new.output.waiting; column = column_with self.old.output.column b } } }
-        ensures rest { io.new ≡ record io.old { out = io.new.out } }
-        ensures same_out { io.new.out.ghost_name ≡ io.old.out.ghost_name }
+        ensures column { self.new.output.column ≡ column_with self.old.output.column b }
+        ensures faults { OnlyWriteFaults result (O.faults io.old.out.now) (O.faults io.new.out.now) self.new.output.waiting }
+        ensures outside { ChangesOutAlone self.old self.new io.old io.new }
     {
         match self.output.put(b, io.out) {
             Ok(()) => Ok(()),
@@ -44,13 +41,8 @@ impl World {
     ) -> Result<(), Stop>
         ensures ok { OnOk result (Follows (N.contents io.old.notes.now) self.old.notes (N.contents io.new.notes.now) self.new.notes (b ∷ [])) }
         ensures front { OnErr result (IsCutOff (N.contents io.old.notes.now) (N.contents io.new.notes.now) (self.old.notes ++ b ∷ [])) }
-        ensures dropped { OnErr result (self.new.notes ≡ []) }
-        ensures stop { IfErr result (λ s. s ≡ stop.Write) }
-        ensures failed { OnErr result (Rose (N.faults io.old.notes.now) (N.faults io.new.notes.now)) }
-        ensures steady { OnOk result (N.faults io.new.notes.now ≡ N.faults io.old.notes.now) }
-        ensures world { self.new ≡ record self.old { notes = self.new.notes } }
-        ensures rest { io.new ≡ record io.old { notes = io.new.notes } }
-        ensures same_notes { io.new.notes.ghost_name ≡ io.old.notes.ghost_name }
+        ensures faults { OnlyWriteFaults result (N.faults io.old.notes.now) (N.faults io.new.notes.now) self.new.notes }
+        ensures outside { ChangesNotesAlone self.old self.new io.old io.new }
     {
         match self.notes.put(b, io.notes) {
             Ok(()) => Ok(()),
@@ -58,8 +50,8 @@ impl World {
         }
     }
 
-    /// Writes what waits: first what was printed, and then the notes. After `Stop::Write` a front of each may have been
-    /// written, and none waits.
+    /// Writes what waits: first what was printed, and then the notes, also where the first write failed. After `Stop::Write` a
+    /// front of each may have been written, and none waits.
     pub fn flush<I: Source, O: Sink, N: Sink, F: Files>(
         &mut self,
         io: &mut Io<'_, I, O, N, F>,
@@ -68,14 +60,8 @@ impl World {
         ensures noted { OnOk result (Follows (N.contents io.old.notes.now) self.old.notes (N.contents io.new.notes.now) [] []) }
         ensures printed_front { IsCutOff (O.contents io.old.out.now) (O.contents io.new.out.now) self.old.output.waiting }
         ensures noted_front { IsCutOff (N.contents io.old.notes.now) (N.contents io.new.notes.now) self.old.notes }
-        ensures stop { IfErr result (λ s. s ≡ stop.Write) }
-        ensures failed { OnErr result (Rose (O.faults io.old.out.now) (O.faults io.new.out.now) ⊎ Rose (N.faults io.old.notes.now) (N.faults io.new.notes.now)) }
-        ensures steady_out { OnOk result (O.faults io.new.out.now ≡ O.faults io.old.out.now) }
-        ensures steady_notes { OnOk result (N.faults io.new.notes.now ≡ N.faults io.old.notes.now) }
-        ensures world { self.new ≡ record self.old { output = record self.old.output { waiting = [] }; notes = [] } }
-        ensures rest { io.new ≡ record io.old { out = io.new.out; notes = io.new.notes } }
-        ensures same_out { io.new.out.ghost_name ≡ io.old.out.ghost_name }
-        ensures same_notes { io.new.notes.ghost_name ≡ io.old.notes.ghost_name }
+        ensures faults { FlushFaults result (O.faults io.old.out.now) (O.faults io.new.out.now) (N.faults io.old.notes.now) (N.faults io.new.notes.now) }
+        ensures outside { EmptiesBuffersAlone self.old self.new io.old io.new }
     {
         let printed = self.output.flush(io.out);
         let noted = self.notes.flush(io.notes);

@@ -10,6 +10,7 @@ ghost use Rattle.rl_syms.specs.Opened.{IsOpened};
 ghost use Rattle.rl_world.specs.Counts.{aside_of, begun, counts_at_opening, expansion_ended, rejoined, room_stop, roomed, set_aside, tick_stop, ticked};
 ghost use Rattle.rl_tree.specs.ErrorTexts.{error_text};
 ghost use Rattle.rl_world.specs.Errors.{AreTexts};
+ghost use Rattle.rl_world.specs.OpeningCells.{AreOpeningCells};
 ghost use Rattle.rl_world.specs.Levels.{AreLevels, enter_stop, levels_below};
 
 use crate::buffer::Buffer;
@@ -48,7 +49,8 @@ pub struct Apart {
 }
 
 impl World {
-    /// A world in opening, with these bounds: the identifiers that opening makes, and the texts of errors as strings.
+    /// A world in opening, with these bounds: the identifiers that opening makes, then the texts of errors as strings, which
+    /// take 35 cells, and nothing else.
     /// `OutOfMemory` if there is no memory for it.
     pub fn open(alloc: Global, limits: Limits) -> Result<World, OutOfMemory>
         requires cells { limits.cells ≤ 64000000 }
@@ -60,6 +62,7 @@ impl World {
         ensures made { IfOk result (λ w. w.syms.made ≡ 0) }
         ensures opening { IfOk result (λ w. IsOpening w.cells limits.cells) }
         ensures texts { IfOk result (λ w. AreTexts w.cells.cells w.texts 14) }
+        ensures exact { IfOk result (λ w. AreOpeningCells w.cells.cells w.texts w.syms.head) }
         ensures counts { IfOk result (λ w. w.counts ≡ counts_at_opening limits.turns limits.cells) }
         ensures levels { IfOk result (λ w. w.levels ≡ record { bound = limits.nest; level = 0; walk = []; aside = None }) }
         ensures output { IfOk result (λ w. w.output ≡ record { waiting = []; column = 0; line_length = 80 }) }

@@ -3,6 +3,7 @@ use Rattle.rl_tree.specs.Atoms.{Prin1, Prin2}
 use Rattle.rl_forms.specs.declared.printing.Fault.TheVariants.{NoMemory, Write}
 use Rattle.rl_forms.proofs.Memories.{known_live}
 use Rattle.rl_forms.proofs.Paging.{all_shown, front_halts, front_cut}
+use Rattle.rl_forms.proofs.Faulting.{failed_rose, steady_fault}
 use Rattle.rl_forms.proofs.printing.print.Goals as goal
 
 pub print1-requires-clause-live : goal.print1-requires-clause-live
@@ -28,3 +29,15 @@ returns-in-Err-print2-clause-halts g c = rw c.in-Prin2.is (λ e. let f : c.fault
 
 pub returns-in-Err-print2-clause-cut : goal.returns-in-Err-print2-clause-cut
 returns-in-Err-print2-clause-cut g c = rw c.in-Prin2.is (λ e. let f : c.fault_of-in-Err-print2.result ≡ Write = cc in front_cut c.data_are_stored.ensures c.printing_is_of_data.ensures _ _ Prin2 c.args.world.now c.args.v c.requires.running c.requires.known (c.in-Err-print2.ensures.cut (c.fault_of-in-Err-print2.ensures.write f)))
+
+pub returns-in-Err-clause-failed : goal.returns-in-Err-clause-failed
+returns-in-Err-clause-failed g c = λ e. let f : c.fault_of.result ≡ Write = cc in failed_rose c.in-Err.s _ _ _ (c.fault_of.ensures.write f) c.in-Err.ensures.faults
+
+pub returns-in-Err-clause-steady : goal.returns-in-Err-clause-steady
+returns-in-Err-clause-steady g c = λ n. steady_fault c.fault_of.result c.in-Err.s _ _ _ c.fault_of.ensures.memory (λ f. n (cc)) c.in-Err.ensures.faults
+
+pub returns-in-Err-print2-clause-failed : goal.returns-in-Err-print2-clause-failed
+returns-in-Err-print2-clause-failed g c = λ e. let f : c.fault_of-in-Err-print2.result ≡ Write = cc in failed_rose c.in-Err-print2.s _ _ _ (c.fault_of-in-Err-print2.ensures.write f) c.in-Err-print2.ensures.faults
+
+pub returns-in-Err-print2-clause-steady : goal.returns-in-Err-print2-clause-steady
+returns-in-Err-print2-clause-steady g c = λ n. steady_fault c.fault_of-in-Err-print2.result c.in-Err-print2.s _ _ _ c.fault_of-in-Err-print2.ensures.memory (λ f. n (cc)) c.in-Err-print2.ensures.faults

@@ -6,31 +6,31 @@ pub returns-in-Ok-flush-clause-ends : goal.returns-in-Ok-flush-clause-ends
 returns-in-Ok-flush-clause-ends g c = done c.pieces_go_on.ensures _ _ _ c.args.world.now c.evaluate_all.new.world c.args.forms.now c.requires.beginning c.in-Ok.ensures.ok c.in-Ok-flush.ensures.printed
 
 pub returns-in-Ok-flush-clause-rest : goal.returns-in-Ok-flush-clause-rest
-returns-in-Ok-flush-clause-rest g c = rw (c.in-Ok-flush.ensures.rest, c.in-Ok.ensures.rest) refl
+returns-in-Ok-flush-clause-rest g c = rw (c.in-Ok-flush.ensures.outside.objects, c.in-Ok.ensures.rest) refl
 
 pub returns-in-Err-clause-ends : goal.returns-in-Err-clause-ends
 returns-in-Err-clause-ends g c = cut_at_end c.pieces_go_on.ensures _ _ _ c.args.world.now c.evaluate_all.new.world c.args.forms.now c.requires.beginning c.in-Ok.ensures.ok c.in-Err.ensures.printed_front
 
 pub returns-in-Err-clause-write_fault : goal.returns-in-Err-clause-write_fault
-returns-in-Err-clause-write_fault g c = λ e. rw (← c.in-Ok.ensures.steady (λ e. cc)) (rose_out _ _ c.in-Err.ensures.failed)
+returns-in-Err-clause-write_fault g c = λ e. rw (← c.in-Ok.ensures.steady (λ e. cc)) (rose_out _ _ c.in-Err.ensures.faults.some)
 
 pub returns-in-Err-clause-rest : goal.returns-in-Err-clause-rest
-returns-in-Err-clause-rest g c = rw (c.in-Err.ensures.rest, c.in-Ok.ensures.rest) refl
+returns-in-Err-clause-rest g c = rw (c.in-Err.ensures.outside.objects, c.in-Ok.ensures.rest) refl
 
 pub returns-in-Ok-flush-2-clause-ends : goal.returns-in-Ok-flush-2-clause-ends
 returns-in-Ok-flush-2-clause-ends g c = halted c.pieces_go_on.ensures _ _ _ c.args.world.now c.evaluate_all.new.world c.args.forms.now c.requires.beginning (c.in-Err-NoMemory.ensures.halts cc) c.in-Ok-flush-2.ensures.printed_front
 
 pub returns-in-Ok-flush-2-clause-rest : goal.returns-in-Ok-flush-2-clause-rest
-returns-in-Ok-flush-2-clause-rest g c = rw (c.in-Ok-flush-2.ensures.rest, c.in-Err-NoMemory.ensures.rest) refl
+returns-in-Ok-flush-2-clause-rest g c = rw (c.in-Ok-flush-2.ensures.outside.objects, c.in-Err-NoMemory.ensures.rest) refl
 
 pub returns-in-Err-flush-clause-ends : goal.returns-in-Err-flush-clause-ends
 returns-in-Err-flush-clause-ends g c = halted c.pieces_go_on.ensures _ _ _ c.args.world.now c.evaluate_all.new.world c.args.forms.now c.requires.beginning (c.in-Err-NoMemory.ensures.halts cc) c.in-Err-flush.ensures.printed_front
 
 pub returns-in-Err-flush-clause-write_fault : goal.returns-in-Err-flush-clause-write_fault
-returns-in-Err-flush-clause-write_fault g c = λ e. rw (← c.in-Err-NoMemory.ensures.steady (λ e. cc)) (rose_out _ _ c.in-Err-flush.ensures.failed)
+returns-in-Err-flush-clause-write_fault g c = λ e. rw (← c.in-Err-NoMemory.ensures.steady (λ e. cc)) (rose_out _ _ c.in-Err-flush.ensures.faults.some)
 
 pub returns-in-Err-flush-clause-rest : goal.returns-in-Err-flush-clause-rest
-returns-in-Err-flush-clause-rest g c = rw (c.in-Err-flush.ensures.rest, c.in-Err-NoMemory.ensures.rest) refl
+returns-in-Err-flush-clause-rest g c = rw (c.in-Err-flush.ensures.outside.objects, c.in-Err-NoMemory.ensures.rest) refl
 
 pub returns-in-Err-Write-clause-ends : goal.returns-in-Err-Write-clause-ends
 returns-in-Err-Write-clause-ends g c = cut_off c.pieces_go_on.ensures _ _ c.args.world.now c.args.forms.now c.requires.beginning (c.in-Err-Write.ensures.cut cc)

@@ -1,4 +1,5 @@
 use Rattle.std.proofs.Common.{◌≡◌, length}
+use Rattle.rl_world.specs.Writing.{ChangesOutObject}
 use Rattle.rl_print.specs.AtomText.{style_of}
 use Rattle.rl_print.specs.Walk.{Goes, IsPrinting, walk_weight, whole_printed}
 use Rattle.rl_print.proofs.print.print.Given as goal
@@ -9,8 +10,7 @@ invariant-loop-at g l = record {
   printing : IsPrinting l.base l.fn.w l.w;
   base : l.base ≡ length l.fn.w.levels.walk;
   steady : g.O.Sink.faults l.io.out.now ≡ g.O.Sink.faults l.fn.io.out.now;
-  same_out : l.io.out.ghost_name ≡ l.fn.io.out.ghost_name;
-  rest : l.io ≡ record l.fn.io { out = l.io.out };
+  outside : ChangesOutObject l.fn.io l.io;
 }
 
 abbrev pub decreases-loop-at : goal.decreases-loop-at

@@ -21,3 +21,14 @@ returns-clause-bytes c = λ b l.
 pub returns-clause-opened : goal.returns-clause-opened
 returns-clause-opened c =
     rw (ap (λ (s : CellStore). s.cells) c.cells-2.view_is) (opened_kept c.table_is_kept.ensures c.open.new.c.cells c.make_texts-texts.new.c.cells c.in_ok-syms.syms.head c.make_texts-texts.ensures.keeps c.make_texts-texts.ensures.strings c.in_ok-syms.ensures.table c.in_ok-syms.ensures.opened)
+
+pub returns-clause-exact : goal.returns-clause-exact
+returns-clause-exact c =
+    rw (ap (λ (s : CellStore). s.cells) c.cells-2.view_is) (record {
+      names = c.open.new.c.cells;
+      table = c.in_ok-syms.ensures.table;
+      opened = c.in_ok-syms.ensures.opened;
+      cells_are = c.make_texts-texts.ensures.made;
+      texts_are = c.make_texts-texts.ensures.named;
+      long = c.make_texts-texts.ensures.long;
+    })

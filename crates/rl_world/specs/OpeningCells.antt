@@ -1,0 +1,26 @@
+-- The cells at the end of opening: those of the names, and then the strings of the texts of errors.
+use Rattle.std.specs.Prelude.{◌≡◌, ℕ, ◌+◌, List, [], ◌∷◌, ◌++◌, length, Option}
+use Rattle.rl_tags.specs.Tagged.{Tagged, StrAt}
+use Rattle.rl_tree.specs.ErrorTexts.{error_texts}
+use Rattle.rl_cells.specs.Cell.{Cell, StrCell, placed}
+use Rattle.rl_syms.specs.Opened.{IsOpened}
+use Rattle.rl_syms.specs.Table.{IsTable}
+
+-- strings of these bytes, one after another behind these cells
+abbrev pub with_strings : List (List ℕ) → List Cell → List Cell
+with_strings [] cells = cells
+with_strings (bytes ∷ more) cells = with_strings more (cells ++ placed (StrCell bytes))
+
+-- and what names them
+abbrev pub strings_named : List (List ℕ) → List Cell → List Tagged
+strings_named [] cells = []
+strings_named (bytes ∷ more) cells = StrAt (length cells) ∷ strings_named more (cells ++ placed (StrCell bytes))
+
+-- the cells that the names of opening take, and then the texts, which take 35; nothing else
+pub record AreOpeningCells (cells : List Cell) (texts : List Tagged) (head : Option Tagged) : Type 0 where
+  pub names : List Cell
+  pub table : IsTable names head
+  pub opened : IsOpened names head
+  pub cells_are : cells ≡ with_strings error_texts names
+  pub texts_are : texts ≡ strings_named error_texts names
+  pub long : length cells ≡ length names + 35
