@@ -133,14 +133,14 @@ unbuilt_rule finds none file e = elim (cases_Bool (nat_lt 4096 (length file))) [
 -- ---- the ending
 
 -- a run over the forms of a file ends as they do
-pub forms_end : (file : List ℕ) (w : World) (vs : List Tagged) (old new : Option (List ℕ)) (ending : Ending) → AreForms file w vs → PrintsForms (output_of w vs) old new ending → EndsForms file old new ending
+pub forms_end : (file : List ℕ) (w : World) (vs : List Tagged) (old new : Option (List ℕ)) (end : Ending) → AreForms file w vs → PrintsForms (output_of w vs) old new end → EndsForms file old new end
 forms_end file w vs old new Done h p = record { finished = ap (λ (m : Meaning). m.outcome) h.means; output = rw (ap (λ (m : Meaning). m.output) h.means) p }
 forms_end file w vs old new WriteFault h p = rw (ap (λ (m : Meaning). m.output) h.means) p
 forms_end file w vs old new OutOfMemory h p = rw (ap (λ (m : Meaning). m.output) h.means) p
 forms_end file w vs old new ending.Unbuilt h p = absurd p
 
 -- it is one with which something may have been printed
-pub never_unbuilt : (output : List ℕ) (old new : Option (List ℕ)) (ending : Ending) → PrintsForms output old new ending → ending ≡ ending.Unbuilt → ⊥
+pub never_unbuilt : (output : List ℕ) (old new : Option (List ℕ)) (end : Ending) → PrintsForms output old new end → end ≡ ending.Unbuilt → ⊥
 never_unbuilt output old new Done p e = cc
 never_unbuilt output old new WriteFault p e = cc
 never_unbuilt output old new OutOfMemory p e = cc
