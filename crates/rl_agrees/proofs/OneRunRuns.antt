@@ -5,7 +5,8 @@ use Rattle.rl_tree.specs.Name.{Name}
 use Rattle.rl_meaning.specs.State.{State, Function, SpecialForm, NativeFunction, HeldFunction}
 use Rattle.rl_meaning.specs.Outcome.{Outcome, Done, Failed, Went, Returned, Stopped, Levels}
 use Rattle.rl_meaning.specs.Symbols.{nil_value_of_state}
-use Rattle.rl_meaning.specs.Errors.{error_text, unreadable}
+use Rattle.rl_tree.specs.ErrorTexts.{error_text}
+use Rattle.rl_meaning.specs.Errors.{unreadable}
 use Rattle.rl_meaning.specs.Holding.{pointer_to, function_at}
 use Rattle.rl_meaning.specs.Printing.{page_of}
 use Rattle.rl_meaning.specs.Input.{FormReading, Form, End, Unreadable}

@@ -7,7 +7,7 @@ use Rattle.rl_tree.specs.declared.held.Kind.TheVariants.{Expr, Macro}
 use Rattle.rl_meaning.specs.Names.{special_rows, native_rows}
 use Rattle.rl_meaning.specs.State.{State}
 use Rattle.rl_meaning.specs.Symbols.{named_from, symbol_at}
-use Rattle.rl_meaning.specs.Errors.{error_texts}
+use Rattle.rl_tree.specs.ErrorTexts.{error_texts}
 use Rattle.rl_meaning.specs.Jobs.{job}
 use Rattle.rl_meaning.specs.Opening.{bare_state, prelude_texts, opened_state}
 use Rattle.rl_meaning.specs.Run.{run_bytes}

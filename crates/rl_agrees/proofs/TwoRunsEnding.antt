@@ -8,7 +8,8 @@ use Rattle.rl_meaning.specs.State.{State, Counts, Expansion, Binding, Mark, Loca
 use Rattle.rl_meaning.specs.Outcome.{Outcome, Done, Failed, Went, Returned, Stopped, Stop, Turns, Depth, Expands, then_do, choose, turn, Levels, in_levels, deeper, cells_within, run_room, expansion_within, expansion_room, made_pair, run_turn, expansion_turn, turn_of}
 use Rattle.rl_meaning.specs.Opening.{state_of}
 use Rattle.rl_meaning.specs.Symbols.{nil_value_of_state, is_constant}
-use Rattle.rl_meaning.specs.Errors.{fail, error_text, not_bindable}
+use Rattle.rl_tree.specs.ErrorTexts.{error_text}
+use Rattle.rl_meaning.specs.Errors.{fail, not_bindable}
 use Rattle.rl_meaning.specs.Holding.{kept_kind}
 use Rattle.rl_meaning.specs.Variables.{with_binding, with_mark, bound_as, bind_all, binding_levels, restored, binding}
 use Rattle.rl_meaning.specs.Evaluation.{closed, without_expansion}

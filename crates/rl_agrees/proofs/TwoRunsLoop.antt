@@ -7,7 +7,8 @@ use Rattle.rl_tree.specs.Printing.{Page, with_atom}
 use Rattle.rl_meaning.specs.State.{State, Tree, Function, SpecialForm, NativeFunction, HeldFunction, Definition, Dependency, Called, Fexpr, Whole, Coded, Expansion, Recorded}
 use Rattle.rl_meaning.specs.Outcome.{Outcome, Done, Failed, Went, Returned, Stopped, Stop, Levels}
 use Rattle.rl_meaning.specs.Opening.{state_of}
-use Rattle.rl_meaning.specs.Errors.{error_text, unreadable}
+use Rattle.rl_tree.specs.ErrorTexts.{error_text}
+use Rattle.rl_meaning.specs.Errors.{unreadable}
 use Rattle.rl_meaning.specs.Symbols.{symbol_at}
 use Rattle.rl_meaning.specs.Reach.{same_definition}
 use Rattle.rl_meaning.specs.Standing.{stands, all_stand}

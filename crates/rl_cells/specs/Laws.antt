@@ -27,3 +27,7 @@ pub record IsChanged : Type 0 where
   pub here : (cells : List Cell) (k : ℕ) (c : Cell) → k < length cells → cell_at (slice_set cells k c) k ≡ c
   pub others : (cells : List Cell) (k j : ℕ) (c : Cell) → j ≢ k → cell_at (slice_set cells k c) j ≡ cell_at cells j
   pub live : (cells : List Cell) (k : ℕ) (c : Cell) (v : Tagged) → k < length cells → SameKind c (cell_at cells k) → is_live (slice_set cells k c) v ≡ is_live cells v
+
+-- objects lie apart: in the cells of an object no other begins
+pub record IsApart (cells : List Cell) : Type 0 where
+  pub apart : (k j : ℕ) → 0 < j → j < cost_of (cell_at cells k) → cell_at cells (k + j) ≡ More

@@ -3,6 +3,7 @@ ghost use Rattle.rl_tags.specs.Tagged.{PairAt, StrAt, VectorAt, BigAt, at_tag, i
 ghost use Rattle.rl_tags.specs.Ids.{nil_id};
 ghost use Rattle.rl_cells.specs.Cell.{CellStore, Cell, PairCell, StrCell, VectorCell, BigCell, BlockCell, block_with, is_block, is_block_tag, words_of, cost_of, cell_at, placed, changed_at, is_live, is_live_word, is_pair, is_str, is_vector, is_big, is_wide, big_of, take_cells, bytes_of, vector_of, car_of, cdr_of, used_of, has_room, grown, more_counted, IsClosed};
 ghost use Rattle.rl_cells.specs.Stored.{byte_in, signed128};
+ghost use Rattle.rl_cells.specs.Laws.{IsApart};
 ghost use Rattle.std.specs.Option.{ForSome};
 
 use crate::objects::{Change, Objects};
@@ -96,6 +97,20 @@ impl Cells {
         ensures { result ≡ length self.now.cells }
     {
         self.taken
+    }
+
+    /// Objects lie apart: in the cells of an object no other begins.
+    pub fn lies_apart(&self)
+        ensures { IsApart self.now.cells }
+    {
+        let _words = &self.words;
+    }
+
+    /// The values in objects are live.
+    pub fn is_closed(&self)
+        ensures { IsClosed self.now.cells }
+    {
+        let _words = &self.words;
     }
 
     /// Whether an object of this cost, in cells, fits.

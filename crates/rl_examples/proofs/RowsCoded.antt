@@ -9,7 +9,7 @@ use Rattle.rl_tree.specs.declared.held.Kind.TheVariants.{Expr, Macro}
 use Rattle.rl_meaning.specs.Names.{special_rows, native_rows}
 use Rattle.rl_meaning.specs.State.{State, Expansion, Function, HeldFunction, Held, Atom, Dependency, Called, Fexpr, Whole}
 use Rattle.rl_meaning.specs.CMacros.{Constant, Entry, Load, Link, Self, CallNative, JumpNe, Label, Exit}
-use Rattle.rl_meaning.specs.Errors.{error_texts}
+use Rattle.rl_tree.specs.ErrorTexts.{error_texts}
 use Rattle.rl_meaning.specs.Symbols.{nil_value_of_state}
 use Rattle.rl_meaning.specs.Holding.{function_at}
 use Rattle.rl_meaning.specs.Evaluation.{with_expansion, walked}

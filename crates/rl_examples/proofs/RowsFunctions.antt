@@ -7,7 +7,7 @@ use Rattle.rl_tree.specs.Value.{Value, Fun}
 use Rattle.rl_meaning.specs.Names.{special_rows, native_rows}
 use Rattle.rl_meaning.specs.State.{State, Recorded, Turned}
 use Rattle.rl_meaning.specs.CMacros.{Constant, Entry, Load, Exit}
-use Rattle.rl_meaning.specs.Errors.{error_texts}
+use Rattle.rl_tree.specs.ErrorTexts.{error_texts}
 use Rattle.rl_meaning.specs.Outcome.{Depth}
 use Rattle.rl_meaning.specs.Symbols.{with_top}
 use Rattle.rl_meaning.specs.Holding.{pointer_value}

@@ -7,7 +7,7 @@ use Rattle.rl_tree.specs.Value.{Id}
 use Rattle.rl_meaning.specs.Names.{special_rows, native_rows}
 use Rattle.rl_meaning.specs.State.{State}
 use Rattle.rl_meaning.specs.CMacros.{Constant, Variable, Entry, Load, Move, Copy, Link, LinkE, CallNative, Exit}
-use Rattle.rl_meaning.specs.Errors.{error_texts}
+use Rattle.rl_tree.specs.ErrorTexts.{error_texts}
 use Rattle.rl_meaning.specs.Outcome.{Turns}
 use Rattle.rl_meaning.specs.Symbols.{nil_value_of_state}
 use Rattle.rl_meaning.specs.Jobs.{job}

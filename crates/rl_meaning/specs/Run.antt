@@ -6,7 +6,8 @@ use Rattle.rl_tree.specs.Printing.{with_atom}
 use Rattle.rl_meaning.specs.State.{State, Function, HeldFunction, Files}
 use Rattle.rl_meaning.specs.Outcome.{Outcome, Done, Failed, Went, Returned, Stopped, Stop, Missing, then_do, Levels}
 use Rattle.rl_meaning.specs.Symbols.{nil_value_of_state}
-use Rattle.rl_meaning.specs.Errors.{error_text, unreadable}
+use Rattle.rl_tree.specs.ErrorTexts.{error_text}
+use Rattle.rl_meaning.specs.Errors.{unreadable}
 use Rattle.rl_meaning.specs.Holding.{hold_form, pointer_to, function_at}
 use Rattle.rl_meaning.specs.Printing.{page_of, with_page, print_mark, print_end_of_line, fresh_line, print_error}
 use Rattle.rl_meaning.specs.Input.{FormReading, Form, End, Unreadable, read_bytes}

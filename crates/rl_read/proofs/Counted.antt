@@ -2,7 +2,8 @@
 use Rattle.std.proofs.Common.{◌≡◌, ℕ, true, refl}
 use Rattle.std.specs.Prelude.{Option, Some, None, nat_le, nat_lt, ◌+◌}
 use Rattle.std.proofs.lemmas.Bool.{cond_both}
-use Rattle.rl_world.specs.Counts.{WorldCounts, tick_stop, tick_stop_at, room_stop, room_stop_at, cells_stop}
+use Rattle.rl_cells.specs.Cell.{CellStore}
+use Rattle.rl_world.specs.Counts.{WorldCounts, tick_stop, tick_stop_at, room_stop, room_stop_at, cells_bound_at, cells_stop, cells_taken}
 use Rattle.rl_world.specs.Levels.{WorldLevels, enter_stop}
 use Rattle.rl_world.specs.declared.counts.Aside.{Aside}
 use Rattle.rl_world.specs.declared.counts.Expansion.{Expansion}
@@ -31,8 +32,8 @@ tick_counter (Some n) e turns bound = cond_both (nat_lt n 1000000) None (Some st
 tick_counter None (Some e) turns bound = cond_both (nat_lt e.turns 100000) None (Some (stop.Expansion e.name)) IsCounter (λ h. tt) (λ h. refl)
 tick_counter None None turns bound = cond_both (nat_lt turns bound) None (Some stop.Turns) IsCounter (λ h. tt) (λ h. refl)
 
-pub room_counted : (c : WorldCounts) (used cost : ℕ) (s : Stop) → room_stop c used cost ≡ Some s → is_counted s ≡ true
-room_counted c used cost s e = counter_is_counted (room_stop c used cost) s (room_counter c.outermost c.aside used cost c.cells_bound) e
+pub room_counted : (c : WorldCounts) (cells : CellStore) (cost : ℕ) (s : Stop) → room_stop c cells cost ≡ Some s → is_counted s ≡ true
+room_counted c cells cost s e = counter_is_counted (room_stop c cells cost) s (room_counter c.outermost c.aside (cells_taken c.opening cells) cost (cells_bound_at c.opening c.cells_bound)) e
 
 pub tick_counted : (c : WorldCounts) (s : Stop) → tick_stop c ≡ Some s → is_counted s ≡ true
 tick_counted c s e = counter_is_counted (tick_stop c) s (tick_counter c.opening c.outermost c.turns c.bound) e

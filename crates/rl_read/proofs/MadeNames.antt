@@ -1,7 +1,7 @@
 -- A new name in a world: none had it, and those that were there stay.
 use Rattle.std.proofs.Common.{◌≡◌, ℕ, ◌≤◌, ◌⊎◌, inl, inr, List, length, Option, None, true, ap, arith, length-append}
 use Rattle.rl_tags.specs.Tagged.{Tagged}
-use Rattle.rl_cells.specs.Cell.{CellStore, is_live, used_of}
+use Rattle.rl_cells.specs.Cell.{CellStore, is_live}
 use Rattle.rl_syms.specs.Made.{Enters, Finds, id_cost, with_id}
 use Rattle.rl_syms.specs.Table.{IsFree, IsNamed, nil_value}
 use Rattle.rl_syms.specs.declared.table.Syms.{Syms}
@@ -38,7 +38,7 @@ making_entered w cells syms counts name v e made live names = record {
 }
 
 -- it is the new identifier of the stock
-pub identifier_entered : (w : World) (cells : CellStore) (syms : Syms) (name : List ℕ) (v : Tagged) → Enters w.cells cells w.syms.head syms.head name v → room_stop w.counts (used_of w.cells) (id_cost name) ≡ None
+pub identifier_entered : (w : World) (cells : CellStore) (syms : Syms) (name : List ℕ) (v : Tagged) → Enters w.cells cells w.syms.head syms.head name v → room_stop w.counts w.cells (id_cost name) ≡ None
     → identifier_at None name (stock_of w) ≡ Has v (stock_of (record w { cells = cells; syms = syms; counts = roomed w.counts (id_cost name) }))
 identifier_entered w cells syms name v e stop =
     rw (e.cells, e.head, e.place) (identifier_had name (stock_of w) stop e.room)

@@ -3,7 +3,7 @@ ghost use Rattle.std.specs.Borrow.{GName, MutBor};
 ghost use Rattle.std.specs.Prelude.{◌≡◌, ◌≢◌, ◌<◌, ◌≤◌, ◌-◌, ◌+◌, ◌∷◌, ◌++◌, ◌⊎◌, ℕ, Bool, true, false, List, [], Option, Some, None, Err, length, drop, slice_get, option_map, IfOk, IfErr, OnErr, IsSome, IsErr};
 ghost use Rattle.rl_io.specs.Faults.{Rose};
 ghost use Rattle.rl_io.specs.Told.{WhereTold};
-ghost use Rattle.rl_world.specs.Input.{Gives, Input, with_back};
+ghost use Rattle.rl_world.specs.Input.{Gives, Input, to_come};
 ghost use Rattle.rl_world.specs.Counts.{tick_stop, ticked};
 ghost use Rattle.rl_world.specs.declared.stop.Stop.{Stop};
 ghost use Rattle.rl_world.specs.declared.stop.Stop.TheVariants as stop;
@@ -139,7 +139,7 @@ impl Bytes for SliceBytes<'_> {
 impl<I: Source, O: Sink, N: Sink, F: Files> Bytes for Io<'_, I, O, N, F> {
     ghost takes_turns = { λ _. true };
 
-    ghost left = { λ io input. option_map (with_back input.back) (I.left io.input.now) };
+    ghost left = { λ io input. option_map (to_come input) (I.left io.input.now) };
 
     ghost number = { λ _ _. 0 };
 

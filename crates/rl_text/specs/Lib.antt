@@ -1,10 +1,12 @@
 pub mod Datum
 pub mod Byte
+pub mod ByteClass
 pub mod Word
 pub mod Gap
 pub mod Spelling
 pub mod Refusal
 pub mod Maker
+pub mod Makers
 pub mod Reader
 pub mod Stored
 pub mod Printed

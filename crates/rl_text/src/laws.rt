@@ -1,5 +1,8 @@
 //! Laws of Lisp text. A law is the contract of a function that does nothing.
+ghost use Rattle.rl_text.specs.Makers.{EndRelated, MakerRelations, unrelated};
 ghost use Rattle.rl_text.specs.Laws.{FindsNone, FindsSpelled, PrintsData, RefusesFirst, SpellsOnce};
+
+use std::marker::Brand;
 
 /// A datum is found exactly where the bytes begin with a spelling of it, and what is left is what follows that spelling.
 pub fn what_is_found_is_spelled()
@@ -25,4 +28,51 @@ pub fn unreadable_at_first_byte()
 /// front of that text where a turn or a level is wanting.
 pub fn printing_is_of_data()
     ensures { PrintsData }
+{}
+
+/// What relates two makers: a caller picks it.
+pub trait RelatedMakers {
+    ghost FirstState: { Type 0 };
+
+    ghost FirstValue: { Type 0 };
+
+    ghost FirstList: { Type 0 };
+
+    ghost FirstWant: { Type 0 };
+
+    ghost SecondState: { Type 0 };
+
+    ghost SecondValue: { Type 0 };
+
+    ghost SecondList: { Type 0 };
+
+    ghost SecondWant: { Type 0 };
+
+    ghost relations: { MakerRelations Self.FirstState Self.FirstValue Self.FirstList Self.FirstWant Self.SecondState Self.SecondValue Self.SecondList Self.SecondWant };
+}
+
+impl RelatedMakers for Brand {
+    ghost FirstState = { Unit {0} };
+
+    ghost FirstValue = { Unit {0} };
+
+    ghost FirstList = { Unit {0} };
+
+    ghost FirstWant = { Unit {0} };
+
+    ghost SecondState = { Unit {0} };
+
+    ghost SecondValue = { Unit {0} };
+
+    ghost SecondList = { Unit {0} };
+
+    ghost SecondWant = { Unit {0} };
+
+    ghost relations = { unrelated };
+}
+
+/// Two makers whose operations keep relations of their states, values and lists end a text at the same byte, in states and
+/// with values that are related.
+pub fn related_makers_end_related<M: RelatedMakers>()
+    ensures { EndRelated M.relations }
 {}

@@ -6,3 +6,4 @@ pub mod Atoms
 pub mod Printing
 pub mod Command
 pub mod Preorder
+pub mod ErrorTexts

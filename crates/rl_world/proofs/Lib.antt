@@ -1,3 +1,4 @@
 pub mod Threes
 pub mod Texts
 pub mod Waited
+pub mod BoundsKept

@@ -10,7 +10,8 @@ use Rattle.rl_syms.specs.Frame.{KeepsBlocks}
 use Rattle.rl_syms.specs.Laws.{IsKept}
 use Rattle.rl_syms.specs.Opened.{IsOpened, is_name_cell}
 use Rattle.rl_syms.specs.Table.{IsTable}
-use Rattle.rl_world.specs.Errors.{AddsTexts, AreTexts, error_texts}
+use Rattle.rl_tree.specs.ErrorTexts.{error_texts}
+use Rattle.rl_world.specs.Errors.{AddsTexts, AreTexts}
 
 string_kept : (old new : List Cell) (v : Tagged) → KeepsBlocks old new → is_str old v ≡ true → is_str new v ≡ true
 string_kept old new (StrAt k) b h = b.live (StrAt k) h

@@ -1,6 +1,7 @@
 -- What a run counts: turns, expansions and cells, and what each call does to the counts.
-use Rattle.std.specs.Prelude.{◌≡◌, ℕ, ◌+◌, ◌-◌, ◌==◌, ◌<◌, nat_le, nat_lt, cond, Option, Some, None}
+use Rattle.std.specs.Prelude.{◌≡◌, ℕ, ◌+◌, ◌-◌, ◌==◌, ◌<◌, nat_le, nat_lt, cond, length, Option, Some, None}
 use Rattle.rl_tags.specs.Tagged.{Tagged}
+use Rattle.rl_cells.specs.Cell.{CellStore, used_of}
 use Rattle.rl_world.specs.declared.counts.Aside.{Aside}
 use Rattle.rl_world.specs.declared.counts.Expansion.{Expansion}
 use Rattle.rl_world.specs.declared.stop.Stop.{Stop}
@@ -48,19 +49,29 @@ turns_left_at None None turns bound = bound - turns
 abbrev pub count_turns_left : WorldCounts → ℕ
 count_turns_left c = turns_left_at c.opening c.outermost c.turns c.bound
 
--- the run has as many cells as its bound says, but where a compilation expands
+-- the cells that count: in opening all, and after it those that were taken since
+abbrev pub cells_taken : Option ℕ → CellStore → ℕ
+cells_taken None cells = used_of cells
+cells_taken (Some ticks) cells = length cells.cells
+
+-- opening has 65536 cells, and the run as many as its bound says
+abbrev pub cells_bound_at : Option ℕ → ℕ → ℕ
+cells_bound_at None bound = bound
+cells_bound_at (Some ticks) bound = 65536
+
+-- but where a compilation expands the run has no bound
 abbrev pub cells_stop : Option Aside → ℕ → ℕ → ℕ → Option Stop
-cells_stop None used cost bound = cond (nat_le (used + cost) bound) None (Some stop.Cells)
-cells_stop (Some aside) used cost bound = None
+cells_stop None taken cost bound = cond (nat_le (taken + cost) bound) None (Some stop.Cells)
+cells_stop (Some aside) taken cost bound = None
 
 -- and an expansion has 1000000
 abbrev pub room_stop_at : Option Expansion → Option Aside → ℕ → ℕ → ℕ → Option Stop
-room_stop_at None aside used cost bound = cells_stop aside used cost bound
-room_stop_at (Some e) aside used cost bound = cond (nat_le (e.cells + cost) 1000000) (cells_stop aside used cost bound) (Some (stop.Expansion e.name))
+room_stop_at None aside taken cost bound = cells_stop aside taken cost bound
+room_stop_at (Some e) aside taken cost bound = cond (nat_le (e.cells + cost) 1000000) (cells_stop aside taken cost bound) (Some (stop.Expansion e.name))
 
--- why an object of this cost may not be made, where so many cells are used
-abbrev pub room_stop : WorldCounts → ℕ → ℕ → Option Stop
-room_stop c used cost = room_stop_at c.outermost c.aside used cost c.cells_bound
+-- why an object of this cost may not be made in these cells
+abbrev pub room_stop : WorldCounts → CellStore → ℕ → Option Stop
+room_stop c cells cost = room_stop_at c.outermost c.aside (cells_taken c.opening cells) cost (cells_bound_at c.opening c.cells_bound)
 
 abbrev pub with_cells : ℕ → Option Expansion → Option Expansion
 with_cells cost None = None

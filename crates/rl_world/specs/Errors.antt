@@ -1,18 +1,9 @@
--- The texts of system errors.
-use Rattle.std.specs.Prelude.{◌≡◌, ℕ, ◌-◌, ◌<◌, true, List, [], ◌∷◌, slice_index_or, codes}
+-- The texts of system errors, as strings in cells.
+use Rattle.std.specs.Prelude.{◌≡◌, ℕ, ◌<◌, true, List, [], slice_index_or}
 use Rattle.rl_tags.specs.Tagged.{Tagged}
+use Rattle.rl_tree.specs.ErrorTexts.{error_texts}
 use Rattle.rl_cells.specs.Cell.{Cell, bytes_of, cell_at, is_str}
 use Rattle.rl_syms.specs.Opened.{is_name_cell}
-
--- the texts of the errors from 10 to 23
-abbrev pub error_texts : List (List ℕ)
-error_texts =
-    codes "is unbound" ∷ codes "is not defined" ∷ codes "has a wrong number of arguments" ∷ codes "is of a wrong type" ∷ codes "is out of range"
-    ∷ codes "overflows" ∷ codes "has a zero divisor" ∷ codes "is misplaced" ∷ codes "is badly formed" ∷ codes "may not be bound or set"
-    ∷ codes "is a system name" ∷ codes "cannot be written" ∷ codes "cannot be loaded" ∷ codes "is the byte where the text is unreadable" ∷ []
-
-abbrev pub error_text : ℕ → List ℕ
-error_text n = slice_index_or error_texts (n - 10) []
 
 -- these values are strings of the first texts
 pub record AreTexts (cells : List Cell) (texts : List Tagged) (n : ℕ) : Type 0 where

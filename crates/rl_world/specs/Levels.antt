@@ -1,5 +1,5 @@
 -- The levels that are entered, and the places that walks keep; each of these has entered one.
-use Rattle.std.specs.Prelude.{◌≡◌, ℕ, zero, suc, ◌+◌, ◌*◌, ◌≤◌, nat_le, cond, List, [], ◌∷◌, length, slice_index, Option, Some, None}
+use Rattle.std.specs.Prelude.{◌≡◌, ℕ, zero, suc, ◌+◌, ◌-◌, ◌*◌, ◌≤◌, nat_le, cond, List, [], ◌∷◌, length, slice_index, Option, Some, None}
 use Rattle.rl_world.specs.declared.stop.Stop.{Stop}
 use Rattle.rl_world.specs.declared.stop.Stop.TheVariants as stop
 
@@ -13,6 +13,16 @@ pub record WorldLevels : Type 0 where
 -- why n levels more may not be entered
 abbrev pub enter_stop : WorldLevels → ℕ → Option Stop
 enter_stop l n = cond (nat_le (l.level + n) l.bound) None (Some stop.Depth)
+
+-- the levels that are entered but by walks
+abbrev pub levels_below : WorldLevels → ℕ
+levels_below l = l.level - length l.walk
+
+-- the levels stay within the bound, and what walks keep within the levels
+pub record AreLevels (l : WorldLevels) : Type 0 where
+  pub bounded : l.bound ≤ 500000
+  pub within : l.level ≤ l.bound
+  pub walks : length l.walk ≤ l.level
 
 -- the first n threes of words, the newest first
 abbrev pub threes : ℕ → List ℕ → List (ℕ × ℕ × ℕ)

@@ -1,8 +1,10 @@
 //! The counts of turns, expansions and their cells.
-ghost use Rattle.std.specs.Prelude.{◌≡◌, ◌+◌, ◌<◌, ◌^◌, None, Some, OnOk, IfErr};
-ghost use Rattle.rl_world.specs.Counts.{aside_of, begun, counts_at_opening, expansion_ended, rejoined, room_stop, roomed, set_aside, tick_stop, ticked};
+ghost use Rattle.std.specs.Prelude.{◌≡◌, ◌+◌, ◌<◌, ◌^◌, None, Some, if◌then◌else◌, OnOk, IfErr};
+ghost use Rattle.rl_world.specs.Counts.{aside_of, begun, cells_bound_at, cells_stop, cells_taken, counts_at_opening, expansion_ended, rejoined, room_stop, roomed, set_aside, tick_stop, ticked};
+ghost use Rattle.rl_world.specs.declared.stop.Stop.TheVariants as stop;
 
 use crate::stop::Stop;
+use rl_cells::Cells;
 use rl_tags::Val;
 use std::marker::Model;
 
@@ -11,6 +13,9 @@ const OPENING_TICKS: u32 = 1_000_000;
 
 /// Turns of an expansion.
 const EXPANSION_TURNS: u32 = 100_000;
+
+/// Cells of opening.
+const OPENING_CELLS: u32 = 65_536;
 
 /// Cells of an expansion.
 const EXPANSION_CELLS: u64 = 1_000_000;
@@ -138,16 +143,14 @@ impl Counts {
         Ok(())
     }
 
-    /// Counts the cells of an object before it is made, where `used` cells are used. After a stop the counts are as
-    /// before.
-    pub(crate) fn room(&mut self, used: u32, cost: u32) -> Result<(), Stop>
-        ensures ok { OnOk result (room_stop self.old used cost ≡ None) }
+    /// Counts the cells of an object before it is made. After a stop the counts are as before.
+    pub(crate) fn room(&mut self, cells: &Cells, cost: u32) -> Result<(), Stop>
+        ensures ok { OnOk result (room_stop self.old cells.now cost ≡ None) }
         ensures counted { OnOk result (self.new ≡ roomed self.old cost) }
-        ensures stop { IfErr result (λ s. room_stop self.old used cost ≡ Some s) }
+        ensures stop { IfErr result (λ s. room_stop self.old cells.now cost ≡ Some s) }
         ensures err { IfErr result (λ s. self.new ≡ self.old) }
     {
-        let fits = self.aside.is_some()
-            || u64::from(used) + u64::from(cost) <= u64::from(self.cells_bound);
+        let fits = self.fits(cells, cost);
         let Some(e) = self.outermost else {
             return if fits { Ok(()) } else { Err(Stop::Cells) };
         };
@@ -162,6 +165,17 @@ impl Counts {
             ..e
         });
         Ok(())
+    }
+
+    /// Whether the cells of opening, or those of the run, have room; while a compilation expands they are not asked.
+    fn fits(&self, cells: &Cells, cost: u32) -> bool
+        ensures { cells_stop self.now.aside (cells_taken self.now.opening cells.now) cost (cells_bound_at self.now.opening self.now.cells_bound) ≡ (if result then None else Some stop.Cells) }
+    {
+        let (taken, bound) = match self.opening {
+            Some(_) => (cells.places(), OPENING_CELLS),
+            None => (cells.used(), self.cells_bound),
+        };
+        self.aside.is_some() || u64::from(taken) + u64::from(cost) <= u64::from(bound)
     }
 
     /// Opens an expansion of this macro.

@@ -3,7 +3,8 @@ ghost use Rattle.std.specs.Prelude.{◌≡◌, ◌+◌, ◌*◌, ◌<◌, ◌≤
 ghost use Rattle.rl_cells.specs.Cell.{bytes_of, is_str};
 ghost use Rattle.rl_syms.specs.Frame.{KeepsBlocks};
 ghost use Rattle.rl_syms.specs.Made.{IsOpening};
-ghost use Rattle.rl_world.specs.Errors.{AddsTexts, AreTexts, error_texts};
+ghost use Rattle.rl_tree.specs.ErrorTexts.{error_texts};
+ghost use Rattle.rl_world.specs.Errors.{AddsTexts, AreTexts};
 
 use rl_cells::Cells;
 use rl_cells::laws::objects_are_added;
@@ -14,6 +15,7 @@ use rl_tags::Val;
 pub(crate) const ERRORS: usize = 14;
 
 /// The text of the error of this number less 10.
+#[tactic(auto, unfolding(rl_tree::specs::ErrorTexts::error_texts))]
 fn text_bytes(i: usize) -> &'static [u8]
     requires { i < 14 }
     ensures { result.now ≡ slice_index_or error_texts i [] }

@@ -1,6 +1,6 @@
 //! The levels that are entered, and the places that walks keep.
 ghost use Rattle.std.specs.Prelude.{◌≡◌, ◌+◌, ◌-◌, ◌≤◌, None, Some, [], ◌∷◌, length, IfOk, OnOk, IfErr};
-ghost use Rattle.rl_world.specs.Levels.{enter_stop};
+ghost use Rattle.rl_world.specs.Levels.{AreLevels, enter_stop, levels_below};
 
 use crate::stop::Stop;
 use rl_io::OutOfMemory;
@@ -68,7 +68,8 @@ impl Levels {
 
     /// The levels that are entered.
     pub(crate) fn level(&self) -> u32
-        ensures { result ≡ self.now.level }
+        ensures level { result ≡ self.now.level }
+        ensures levels { AreLevels self.now }
     {
         self.level
     }
@@ -77,6 +78,7 @@ impl Levels {
     pub(crate) fn push(&mut self, a: u64, b: u64, c: u64) -> Result<(), Stop>
         ensures ok { OnOk result (enter_stop self.old 1 ≡ None) }
         ensures entered { OnOk result (self.new ≡ record self.old { level = self.old.level + 1; walk = (a, b, c) ∷ self.old.walk }) }
+        ensures below { levels_below self.new ≡ levels_below self.old }
         ensures stop { IfErr result (λ s. enter_stop self.old 1 ≡ Some s) }
         ensures err { IfErr result (λ s. self.new ≡ self.old) }
     {
@@ -98,6 +100,7 @@ impl Levels {
         ensures popped { self.old.walk ≡ result ∷ self.new.walk }
         ensures within { self.old.level ≤ self.old.bound }
         ensures entered { 1 ≤ self.old.level }
+        ensures below { levels_below self.new ≡ levels_below self.old }
         ensures left { self.new ≡ record self.old { level = self.old.level - 1; walk = self.new.walk } }
     {
         self.kept -= 1;

@@ -5,6 +5,7 @@ mod buffer;
 mod counts;
 mod errors;
 mod input;
+pub mod laws;
 mod levels;
 mod output;
 mod outside;

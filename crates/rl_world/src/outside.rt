@@ -1,8 +1,8 @@
 //! What comes in and goes out.
-ghost use Rattle.std.specs.Prelude.{◌≡◌, ◌≢◌, ◌⊎◌, ◌∷◌, ◌++◌, None, [], Err, OnOk, OnErr, IfOk, IfErr};
+ghost use Rattle.std.specs.Prelude.{◌≡◌, ◌≢◌, ◌⊎◌, ◌∷◌, ◌++◌, None, Some, true, false, [], Err, OnOk, OnErr, IfOk, IfErr, IfSome};
 ghost use Rattle.rl_io.specs.Faults.{Rose};
 ghost use Rattle.rl_io.specs.Told.{WhereTold};
-ghost use Rattle.rl_world.specs.Input.{Gives, given_after, with_back};
+ghost use Rattle.rl_world.specs.Input.{Gives, ended_after, given_after, to_come};
 ghost use Rattle.rl_tree.specs.Printing.{column_with};
 ghost use Rattle.rl_world.specs.Waiting.{Follows, IsCutOff};
 ghost use Rattle.rl_world.specs.declared.stop.Stop.TheVariants as stop;
@@ -86,15 +86,21 @@ impl World {
         }
     }
 
-    /// Writes what was printed and waits, and takes the next byte of the input, None where there is none. After `Stop::Write` a
-    /// front of what waited may have been written, none waits, and the input is as before; after `Stop::Read` all that waited
-    /// is written, and the place in the input is as before.
+    /// Writes what was printed and waits, and takes the next byte of the input, None where there is none, and from then on. A
+    /// byte that was put back is taken without a read. After `Stop::Write` a front of what waited may have been written, none
+    /// waits, and the input is as before; after `Stop::Read` all that waited is written, and the place in the input is as
+    /// before.
     pub fn input_byte<I: Source, O: Sink, N: Sink, F: Files>(
         &mut self,
         io: &mut Io<'_, I, O, N, F>,
     ) -> Result<Option<u8>, Stop>
-        ensures gives { IfOk result (λ b. WhereTold (I.left io.old.input.now) (I.left io.new.input.now) (λ before now. Gives (with_back self.old.input.back before) now b)) }
-        ensures place { IfOk result (λ b. self.new.input ≡ record { back = None; given = given_after b self.old.input.given }) }
+        ensures comes { IfOk result (λ b. WhereTold (I.left io.old.input.now) (I.left io.new.input.now) (λ before now. Gives (to_come self.old.input before) (to_come self.new.input now) b)) }
+        ensures gives { IfOk result (λ b. self.old.input.back ≡ None → self.old.input.ended ≡ false → WhereTold (I.left io.old.input.now) (I.left io.new.input.now) (λ before now. Gives before now b)) }
+        ensures at_end { IfOk result (λ b. self.old.input.back ≡ None → self.old.input.ended ≡ true → b ≡ None) }
+        ensures unread_back { IfSome self.old.input.back (λ c. io.new.input.now ≡ io.old.input.now) }
+        ensures unread_end { self.old.input.ended ≡ true → io.new.input.now ≡ io.old.input.now }
+        ensures back { IfOk result (λ b. IfSome self.old.input.back (λ c. b ≡ Some c)) }
+        ensures place { IfOk result (λ b. self.new.input ≡ record { back = None; given = given_after b self.old.input.given; ended = ended_after b self.old.input.ended }) }
         ensures printed { result ≢ Err stop.Write → Follows (O.contents io.old.out.now) self.old.output.waiting (O.contents io.new.out.now) [] [] }
         ensures printed_front { IsCutOff (O.contents io.old.out.now) (O.contents io.new.out.now) self.old.output.waiting }
         ensures stop { IfErr result (λ s. (s ≡ stop.Write) ⊎ (s ≡ stop.Read)) }

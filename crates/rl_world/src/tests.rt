@@ -2,7 +2,7 @@
 ghost use Rattle.std.specs.Prelude.{◌≡◌, None, [], IfOk};
 ghost use Rattle.rl_world.specs.Counts.{counts_at_opening};
 ghost use Rattle.rl_world.specs.Errors.{AreTexts};
-ghost use Rattle.rl_world.specs.Input.{given_after};
+ghost use Rattle.rl_world.specs.Input.{ended_after, given_after};
 
 use crate::{Limits, Stop, World};
 use rl_io::{Failed, Files, Io, MemFiles, MemSink, MemSource, Sink, Source};
@@ -194,7 +194,7 @@ impl Run {
     }
 
     fn next(&mut self) -> Result<Option<u8>, Stop>
-        ensures { IfOk result (λ b. self.new.world.input ≡ record { back = None; given = given_after b self.old.world.input.given }) }
+        ensures { IfOk result (λ b. self.new.world.input ≡ record { back = None; given = given_after b self.old.world.input.given; ended = ended_after b self.old.world.input.ended }) }
     {
         self.world.input_byte(&mut Io {
             input: &mut self.input,

@@ -1,15 +1,16 @@
 //! The world of a run.
-ghost use Rattle.std.specs.Prelude.{◌≡◌, ◌↔◌, ◌+◌, ◌-◌, ◌^◌, ◌<◌, ◌≤◌, ◌∷◌, ℕ, None, Some, [], length, min, IsTrue, IfOk, IfErr, OnOk};
+ghost use Rattle.std.specs.Prelude.{◌≡◌, ◌↔◌, ◌+◌, ◌-◌, ◌^◌, ◌<◌, ◌≤◌, ◌∷◌, ℕ, None, Some, false, [], length, min, IsTrue, IfOk, IfErr, OnOk};
 ghost use Rattle.rl_tags.specs.Tagged.{Tagged, IdAt};
 ghost use Rattle.rl_tags.specs.Opening.{name_at, place_of};
 ghost use Rattle.rl_tags.specs.declared.names.TheConstants.{OPENING_NAMES};
-ghost use Rattle.rl_cells.specs.Cell.{bytes_of, is_str, used_of};
+ghost use Rattle.rl_cells.specs.Cell.{bytes_of, is_str};
 ghost use Rattle.rl_syms.specs.Table.{IsTable, IsNamed};
 ghost use Rattle.rl_syms.specs.Made.{IsOpening};
 ghost use Rattle.rl_syms.specs.Opened.{IsOpened};
 ghost use Rattle.rl_world.specs.Counts.{aside_of, begun, counts_at_opening, expansion_ended, rejoined, room_stop, roomed, set_aside, tick_stop, ticked};
-ghost use Rattle.rl_world.specs.Errors.{AreTexts, error_text};
-ghost use Rattle.rl_world.specs.Levels.{enter_stop};
+ghost use Rattle.rl_tree.specs.ErrorTexts.{error_text};
+ghost use Rattle.rl_world.specs.Errors.{AreTexts};
+ghost use Rattle.rl_world.specs.Levels.{AreLevels, enter_stop, levels_below};
 
 use crate::buffer::Buffer;
 use crate::counts::{Aside, Counts};
@@ -63,7 +64,7 @@ impl World {
         ensures levels { IfOk result (λ w. w.levels ≡ record { bound = limits.nest; level = 0; walk = []; aside = None }) }
         ensures output { IfOk result (λ w. w.output ≡ record { waiting = []; column = 0; line_length = 80 }) }
         ensures notes { IfOk result (λ w. w.notes ≡ []) }
-        ensures input { IfOk result (λ w. w.input ≡ record { back = None; given = 0 }) }
+        ensures input { IfOk result (λ w. w.input ≡ record { back = None; given = 0; ended = false }) }
     {
         table_is_kept();
         let mut cells = Cells::new(alloc, limits.cells)?;
@@ -111,15 +112,15 @@ impl World {
         self.counts.tick()
     }
 
-    /// Is called before an object of this cost is made, and counts its cells in the outermost open expansion. After a stop
-    /// the world is as before.
+    /// Is called before an object of this cost is made, and counts its cells in the outermost open expansion. Opening has
+    /// 65,536 cells, the run as many as its bound says, and an expansion 1,000,000. After a stop the world is as before.
     pub fn room(&mut self, cost: u32) -> Result<(), Stop>
-        ensures ok { OnOk result (room_stop self.old.counts (used_of self.old.cells) cost ≡ None) }
+        ensures ok { OnOk result (room_stop self.old.counts self.old.cells cost ≡ None) }
         ensures counted { OnOk result (self.new ≡ record self.old { counts = roomed self.old.counts cost }) }
-        ensures stop { IfErr result (λ s. room_stop self.old.counts (used_of self.old.cells) cost ≡ Some s) }
+        ensures stop { IfErr result (λ s. room_stop self.old.counts self.old.cells cost ≡ Some s) }
         ensures err { IfErr result (λ s. self.new ≡ self.old) }
     {
-        self.counts.room(self.cells.used(), cost)
+        self.counts.room(&self.cells, cost)
     }
 
     /// Opens an expansion of this macro; turns and cells count in the outermost one.
@@ -192,9 +193,10 @@ impl World {
         self.levels.leave(n);
     }
 
-    /// The levels that are entered.
+    /// The levels that are entered: within the bound, and no fewer than walks keep.
     pub fn level(&self) -> u32
-        ensures { result ≡ self.now.levels.level }
+        ensures level { result ≡ self.now.levels.level }
+        ensures levels { AreLevels self.now.levels }
     {
         self.levels.level()
     }
@@ -240,27 +242,29 @@ impl World {
     pub fn input_back(&mut self, b: u8)
         requires none_back { self.old.input.back ≡ None }
         requires given { 1 ≤ self.old.input.given }
-        ensures { self.new ≡ record self.old { input = record { back = Some b; given = self.old.input.given - 1 } } }
+        ensures { self.new ≡ record self.old { input = record { back = Some b; given = self.old.input.given - 1; ended = self.old.input.ended } } }
     {
         self.input.put_back(b);
     }
 
-    /// Enters a level and keeps three words of a walk. After a stop the world is as before.
+    /// Enters a level and keeps three words of a walk; the levels below the walks stay. After a stop the world is as before.
     pub fn walk_push(&mut self, a: u64, b: u64, c: u64) -> Result<(), Stop>
         ensures ok { OnOk result (enter_stop self.old.levels 1 ≡ None) }
         ensures entered { OnOk result (self.new ≡ record self.old { levels = record self.old.levels { level = self.old.levels.level + 1; walk = (a, b, c) ∷ self.old.levels.walk } }) }
+        ensures below { levels_below self.new.levels ≡ levels_below self.old.levels }
         ensures stop { IfErr result (λ s. enter_stop self.old.levels 1 ≡ Some s) }
         ensures err { IfErr result (λ s. self.new ≡ self.old) }
     {
         self.levels.push(a, b, c)
     }
 
-    /// Gives the three newest words of a walk back, and leaves their level.
+    /// Gives the three newest words of a walk back, and leaves their level; the levels below the walks stay.
     pub fn walk_pop(&mut self) -> (u64, u64, u64)
         requires { 1 ≤ length self.old.levels.walk }
         ensures popped { self.old.levels.walk ≡ result ∷ self.new.levels.walk }
         ensures within { self.old.levels.level ≤ self.old.levels.bound }
         ensures entered { 1 ≤ self.old.levels.level }
+        ensures below { levels_below self.new.levels ≡ levels_below self.old.levels }
         ensures left { self.new ≡ record self.old { levels = record self.old.levels { level = self.old.levels.level - 1; walk = self.new.levels.walk } } }
     {
         self.levels.pop()

@@ -1,14 +1,4 @@
-pub mod Keeping
 pub mod Commands
 pub mod Loading
-pub mod Memories
-pub mod Built
-pub mod Waited
-pub mod Paging
-pub mod Testing
-pub mod Evaluating
-pub mod Turns
-pub mod Finding
-pub mod ReadForms
-pub mod Closing
 pub mod Endings
+pub mod Numbers

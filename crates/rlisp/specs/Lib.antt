@@ -1,13 +1,5 @@
-pub mod Evaluation
-pub mod Meaning
 pub mod Texts
-pub mod World
-pub mod Forms
-pub mod Looks
-pub mod Outputs
-pub mod Pages
-pub mod Tasks
 pub mod Status
-pub mod Loads
-pub mod Appending
 pub mod Headline
+pub mod EndsAsStatus
+pub mod Loads

@@ -1,7 +1,7 @@
 -- What loading a file answers.
 use Rattle.std.specs.Prelude.{◌≡◌, ℕ, ◌<◌, ◌≤◌, List, length, Option, Some, None}
 use Rattle.rl_io.specs.Faults.{Rose}
-use Rattle.rlisp.specs.Meaning.{longest_file}
+use Rattle.rl_forms.specs.Meaning.{longest_file}
 use Rattle.rlisp.specs.declared.source.Loaded.{Loaded}
 use Rattle.rlisp.specs.declared.source.Loaded.TheVariants.{File, Long, Missing, Fault, OutOfMemory}
 

@@ -1,7 +1,9 @@
 -- How a run ends, as its status says it.
-use Rattle.std.specs.Prelude.{ℕ, zero, suc, List, [], ◌∷◌, ◌++◌, Option, Some, None, Bool, true, false, codes, decimal}
-use Rattle.rlisp.specs.Meaning.{FileOutcome, Finished}
-use Rattle.rlisp.specs.Meaning as meaning
+use Rattle.std.specs.Prelude.{◌≡◌, ◌⊎◌, ℕ, zero, suc, List, [], ◌∷◌, ◌++◌, Option, Some, None, Bool, true, false, codes, decimal}
+use Rattle.rl_io.specs.Faults.{Rose}
+use Rattle.rl_forms.specs.Appended.{Appended, AppendedFront}
+use Rattle.rl_forms.specs.Meaning.{FileOutcome, Finished}
+use Rattle.rl_forms.specs.Meaning as meaning
 use Rattle.rlisp.specs.declared.status.Status.{Status}
 use Rattle.rlisp.specs.declared.status.Status.TheVariants.{Done, Usage, Missing, WriteFault, FileFault, OutOfMemory, Unbuilt}
 
@@ -25,6 +27,12 @@ outcome_told FileFault = None
 outcome_told OutOfMemory = None
 outcome_told Unbuilt = Some meaning.Unbuilt
 
+-- the number of the status that tells of this outcome
+abbrev pub outcome_number : FileOutcome → ℕ
+outcome_number Finished = 0
+outcome_number meaning.Missing = 3
+outcome_number meaning.Unbuilt = 13
+
 -- what is reported of a number: nothing of 0, and a line of any other
 abbrev pub report_of_number : ℕ → List ℕ
 report_of_number zero = []
@@ -32,6 +40,11 @@ report_of_number (suc n) = codes "rlisp: status " ++ (decimal (suc n) ++ 10 ∷ 
 
 abbrev pub report_of : Status → List ℕ
 report_of status = report_of_number (status_number status)
+
+-- the report of a number was appended to this sink; or a write of it failed, and a front of it was
+abbrev pub IsReported : Option (List ℕ) → Option (List ℕ) → ℕ → ℕ → ℕ → Type 0
+IsReported old new before now number =
+    (Appended old new (report_of_number number) × (now ≡ before)) ⊎ (AppendedFront old new (report_of_number number) × Rose before now)
 
 -- a run with this status appended nothing to its output
 abbrev pub is_silent : Status → Bool

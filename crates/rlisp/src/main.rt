@@ -1,15 +1,7 @@
 //! The command `rlisp`: Standard Lisp, from the bytes of a file to the bytes that are printed.
 #![tactic(auto)]
 
-ghost use Rattle.std.specs.Prelude.{◌≡◌, ◌↔◌, ℕ, List};
-ghost use Rattle.rl_tree.specs.Command.{IsCommand, StopsAt};
-ghost use Rattle.rlisp.specs.Texts.{texts_of};
-
-mod evaluator;
-mod forms;
-mod memory;
-mod printing;
-mod reading;
+mod command;
 mod report;
 mod source;
 mod status;
@@ -18,6 +10,8 @@ mod tests;
 mod top;
 mod words;
 
+pub use command::command;
+use command::end_with;
 pub use report::report;
 use rl_io::{DirFiles, OutOfMemory, StdSink, StdSource};
 pub use status::{FileName, Status};
@@ -29,33 +23,22 @@ pub use top::rlisp;
 /// Bytes of the longest word that the system hands to a program.
 const LONGEST_WORD: usize = 131_072;
 
+/// The command over the system's objects: notes and the report go to standard error, files are those of the folder.
 fn main(rt: HostRuntime) -> ExitCode {
-    let status = match command_words(rt.alloc(), &rt) {
-        Ok(words) => run(&rt, &words),
-        Err(OutOfMemory) => Status::OutOfMemory,
-    };
     let mut err = StdSink::new(rt.stderr());
-    let _ = report(&status, &mut err);
-    ExitCode::from(status.number())
-}
-
-/// The call over the system's objects: notes go to standard error, files are those of the folder.
-fn run(rt: &HostRuntime, words: &[Vec<u8>]) -> Status
-    ensures usage { (k : ℕ) → (result ≡ Status.Usage k) ↔ StopsAt (texts_of words.now) k }
-    ensures missing { (name : List ℕ) → result ≡ Status.Missing name → IsCommand (texts_of words.now) name }
-{
-    let mut input = StdSource::new(rt.stdin());
-    let mut out = StdSink::new(rt.stdout());
-    let mut notes = StdSink::new(rt.stderr());
-    let mut files = DirFiles::new(rt);
-    rlisp(
-        rt.alloc(),
-        words,
-        &mut input,
-        &mut out,
-        &mut notes,
-        &mut files,
-    )
+    let number = match command_words(rt.alloc(), &rt) {
+        Ok(words) => command(
+            rt.alloc(),
+            &words,
+            &mut StdSource::new(rt.stdin()),
+            &mut StdSink::new(rt.stdout()),
+            &mut StdSink::new(rt.stderr()),
+            &mut err,
+            &mut DirFiles::new(&rt),
+        ),
+        Err(OutOfMemory) => end_with(&Status::OutOfMemory, &mut err),
+    };
+    ExitCode::from(number)
 }
 
 /// The words after the program's name.

@@ -2,7 +2,7 @@
 ghost use Rattle.std.specs.Prelude.{◌≡◌, ◌+◌, ◌≤◌, [], ◌∷◌, ◌++◌, length, codes, decimal, OnOk, OnErr};
 ghost use Rattle.arrayvec.specs.ArrayVec.{array_vec_len};
 ghost use Rattle.rl_io.specs.Faults.{Rose};
-ghost use Rattle.rlisp.specs.Appending.{Appended, AppendedFront};
+ghost use Rattle.rl_forms.specs.Appended.{Appended, AppendedFront};
 ghost use Rattle.rlisp.specs.Status.{report_of};
 
 use crate::status::Status;

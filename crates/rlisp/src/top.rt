@@ -1,29 +1,22 @@
 //! The one call of the program: from the words, the folder and the input to what is printed and the status.
-ghost use Rattle.std.specs.Prelude.{◌≡◌, ◌≢◌, ◌↔◌, ◌≤◌, true, ℕ, List, length, Some, None, IfSome, IfOk, IsTrue};
-ghost use Rattle.std.specs.List.{All};
+ghost use Rattle.std.specs.Prelude.{◌≡◌, ◌≢◌, ◌↔◌, ◌≤◌, ℕ, List, length, Some, IfSome, IsTrue};
 ghost use Rattle.std.specs.Option.{IsSomeAnd};
 ghost use Rattle.rl_io.specs.Faults.{Rose};
-ghost use Rattle.rl_tree.specs.Command.{IsCommand, IsPath, StopsAt};
-ghost use Rattle.rlisp.specs.Meaning.{file_meaning, IsUnbuilt};
+ghost use Rattle.rl_tree.specs.Command.{IsPath, StopsAt};
+ghost use Rattle.rl_forms.specs.Appended.{AppendedFront};
+ghost use Rattle.rl_forms.specs.Meaning.{IsUnbuilt, file_meaning};
+ghost use Rattle.rl_forms.specs.RunEnds.{PrintsMeaning};
 ghost use Rattle.rlisp.specs.Texts.{texts_of};
 ghost use Rattle.rlisp.specs.Status.{is_silent};
-ghost use Rattle.rlisp.specs.Appending.{AppendedFront};
-ghost use Rattle.rlisp.specs.World.{IsBeginning, IsKnown};
-ghost use Rattle.rlisp.specs.Forms.{are_built};
-ghost use Rattle.rlisp.specs.Headline.{OfFile, Prints, Agrees, Ends, IsReady, PrintsForms, output_of};
+ghost use Rattle.rlisp.specs.Headline.{Agrees, NamesNoFile, OfFile};
+ghost use Rattle.rlisp.specs.EndsAsStatus.{EndsAsStatus};
 
-use crate::evaluator::evaluate_all;
-use crate::forms::all_built;
-use crate::memory::open;
-use crate::printing::Fault;
-use crate::reading::forms_in;
 use crate::source::{Loaded, load};
 use crate::status::{FileName, Status};
 use crate::words::path_of;
-use rl_io::{Files, Io, NullSink, OutOfMemory, Sink, Source};
-use rl_tags::Val;
-use rl_text::laws::{blank_text_has_none, what_is_found_is_spelled};
-use rl_world::World;
+use rl_io::{Files, Io, NullSink, Sink, Source};
+use rl_forms::laws::{all_and_nothing_are_fronts, unbuilt_files_spell_no_built_forms};
+use rl_forms::{Ending, run_forms};
 use std::alloc::Global;
 
 /// Runs the command that the words are: `sl PATH` evaluates the forms of a file of Standard Lisp in turn.
@@ -41,13 +34,13 @@ pub fn rlisp<I: Source, O: Sink, N: Sink, F: Files>(
     ensures usage { (k : ℕ) → (result ≡ Status.Usage k) ↔ StopsAt (texts_of words.now) k }
     // There is no file of the name that the words give.
     ensures missing { (name : List ℕ) → result ≡ Status.Missing name
-        → IsCommand (texts_of words.now) name × IfSome (F.contents files.old) (λ file_of. file_of name ≡ None) }
+        → NamesNoFile (texts_of words.now) (F.contents files.old) name }
     // The file is too long, or spells no list of built forms.
     ensures unbuilt { result ≡ Status.Unbuilt
         → OfFile (texts_of words.now) (F.contents files.old) (λ file. IsSomeAnd file IsUnbuilt) }
     // The forms were evaluated, and what they print was appended.
     ensures done { result ≡ Status.Done
-        → OfFile (texts_of words.now) (F.contents files.old) (λ file. Prints file (O.contents out.old) (O.contents out.new)) }
+        → OfFile (texts_of words.now) (F.contents files.old) (λ file. PrintsMeaning file (O.contents out.old) (O.contents out.new)) }
     // A fault comes only from the object whose count rose.
     ensures write_fault { result ≡ Status.WriteFault → Rose (O.faults out.old) (O.faults out.new) }
     ensures file_fault { result ≡ Status.FileFault → Rose (F.faults files.old) (F.faults files.new) }
@@ -102,7 +95,7 @@ fn run_path<I: Source, O: Sink, F: Files>(
 ) -> Status
     requires { IsPath path.now }
     ensures ends { IfSome (F.contents io.old.files.now)
-        (λ file_of. Ends (file_of path.now) (O.contents io.old.out.now) (O.contents io.new.out.now) result) }
+        (λ file_of. EndsAsStatus (file_of path.now) (O.contents io.old.out.now) (O.contents io.new.out.now) result) }
     ensures front { IfSome (F.contents io.old.files.now)
         (λ file_of. AppendedFront (O.contents io.old.out.now) (O.contents io.new.out.now) (file_meaning (file_of path.now)).output) }
     ensures unbuilt { result ≡ Status.Unbuilt → IfSome (F.contents io.old.files.now)
@@ -120,8 +113,8 @@ fn run_path<I: Source, O: Sink, F: Files>(
     ensures same_notes { io.new.notes.ghost_name ≡ io.old.notes.ghost_name }
     ensures rest { io.new ≡ record io.old { out = io.new.out; notes = io.new.notes; files = io.new.files } }
 {
-    blank_text_has_none();
-    what_is_found_is_spelled();
+    unbuilt_files_spell_no_built_forms();
+    all_and_nothing_are_fronts();
     run_file(alloc, path, io)
 }
 
@@ -133,7 +126,7 @@ fn run_file<I: Source, O: Sink, F: Files>(
 ) -> Status
     requires { IsPath path.now }
     ensures ends { IfSome (F.contents io.old.files.now)
-        (λ file_of. Ends (file_of path.now) (O.contents io.old.out.now) (O.contents io.new.out.now) result) }
+        (λ file_of. EndsAsStatus (file_of path.now) (O.contents io.old.out.now) (O.contents io.new.out.now) result) }
     ensures named { (name : List ℕ) → result ≡ Status.Missing name → name ≡ path.now }
     ensures write_fault { result ≡ Status.WriteFault → Rose (O.faults io.old.out.now) (O.faults io.new.out.now) }
     ensures file_fault { result ≡ Status.FileFault → Rose (F.faults io.old.files.now) (F.faults io.new.files.now) }
@@ -148,7 +141,7 @@ fn run_file<I: Source, O: Sink, F: Files>(
     ensures rest { io.new ≡ record io.old { out = io.new.out; notes = io.new.notes; files = io.new.files } }
 {
     match load(alloc, io.files, path) {
-        Loaded::File(file) => run_bytes(alloc, &file, io),
+        Loaded::File(file) => run_loaded(alloc, &file, io),
         Loaded::Long => Status::Unbuilt,
         Loaded::Missing => Status::Missing(FileName::new(path)),
         Loaded::Fault => Status::FileFault,
@@ -157,13 +150,13 @@ fn run_file<I: Source, O: Sink, F: Files>(
 }
 
 /// Runs the bytes of a file.
-fn run_bytes<I: Source, O: Sink, F: Files>(
+fn run_loaded<I: Source, O: Sink, F: Files>(
     alloc: Global,
     file: &[u8],
     io: &mut Io<'_, I, O, NullSink, F>,
 ) -> Status
     requires { length file.now ≤ 4096 }
-    ensures ends { Ends (Some file.now) (O.contents io.old.out.now) (O.contents io.new.out.now) result }
+    ensures ends { EndsAsStatus (Some file.now) (O.contents io.old.out.now) (O.contents io.new.out.now) result }
     ensures write_fault { result ≡ Status.WriteFault → Rose (O.faults io.old.out.now) (O.faults io.new.out.now) }
     ensures steady_out { result ≢ Status.WriteFault → O.faults io.new.out.now ≡ O.faults io.old.out.now }
     ensures silent { IsTrue (is_silent result) → io.new.out.now ≡ io.old.out.now }
@@ -174,62 +167,10 @@ fn run_bytes<I: Source, O: Sink, F: Files>(
     ensures same_notes { io.new.notes.ghost_name ≡ io.old.notes.ghost_name }
     ensures rest { io.new ≡ record io.old { out = io.new.out; notes = io.new.notes } }
 {
-    let mut world = match open(alloc) {
-        Ok(world) => world,
-        Err(_) => return Status::OutOfMemory,
-    };
-    match built_forms(alloc, &mut world, file) {
-        Err(_) => Status::OutOfMemory,
-        Ok(None) => Status::Unbuilt,
-        Ok(Some(forms)) => print_forms(alloc, &mut world, &forms, io),
-    }
-}
-
-/// The forms of a file; None where something in it is not built.
-fn built_forms(
-    alloc: Global,
-    world: &mut World,
-    file: &[u8],
-) -> Result<Option<Vec<Val>>, OutOfMemory>
-    requires short { length file.now ≤ 4096 }
-    requires beginning { IsBeginning world.old }
-    ensures { IfOk result (λ forms. IsReady file.now world.new forms) }
-{
-    let Some(forms) = forms_in(alloc, world, file)? else {
-        return Ok(None);
-    };
-    if !all_built(alloc, world, &forms)? {
-        return Ok(None);
-    }
-    Ok(Some(forms))
-}
-
-/// Evaluates built forms, and writes what they print.
-fn print_forms<I: Source, O: Sink, F: Files>(
-    alloc: Global,
-    world: &mut World,
-    forms: &[Val],
-    io: &mut Io<'_, I, O, NullSink, F>,
-) -> Status
-    requires beginning { IsBeginning world.old }
-    requires known { All (IsKnown world.old) forms.now }
-    requires built { are_built world.old forms.now ≡ true }
-    ensures ends { PrintsForms (output_of world.old forms.now) (O.contents io.old.out.now) (O.contents io.new.out.now) result }
-    ensures write_fault { result ≡ Status.WriteFault → Rose (O.faults io.old.out.now) (O.faults io.new.out.now) }
-    ensures steady_out { result ≢ Status.WriteFault → O.faults io.new.out.now ≡ O.faults io.old.out.now }
-    ensures same_out { io.new.out.ghost_name ≡ io.old.out.ghost_name }
-    ensures same_notes { io.new.notes.ghost_name ≡ io.old.notes.ghost_name }
-    ensures rest { io.new ≡ record io.old { out = io.new.out; notes = io.new.notes } }
-{
-    match evaluate_all(alloc, world, forms, io) {
-        Ok(()) => match world.flush(io) {
-            Ok(()) => Status::Done,
-            Err(_) => Status::WriteFault,
-        },
-        Err(Fault::NoMemory) => match world.flush(io) {
-            Ok(()) => Status::OutOfMemory,
-            Err(_) => Status::WriteFault,
-        },
-        Err(Fault::Write) => Status::WriteFault,
+    match run_forms(alloc, file, io) {
+        Ending::Done => Status::Done,
+        Ending::WriteFault => Status::WriteFault,
+        Ending::OutOfMemory => Status::OutOfMemory,
+        Ending::Unbuilt => Status::Unbuilt,
     }
 }

@@ -2,7 +2,7 @@ use Rattle.std.proofs.Common.{◌≡◌, ◌∙◌, ◌+◌, ◌/◌, List, arit
 use Rattle.std.proofs.lemmas.List.{length-replicate}
 use Rattle.rl_tags.specs.Ids.{nil_id}
 use Rattle.rl_tags.specs.Tagged.{Tagged, VectorAt}
-use Rattle.rl_cells.specs.Cell.{VectorCell, cost_of, grown, has_room, placed, used_of}
+use Rattle.rl_cells.specs.Cell.{VectorCell, cost_of, grown, has_room, placed}
 use Rattle.rl_world.specs.Counts.{roomed}
 use Rattle.rl_world.specs.declared.world.World.{World}
 use Rattle.rl_read.specs.Stock.{elements_from, first_of_chain, stock_of}
@@ -26,7 +26,7 @@ returns-in-Err-clause-stop c =
     (object_stopped (λ n. VectorAt n) (VectorCell (elements_from 2147483649 c.args.w.now.cells.cells c.first_of-list.result)) (stock_of c.args.w.now) c.in-Err.s (rw (← c.count-n.ensures) c.in-Err.ensures.stop))
 
 pub returns-in-Err-clause-counted : goal.returns-in-Err-clause-counted
-returns-in-Err-clause-counted c = room_counted c.args.w.now.counts (used_of c.args.w.now.cells) (1 + (c.count-n.result + 1) / 2) c.in-Err.s c.in-Err.ensures.stop
+returns-in-Err-clause-counted c = room_counted c.args.w.now.counts c.args.w.now.cells (1 + (c.count-n.result + 1) / 2) c.in-Err.s c.in-Err.ensures.stop
 
 pub vector-requires-clause-short : goal.vector-requires-clause-short
 vector-requires-clause-short c = omega (arith, c.count-n.ensures, elements_few 2147483649 c.args.w.now.cells.cells c.first_of-list.result)

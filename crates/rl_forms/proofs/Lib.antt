@@ -1,0 +1,11 @@
+pub mod Keeping
+pub mod Memories
+pub mod Built
+pub mod Waited
+pub mod Paging
+pub mod Testing
+pub mod Evaluating
+pub mod Turns
+pub mod Finding
+pub mod ReadForms
+pub mod Closing

@@ -1,0 +1,5 @@
+use Rattle.rl_forms.proofs.Memories.{opened_beginning}
+use Rattle.rl_forms.proofs.memory.open.Goals as goal
+
+pub returns : goal.returns
+returns c = rw c.opened.ensures (opened_beginning c.in_ok-world.world c.in_ok-world.ensures.table c.in_ok-world.ensures.names c.in_ok-world.ensures.output)

@@ -1,0 +1,12 @@
+pub mod BuiltForms
+pub mod Meaning
+pub mod Laws
+pub mod Appended
+pub mod RunEnds
+pub mod KnownData
+pub mod SeenForms
+pub mod SeenValues
+pub mod ReadForms
+pub mod FileForms
+pub mod Pages
+pub mod Tasks

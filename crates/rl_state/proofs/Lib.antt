@@ -1,0 +1,10 @@
+pub mod Kept
+pub mod Room
+pub mod Made
+pub mod Set
+pub mod Steps
+pub mod Pairs
+pub mod Walking
+pub mod Once
+pub mod Totals
+pub mod Grown

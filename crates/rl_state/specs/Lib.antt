@@ -1,0 +1,6 @@
+pub mod Numbered
+pub mod ShownState
+pub mod Beside
+pub mod Worlds
+pub mod Ending
+pub mod StateOfWorld

@@ -1,0 +1,72 @@
+-- Worlds of a run, and what stays as a run goes on.
+use Rattle.std.specs.Prelude.{◌≡◌, ◌≢◌, length, Option, ◌≤◌, ◌-◌, ◌^◌, ℕ, true, List, Some, None}
+use Rattle.rl_tags.specs.Tagged.{Tagged, index_of}
+use Rattle.rl_tags.specs.Ids.{nil_id, t_id, emsg_star_id}
+use Rattle.rl_cells.specs.Cell.{Cell, CellStore, is_live}
+use Rattle.rl_syms.specs.Table.{IsTable, is_id}
+use Rattle.rl_world.specs.Counts.{WorldCounts}
+use Rattle.rl_world.specs.Errors.{AreTexts}
+use Rattle.rl_world.specs.declared.world.World.{World}
+use Rattle.rl_tree.specs.Value.{Value}
+use Rattle.rl_state.specs.Numbered.{ids_before, value_in}
+use Rattle.rl_state.specs.ShownState.{ShowsState, value_seen}
+use Rattle.rl_meaning.specs.State.{State}
+use Rattle.rl_meaning.specs.Symbols.{symbol_at, message_id}
+use Rattle.rl_meaning.specs.Variables.{Nearest, nearest}
+
+-- the run counts, and no compilation expands
+pub record AreRunCounts (c : CellStore) (k : WorldCounts) : Type 0 where
+  pub opened : k.opening ≡ None
+  pub together : k.aside ≡ None
+  pub counted : (n : ℕ) × (c.count ≡ Some n)
+  pub unmarked : c.mark ≡ None
+  pub bound : k.cells_bound ≡ c.bound
+  -- numbers of turns are small integers
+  pub few : k.bound ≤ 2 ^ 59 - 1
+
+-- an identifier of opening has its number
+pub record HasNumber (cells : List Cell) (id : Tagged) (i : ℕ) : Type 0 where
+  pub is_id : is_id cells id ≡ true
+  pub number : ids_before cells (index_of id) ≡ i
+
+pub record IsWorld (w : World) : Type 0 where
+  pub table : IsTable w.cells.cells w.syms.head
+  pub nil : HasNumber w.cells.cells nil_id 0
+  pub t : HasNumber w.cells.cells t_id 1
+  pub message : HasNumber w.cells.cells emsg_star_id 3
+  pub texts : AreTexts w.cells.cells w.texts 14
+  pub running : AreRunCounts w.cells w.counts
+
+-- what was live is live, and means what it meant
+pub record WorldGrows (old new : World) : Type 0 where
+  pub world : IsWorld new
+  pub live : (v : Tagged) → is_live old.cells.cells v ≡ true → is_live new.cells.cells v ≡ true
+  pub values : (v : Tagged) → is_live old.cells.cells v ≡ true → value_in new.cells.cells v ≡ value_in old.cells.cells v
+
+-- what no world determines: functions and compilation, bindings and the values below them, what is watched, files, and what was read, printed and noted
+pub record SameBesideWorld (s t : State) : Type 0 where
+  pub functions : s.functions ≡ t.functions
+  pub bindings : s.bindings ≡ t.bindings
+  pub compilation : s.compilation ≡ t.compilation
+  pub watched : s.watched ≡ t.watched
+  pub files : s.outside.files ≡ t.outside.files
+  pub input : s.outside.input ≡ t.outside.input
+  pub output : s.outside.output ≡ t.outside.output
+  pub notes : s.outside.notes ≡ t.outside.notes
+  pub hidden : (i : ℕ) (b : Nearest) → nearest i s ≡ Some b → (symbol_at s i).top ≡ (symbol_at t i).top
+
+-- a world determines all the rest
+abbrev pub WorldDetermines : Type 0
+WorldDetermines = (w : World) (s t : State) → ShowsState w s → ShowsState w t → SameBesideWorld s t → s ≡ t
+
+-- one variable alone is value_seen otherwise: its bindings and top values may differ, and nothing else of the state
+pub record SeenOtherwise (i : ℕ) (o : Option Value) (s t : State) : Type 0 where
+  pub store : t.store ≡ s.store
+  pub many : length t.symbols ≡ length s.symbols
+  pub symbols : (j : ℕ) → symbol_at t j ≡ record (symbol_at s j) { top = (symbol_at t j).top }
+  pub counts : t.counts ≡ s.counts
+  pub gensyms : t.gensyms ≡ s.gensyms
+  pub outside : t.outside ≡ s.outside
+  pub here : value_seen t i ≡ o
+  pub others : (j : ℕ) → j ≢ i → value_seen t j ≡ value_seen s j
+  pub free : nearest message_id t ≡ None

@@ -1,6 +1,0 @@
-use Rattle.std.proofs.Common.{refl}
-use Rattle.std.proofs.lemmas.List.{reverse-reverse}
-use Rattle.rlisp.proofs.evaluator.Work.of.Goals as goal
-
-pub returns : goal.returns
-returns c = rw (c.reverse.ensures.items, c.in_ok-tasks.ensures, reverse-reverse, c.new.ensures.items) refl

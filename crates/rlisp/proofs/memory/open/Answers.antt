@@ -1,5 +1,0 @@
-use Rattle.rlisp.proofs.Memories.{opened_beginning}
-use Rattle.rlisp.proofs.memory.open.Goals as goal
-
-pub returns : goal.returns
-returns c = rw c.opened.ensures (opened_beginning c.in_ok-world.world c.in_ok-world.ensures.table c.in_ok-world.ensures.names c.in_ok-world.ensures.output)
