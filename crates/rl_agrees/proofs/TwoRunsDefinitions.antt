@@ -14,7 +14,7 @@ use Rattle.rl_meaning.specs.Holding.{pointer_to}
 use Rattle.rl_meaning.specs.Holding.{same_pointer as equal_pointers}
 use Rattle.rl_meaning.specs.Reach.{same_kind, same_tree, same_names, same_kept, turns, with_change, expands}
 use Rattle.rl_meaning.specs.Reach.{same_held as equal_held, same_function as equal_functions, same_definition as equal_definitions}
-use Rattle.rl_meaning.specs.Standing.{is_fexpr, stands, all_stand, standing, with_standing_codes}
+use Rattle.rl_meaning.specs.CodeInForce.{is_fexpr, stands, all_stand, standing, with_standing_codes}
 use Rattle.rl_meaning.specs.Definitions.{kind_of, with_definition, define, definition_pair, getd, FunctionBody, Given, Lambda, lambda_body, may_define, body_in, with_kind, with_body, own_name, fits_function, hold_lambda, function_of, putd, remd, or_given_nil, is_kind, declare, undeclare, fluid, global, unfluid, set}
 use Rattle.rl_meaning.specs.TwoRunsLinks.{OneToOne}
 use Rattle.rl_meaning.specs.TwoRunsValues.{Names, Maybe, nothing, just, Each, end, more, SameValue, same_int, same_id, same_str, same_ref, same_fun, SameParts, same_parts, SameTree, same_atom, same_quoted, same_node, same_literal, SameHeld, same_held, SameFunction, same_special, same_native, same_held_function, SamePointer, same_pointer, SameNumber, SameDefinition, same_definition, SameSymbol, same_symbol, SameDependency, same_called, same_fexpr, same_whole, SameCoded, same_coded}
