@@ -8,6 +8,7 @@ use Rattle.rl_tree.specs.declared.held.VarKind.TheVariants.{Plain, Fluid, Global
 use Rattle.rl_meaning.specs.State.{State, Tree, Held, Pointer, Symbol, Function, Definition, Dependency, Coded, Compilation, Turned}
 use Rattle.rl_meaning.specs.Outcome.{Outcome, Levels}
 use Rattle.rl_meaning.specs.Symbols.{nil_value_of_state, nil_number, lambda_number, is_constant, symbol_at}
+use Rattle.rl_meaning.specs.System.{is_system}
 use Rattle.rl_meaning.specs.Errors.{wrong_type}
 use Rattle.rl_meaning.specs.Events.{with_event}
 use Rattle.rl_meaning.specs.Holding.{pointer_to}
@@ -138,7 +139,7 @@ module _ {bounds : Bounds} where
 
 module _ {bounds : Bounds} where
   pub own_name_related : {A : Type 0} {R : Names → A → A → Type 0} (n : Names) (ps : List EntryPlace) (i : ℕ) (s t : State) (f g : State → Outcome A) → Like bounds n ps s t → Beside bounds R n ps (f s) (g t) → Beside bounds R n ps (own_name i s f) (own_name i t g)
-  own_name_related n ps i s t f g l h = choose_same n ps _ _ s t _ _ _ _ refl (search (fail_related, same_id)) h
+  own_name_related n ps i s t f g l h = choose_same n ps (is_system i) (is_system i) s t _ _ _ _ refl (search (fail_related, same_id)) h
 
   definition_pair_related : (n : Names) (ps : List EntryPlace) (o p : Option Definition) (s t : State) → Maybe (SameDefinition n) o p → Like bounds n ps s t → Beside bounds SameValue n ps (definition_pair o s) (definition_pair p t)
   definition_pair_related n ps _ _ s t nothing l = done_now n ps nil_value_of_state nil_value_of_state s t (same_id nil_number) l

@@ -9,6 +9,7 @@ use Rattle.rl_meaning.specs.State.{State, Tree, Held, Pointer, Definition, Symbo
 use Rattle.rl_meaning.specs.Outcome.{Outcome, Done, Failed, Went, Returned, Stopped, Expands, then_do, Levels, deeper, made_pair}
 use Rattle.rl_meaning.specs.Opening.{state_of}
 use Rattle.rl_meaning.specs.Symbols.{nil_value_of_state, is_nil, lambda_number, pair_at}
+use Rattle.rl_meaning.specs.System.{is_system}
 use Rattle.rl_meaning.specs.Errors.{fail, undefined, wrong_count, wrong_type, misplaced, system_name}
 use Rattle.rl_meaning.specs.Constants.{reading_object, reading_pair}
 use Rattle.rl_meaning.specs.Holding.{hold_form, hold_expansion, elements_walked, pointer_value, pointer_to, function_at}
@@ -430,7 +431,7 @@ module _ {bounds : Bounds} {compiler : Compiler} (c : Comparison) (cr : Compiler
   -- ---- definitions
 
   pub own_ends : {P : List EntryPlace → Type 0} (n : Names) (ps : List EntryPlace) (i : ℕ) (s t : State) (f g : State → Outcome Value) → Sides bounds c P n ps s t → EndTogether bounds SameValue n ps (f s) (g t) → EndTogether bounds SameValue n ps (own_name i s f) (own_name i t g)
-  own_ends n ps i s t f g e h = choose_ends c n ps _ _ s t _ _ _ _ refl (fail_ends c n ps system_name _ _ s t e (same_id i)) h
+  own_ends n ps i s t f g e h = choose_ends c n ps (is_system i) (is_system i) s t _ _ _ _ refl (fail_ends c n ps system_name _ _ s t e (same_id i)) h
 
   define_then : (v : Value) (i : ℕ) (kind : Kind) (p : Pointer) (s : State) → Goes s (compiler.defined v (define i kind p s))
   define_then v i kind p s = goes_trans s (define i kind p s) _ (one.define_goes i kind p s) (cr.defined_goes v (define i kind p s))

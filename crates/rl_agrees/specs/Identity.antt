@@ -1,5 +1,5 @@
 -- A function with code that is right, the identity, and a state that has it: so what is asked of codes can be met (this project's).
-use Rattle.std.specs.Prelude.{◌≡◌, ℕ, true, false, List, [], ◌∷◌, ◌++◌, length, codes, Option, Some}
+use Rattle.std.specs.Prelude.{◌≡◌, ℕ, true, false, List, [], ◌∷◌, ◌++◌, length, codes, Option, Some, None}
 use Rattle.rl_tree.specs.Value.{Id}
 use Rattle.rl_tree.specs.declared.held.Kind.TheVariants.{Expr}
 use Rattle.rl_tree.specs.declared.held.VarKind.TheVariants.{Plain}
