@@ -99,7 +99,7 @@ last_at (g ∷ fs) f = last_at fs f
 
 -- before the code comes
 unfoldable pub before : ℕ → State
-before x = record (with_function (HeldFunction (identity_of x (identity_kept x))) bare_state) { symbols = bare_state.symbols ++ identity_symbol ∷ [] }
+before x = record (with_function (HeldFunction (identity_of x (identity_kept x))) bare_state) { symbols = bare_state.symbols ++ identity_symbol ∷ []; counts = record bare_state.counts { cells = None } }
 
 pub before_function : (x : ℕ) → function_at (before x) identity_pointer ≡ HeldFunction (identity_of x (identity_kept x))
 unfolding before

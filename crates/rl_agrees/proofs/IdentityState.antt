@@ -6,7 +6,7 @@ use Rattle.rl_meaning.specs.State.{State, Coded, Kept, Pointer, Definition, Depe
 use Rattle.rl_meaning.specs.Symbols.{symbol_at}
 use Rattle.rl_meaning.specs.Holding.{function_at}
 use Rattle.rl_meaning.specs.Reach.{same_definition}
-use Rattle.rl_meaning.specs.Standing.{stands, all_stand}
+use Rattle.rl_meaning.specs.CodeInForce.{stands, all_stand}
 use Rattle.rl_meaning.specs.Compiling.{Compiler}
 use Rattle.rl_meaning.specs.Right.{Stood, AllAsTheyStood}
 use Rattle.rl_meaning.specs.TwoRunsLinks.{Linked, newest, older}

@@ -12,7 +12,7 @@ use Rattle.rl_meaning.specs.State as state
 use Rattle.rl_meaning.specs.Symbols.{same_integer, same, symbol_at}
 use Rattle.rl_meaning.specs.Holding.{kept_kind, with_identifiers, same_pointer, no_function, function_in, function_at}
 use Rattle.rl_meaning.specs.Reach.{same_var_kind, same_tree, same_names, same_kept, same_held, same_function, same_definition, expands}
-use Rattle.rl_meaning.specs.Standing.{is_fexpr, stands, all_stand, standing}
+use Rattle.rl_meaning.specs.CodeInForce.{is_fexpr, stands, all_stand, standing}
 use Rattle.rl_agrees.specs.Later.{IsMore, IsMemberOf, first, further}
 use Rattle.rl_agrees.proofs.LaterLists.{index_appended}
 

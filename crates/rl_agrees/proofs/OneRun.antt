@@ -68,7 +68,7 @@ pub record Prints (P : State → State → Type 0) : Type 0 where
   pub note_ : (line : List ℕ) (s : State) → P s (note line s)
 
 -- one state behind another, by the preorder
-pub record Follows (P : State → State → Type 0) (r s : State) : Type 0 where
+pub record IsBehind (P : State → State → Type 0) (r s : State) : Type 0 where
   pub is : P r s
 
 -- ---- outcomes
@@ -125,47 +125,47 @@ plain_returned A B Inside v t u h = absurd h
 module _ {freely : Bool} {P : State → State → Type 0} (steps : StepsAt freely P) where
   -- ---- states
 
-  pub follows_same : (s : State) → Follows P s s
+  pub follows_same : (s : State) → IsBehind P s s
   follows_same s = record { is = steps.same s }
 
-  pub follows_then : (r s t : State) → Follows P r s → P s t → Follows P r t
+  pub follows_then : (r s t : State) → IsBehind P r s → P s t → IsBehind P r t
   follows_then r s t h k = record { is = steps.and_then r s t h.is k }
 
   -- an outcome from a later state
-  pub leads_from : {A : Type 0} {position : Position} (r s : State) (o : Outcome A) → Follows P r s → LeadsAt P position s o → LeadsAt P position r o
+  pub leads_from : {A : Type 0} {position : Position} (r s : State) (o : Outcome A) → IsBehind P r s → LeadsAt P position s o → LeadsAt P position r o
   leads_from r s o h k = record { moves = steps.and_then r s (state_of o) h.is k.moves; plain = k.plain }
 
 -- ---- ways of outcomes
 
 module _ {P : State → State → Type 0} {position : Position} {r : State} where
-  pub done_leads : {A : Type 0} (a : A) (s : State) → Follows P r s → LeadsAt P position r (Done a s)
+  pub done_leads : {A : Type 0} (a : A) (s : State) → IsBehind P r s → LeadsAt P position r (Done a s)
   done_leads a s h = record { moves = h.is; plain = plain_done position a s }
 
-  pub failed_leads : {A : Type 0} (n : ℤ) (m : Value) (s : State) → Follows P r s → LeadsAt {A = A} P position r (Failed n m s)
+  pub failed_leads : {A : Type 0} (n : ℤ) (m : Value) (s : State) → IsBehind P r s → LeadsAt {A = A} P position r (Failed n m s)
   failed_leads n m s h = record { moves = h.is; plain = plain_failed _ position n m s }
 
-  pub stopped_leads : {A : Type 0} (why : Stop) (s : State) → Follows P r s → LeadsAt {A = A} P position r (Stopped why s)
+  pub stopped_leads : {A : Type 0} (why : Stop) (s : State) → IsBehind P r s → LeadsAt {A = A} P position r (Stopped why s)
   stopped_leads why s h = record { moves = h.is; plain = plain_stopped _ position why s }
 
   -- a GO, or a RETURN, as one from another state
-  pub went_leads : {A B : Type 0} (l : ℕ) (s t : State) → LeadsAt {A = A} P position r (Went l s) → Follows P r t → LeadsAt {A = B} P position r (Went l t)
+  pub went_leads : {A B : Type 0} (l : ℕ) (s t : State) → LeadsAt {A = A} P position r (Went l s) → IsBehind P r t → LeadsAt {A = B} P position r (Went l t)
   went_leads l s t h f = record { moves = f.is; plain = plain_went _ _ position l s t h.plain }
 
-  pub returned_leads : {A B : Type 0} (v : Value) (s t : State) → LeadsAt {A = A} P position r (Returned v s) → Follows P r t → LeadsAt {A = B} P position r (Returned v t)
+  pub returned_leads : {A B : Type 0} (v : Value) (s t : State) → LeadsAt {A = A} P position r (Returned v s) → IsBehind P r t → LeadsAt {A = B} P position r (Returned v t)
   returned_leads v s t h f = record { moves = f.is; plain = plain_returned _ _ position v s t h.plain }
 
-  pub done_makes : {A : Type 0} (Good : A → State → Type 0) (a : A) (s : State) → Follows P r s → Good a s → Makes P position r Good (Done a s)
+  pub done_makes : {A : Type 0} (Good : A → State → Type 0) (a : A) (s : State) → IsBehind P r s → Good a s → Makes P position r Good (Done a s)
   done_makes Good a s h good = record { leads = done_leads a s h; good = good }
 
   -- a value that has something, and what comes then
-  pub then_makes : {A B : Type 0} (Good : A → State → Type 0) (Then : B → State → Type 0) (o : Outcome A) (next : A → State → Outcome B) → Makes P position r Good o → ((a : A) (t : State) → Follows P r t → Good a t → Makes P position r Then (next a t)) → Makes P position r Then (then_do o next)
+  pub then_makes : {A B : Type 0} (Good : A → State → Type 0) (Then : B → State → Type 0) (o : Outcome A) (next : A → State → Outcome B) → Makes P position r Good o → ((a : A) (t : State) → IsBehind P r t → Good a t → Makes P position r Then (next a t)) → Makes P position r Then (then_do o next)
   then_makes Good Then (Done a t) next h k = k a t (record { is = h.leads.moves }) h.good
   then_makes Good Then (Failed n m t) next h k = record { leads = record { moves = h.leads.moves; plain = plain_failed _ position n m t }; good = tt }
   then_makes Good Then (Went l t) next h k = record { leads = record { moves = h.leads.moves; plain = plain_went _ _ position l t t h.leads.plain }; good = tt }
   then_makes Good Then (Returned v t) next h k = record { leads = record { moves = h.leads.moves; plain = plain_returned _ _ position v t t h.leads.plain }; good = tt }
   then_makes Good Then (Stopped why t) next h k = record { leads = record { moves = h.leads.moves; plain = plain_stopped _ position why t }; good = tt }
 
-  pub then_with : {A B : Type 0} (Good : A → State → Type 0) (o : Outcome A) (next : A → State → Outcome B) → Makes P position r Good o → ((a : A) (t : State) → Follows P r t → Good a t → LeadsAt P position r (next a t)) → LeadsAt P position r (then_do o next)
+  pub then_with : {A B : Type 0} (Good : A → State → Type 0) (o : Outcome A) (next : A → State → Outcome B) → Makes P position r Good o → ((a : A) (t : State) → IsBehind P r t → Good a t → LeadsAt P position r (next a t)) → LeadsAt P position r (then_do o next)
   then_with Good (Done a t) next h k = k a t (record { is = h.leads.moves }) h.good
   then_with Good (Failed n m t) next h k = record { moves = h.leads.moves; plain = plain_failed _ position n m t }
   then_with Good (Went l t) next h k = record { moves = h.leads.moves; plain = plain_went _ _ position l t t h.leads.plain }
@@ -180,7 +180,7 @@ module _ {P : State → State → Type 0} {position : Position} {r : State} wher
   makes_any (Returned v t) h = record { leads = h; good = tt }
   makes_any (Stopped why t) h = record { leads = h; good = tt }
 
-  pub then_leads : {A B : Type 0} (o : Outcome A) (next : A → State → Outcome B) → LeadsAt P position r o → ((a : A) (t : State) → Follows P r t → LeadsAt P position r (next a t)) → LeadsAt P position r (then_do o next)
+  pub then_leads : {A B : Type 0} (o : Outcome A) (next : A → State → Outcome B) → LeadsAt P position r o → ((a : A) (t : State) → IsBehind P r t → LeadsAt P position r (next a t)) → LeadsAt P position r (then_do o next)
   then_leads (Done a t) next h k = k a t (record { is = h.moves })
   then_leads (Failed n m t) next h k = record { moves = h.moves; plain = plain_failed _ position n m t }
   then_leads (Went l t) next h k = record { moves = h.moves; plain = plain_went _ _ position l t t h.plain }
@@ -200,7 +200,7 @@ anywhere Inside o h = h
 
 module _ {freely : Bool} {P : State → State → Type 0} (steps : StepsAt freely P) {r : State} where
   -- for any claim on outcomes: that it holds where a turn is wanting, and of what comes behind the turn
-  pub turn_claims : {A : Type 0} (Claim : Outcome A → Type 0) (s : State) (next : State → Outcome A) → Follows P r s → ((why : Stop) → Claim (Stopped why s)) → ((t : State) → Follows P r t → Claim (next t)) → Claim (turn s next)
+  pub turn_claims : {A : Type 0} (Claim : Outcome A → Type 0) (s : State) (next : State → Outcome A) → IsBehind P r s → ((why : Stop) → Claim (Stopped why s)) → ((t : State) → IsBehind P r t → Claim (next t)) → Claim (turn s next)
   turn_claims Claim s next h stops k = at s.counts.expansion refl
     where
       run_at : (n : ℕ) → s.counts.expansion ≡ None → Claim (run_turn n s next)
@@ -216,14 +216,14 @@ module _ {freely : Bool} {P : State → State → Type 0} (steps : StepsAt freel
       at (Some x) e = expansion_at x.turns x e
 
   -- so with cells
-  pub room_claims : {A : Type 0} (Claim : Outcome A → Type 0) (cost : ℕ) (s : State) (next : State → Outcome A) → Follows P r s → ((why : Stop) (t : State) → Follows P r t → Claim (Stopped why t)) → ((t : State) → Follows P r t → Claim (next t)) → Claim (room cost s next)
+  pub room_claims : {A : Type 0} (Claim : Outcome A → Type 0) (cost : ℕ) (s : State) (next : State → Outcome A) → IsBehind P r s → ((why : Stop) (t : State) → IsBehind P r t → Claim (Stopped why t)) → ((t : State) → IsBehind P r t → Claim (next t)) → Claim (room cost s next)
   room_claims Claim cost s next h stops k = at s.counts.expansion refl
     where
-      run_within : (b : Bool) (c m : ℕ) (t : State) → t.counts.cells ≡ Some m → Follows P r t → Claim (cells_within b c t next)
+      run_within : (b : Bool) (c m : ℕ) (t : State) → t.counts.cells ≡ Some m → IsBehind P r t → Claim (cells_within b c t next)
       run_within true c m t e f = k _ (follows_then steps r t _ f (steps.cells c m t e))
       run_within false c m t e f = stops _ t f
 
-      more : (o : Option ℕ) (t : State) → t.counts.cells ≡ o → Follows P r t → Claim (run_room o cost t next)
+      more : (o : Option ℕ) (t : State) → t.counts.cells ≡ o → IsBehind P r t → Claim (run_room o cost t next)
       more None t e f = k t f
       more (Some c) t e f = run_within (nat_le cost c) (c - cost) c t e f
 
@@ -236,31 +236,31 @@ module _ {freely : Bool} {P : State → State → Type 0} (steps : StepsAt freel
       at (Some x) e = within (nat_le cost x.cells) x e
 
 module _ {freely : Bool} {P : State → State → Type 0} (steps : StepsAt freely P) {position : Position} {r : State} where
-  pub turn_leads : {A : Type 0} (s : State) (next : State → Outcome A) → Follows P r s → ((t : State) → Follows P r t → LeadsAt P position r (next t)) → LeadsAt P position r (turn s next)
+  pub turn_leads : {A : Type 0} (s : State) (next : State → Outcome A) → IsBehind P r s → ((t : State) → IsBehind P r t → LeadsAt P position r (next t)) → LeadsAt P position r (turn s next)
   turn_leads s next h k = turn_claims steps (λ o. LeadsAt P position r o) s next h (λ why. stopped_leads why s h) k
 
-  pub entered_leads : {A : Type 0} (b : Bool) (l : ℕ) (s : State) (next : Levels → Outcome A) → Follows P r s → ((l : Levels) → LeadsAt P position r (next l)) → LeadsAt P position r (in_levels b l s next)
+  pub entered_leads : {A : Type 0} (b : Bool) (l : ℕ) (s : State) (next : Levels → Outcome A) → IsBehind P r s → ((l : Levels) → LeadsAt P position r (next l)) → LeadsAt P position r (in_levels b l s next)
   entered_leads true l s next h k = k (Some l)
   entered_leads false l s next h k = stopped_leads _ s h
 
-  pub deeper_leads : {A : Type 0} (n : ℕ) (levels : Levels) (s : State) (next : Levels → Outcome A) → Follows P r s → ((l : Levels) → LeadsAt P position r (next l)) → LeadsAt P position r (deeper n levels s next)
+  pub deeper_leads : {A : Type 0} (n : ℕ) (levels : Levels) (s : State) (next : Levels → Outcome A) → IsBehind P r s → ((l : Levels) → LeadsAt P position r (next l)) → LeadsAt P position r (deeper n levels s next)
   deeper_leads n None s next h k = k None
   deeper_leads n (Some l) s next h k = entered_leads _ _ s next h k
 
-  pub descends_leads : {A : Type 0} (b : Bool) (levels : Levels) (s : State) (next : Levels → Outcome A) → Follows P r s → ((l : Levels) → LeadsAt P position r (next l)) → LeadsAt P position r (descends b levels s next)
+  pub descends_leads : {A : Type 0} (b : Bool) (levels : Levels) (s : State) (next : Levels → Outcome A) → IsBehind P r s → ((l : Levels) → LeadsAt P position r (next l)) → LeadsAt P position r (descends b levels s next)
   descends_leads true levels s next h k = deeper_leads 1 levels s next h k
   descends_leads false levels s next h k = k levels
 
-  pub pair_turn_leads : {A : Type 0} (descent : Bool) (levels : Levels) (s : State) (next : Levels → State → Outcome A) → Follows P r s → ((l : Levels) (t : State) → Follows P r t → LeadsAt P position r (next l t)) → LeadsAt P position r (pair_turn descent levels s next)
+  pub pair_turn_leads : {A : Type 0} (descent : Bool) (levels : Levels) (s : State) (next : Levels → State → Outcome A) → IsBehind P r s → ((l : Levels) (t : State) → IsBehind P r t → LeadsAt P position r (next l t)) → LeadsAt P position r (pair_turn descent levels s next)
   pair_turn_leads descent levels s next h k = turn_leads s _ h (λ t f. descends_leads descent levels t _ f (λ l. k l t f))
 
-  pub room_leads : {A : Type 0} (cost : ℕ) (s : State) (next : State → Outcome A) → Follows P r s → ((t : State) → Follows P r t → LeadsAt P position r (next t)) → LeadsAt P position r (room cost s next)
+  pub room_leads : {A : Type 0} (cost : ℕ) (s : State) (next : State → Outcome A) → IsBehind P r s → ((t : State) → IsBehind P r t → LeadsAt P position r (next t)) → LeadsAt P position r (room cost s next)
   room_leads cost s next h k = room_claims steps (λ o. LeadsAt P position r o) cost s next h (λ why t f. stopped_leads why t f) k
 
   -- ---- with what a value has
 
-  pub turn_makes : {A : Type 0} (Good : A → State → Type 0) (s : State) (next : State → Outcome A) → Follows P r s → ((t : State) → Follows P r t → Makes P position r Good (next t)) → Makes P position r Good (turn s next)
+  pub turn_makes : {A : Type 0} (Good : A → State → Type 0) (s : State) (next : State → Outcome A) → IsBehind P r s → ((t : State) → IsBehind P r t → Makes P position r Good (next t)) → Makes P position r Good (turn s next)
   turn_makes Good s next h k = turn_claims steps (λ o. Makes P position r Good o) s next h (λ why. record { leads = stopped_leads why s h; good = tt }) k
 
-  pub room_makes : {A : Type 0} (Good : A → State → Type 0) (cost : ℕ) (s : State) (next : State → Outcome A) → Follows P r s → ((t : State) → Follows P r t → Makes P position r Good (next t)) → Makes P position r Good (room cost s next)
+  pub room_makes : {A : Type 0} (Good : A → State → Type 0) (cost : ℕ) (s : State) (next : State → Outcome A) → IsBehind P r s → ((t : State) → IsBehind P r t → Makes P position r Good (next t)) → Makes P position r Good (room cost s next)
   room_makes Good cost s next h k = room_claims steps (λ o. Makes P position r Good o) cost s next h (λ why t f. record { leads = stopped_leads why t f; good = tt }) k

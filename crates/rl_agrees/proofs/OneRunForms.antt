@@ -13,14 +13,14 @@ use Rattle.rl_meaning.specs.Forms.{Form, Call, Applied, Bad, head_of, element_co
 use Rattle.rl_meaning.specs.Errors.{badly_formed}
 use Rattle.rl_meaning.specs.Evaluation.{Position, Statement, Inside, Here, Rec, longest_chain, of_none, operation_of, atom_in, identifiers_in, eval, arguments, applied_lambda, progn, clauses, clause, conjunction, disjunction, setq, returning, prog, statements, listed, combined, combined_rest, walked}
 use Rattle.rl_meaning.specs.HeadCases.{lambda_form, call_form, special_form, list_form}
-use Rattle.rl_agrees.proofs.OneRun.{Follows, LeadsAt, Leads, anywhere, done_leads, then_leads, choose_leads, deeper_leads}
+use Rattle.rl_agrees.proofs.OneRun.{IsBehind, LeadsAt, Leads, anywhere, done_leads, then_leads, choose_leads, deeper_leads}
 use Rattle.rl_agrees.proofs.OneRunObjects.{fail_leads, pair_leads}
 use Rattle.rl_agrees.proofs.OneRunVariables.{mark_follows, variable_leads, assigned_leads, operated_leads, restored_leads, binding_leads}
 use Rattle.rl_agrees.proofs.OneRunEvaluation.{RecLeadsAt, called_leads, fexpr_called_leads, macro_called_leads, in_chain_leads, in_prog_leads, misplaced_leads, going_leads, quoted_leads, function_named_leads, define_function_leads, bad_leads}
 
 module _ {freely : Bool} {P : State → State → Type 0} {rec : Rec} (keeps : RecLeadsAt freely P rec) {r : State} where
   mutual
-    pub eval_leads : (here : Here) (position : Position) (e : Tree) (s : State) → Follows P r s → LeadsAt P position r (eval rec here position e s)
+    pub eval_leads : (here : Here) (position : Position) (e : Tree) (s : State) → IsBehind P r s → LeadsAt P position r (eval rec here position e s)
     eval_leads here position (Atom (Id x)) s h = variable_leads keeps.steps x s h
     eval_leads here position (Atom v) s h = done_leads v s h
     eval_leads here position (Quoted v) s h = done_leads v s h
@@ -69,69 +69,69 @@ module _ {freely : Bool} {P : State → State → Type 0} {rec : Rec} (keeps : R
               (fail_leads keeps.steps badly_formed (atom_in rec head) s h))
         ]
 
-    pub arguments_lead : (here : Here) (vs : List Value) (next : List Value → State → Outcome Value) → ((vs : List Value) (t : State) → Follows P r t → Leads P r (next vs t)) → (args : Tree) (s : State) → Follows P r s → Leads P r (arguments rec here vs next args s)
+    pub arguments_lead : (here : Here) (vs : List Value) (next : List Value → State → Outcome Value) → ((vs : List Value) (t : State) → IsBehind P r t → Leads P r (next vs t)) → (args : Tree) (s : State) → IsBehind P r s → Leads P r (arguments rec here vs next args s)
     arguments_lead here vs next k (Pair e rest) s h = then_leads _ _ (eval_leads here Inside e s h) (λ v t h. arguments_lead here (vs ++ v ∷ []) next k rest t h)
     arguments_lead here vs next k end s h = k vs s h
 
     pub applied_lambda_leads : (here : Here) (o : Option (List ℕ)) (n : ℕ) (given : Here → (List Value → State → Outcome Value) → State → Outcome Value)
-        → ((here : Here) (next : List Value → State → Outcome Value) (t : State) → Follows P r t → ((vs : List Value) (u : State) → Follows P r u → Leads P r (next vs u)) → Leads P r (given here next t))
-        → (lambda : Tree) (s : State) → Follows P r s → Leads P r (applied_lambda rec here o n given lambda s)
+        → ((here : Here) (next : List Value → State → Outcome Value) (t : State) → IsBehind P r t → ((vs : List Value) (u : State) → IsBehind P r u → Leads P r (next vs u)) → Leads P r (given here next t))
+        → (lambda : Tree) (s : State) → IsBehind P r s → Leads P r (applied_lambda rec here o n given lambda s)
     applied_lambda_leads here (Some xs) n given k (Pair parameters forms) s h =
         deeper_leads keeps.steps (call_levels n) here.levels s _ h (λ l. k (record here { levels = l }) _ s h (λ vs t h.
         binding_leads keeps.steps l here.kept xs vs t _ h (λ l u h. progn_leads (record here { levels = l }) Inside nil_value_of_state forms u h)))
     applied_lambda_leads here other n given k lambda s h = bad_leads keeps (Id lambda_number) here s h
 
-    pub progn_leads : (here : Here) (position : Position) (v : Value) (e : Tree) (s : State) → Follows P r s → LeadsAt P position r (progn rec here position v e s)
+    pub progn_leads : (here : Here) (position : Position) (v : Value) (e : Tree) (s : State) → IsBehind P r s → LeadsAt P position r (progn rec here position v e s)
     progn_leads here position v (Pair e rest) s h = then_leads _ _ (eval_leads here position e s h) (λ w t h. progn_leads here position w rest t h)
     progn_leads here position v end s h = done_leads v s h
 
-    pub clauses_lead : (here : Here) (position : Position) (e : Tree) (s : State) → Follows P r s → LeadsAt P position r (clauses rec here position e s)
+    pub clauses_lead : (here : Here) (position : Position) (e : Tree) (s : State) → IsBehind P r s → LeadsAt P position r (clauses rec here position e s)
     clauses_lead here position (Pair c rest) s h = clause_leads here position c _ (λ t h. clauses_lead here position rest t h) s h
     clauses_lead here position end s h = done_leads nil_value_of_state s h
 
-    pub clause_leads : (here : Here) (position : Position) (e : Tree) (next : State → Outcome Value) → ((t : State) → Follows P r t → LeadsAt P position r (next t)) → (s : State) → Follows P r s → LeadsAt P position r (clause rec here position e next s)
+    pub clause_leads : (here : Here) (position : Position) (e : Tree) (next : State → Outcome Value) → ((t : State) → IsBehind P r t → LeadsAt P position r (next t)) → (s : State) → IsBehind P r s → LeadsAt P position r (clause rec here position e next s)
     clause_leads here position (Pair a consequents) next k s h =
         then_leads _ _ (anywhere position _ (eval_leads here Inside a s h)) (λ v t h. choose_leads (is_nil v) t _ _ (k t h) (progn_leads here position v consequents t h))
     clause_leads here position (Literal n e) next k s h =
         then_leads _ _ (variable_leads keeps.steps function_number s h) (λ v t h. choose_leads (is_nil v) t _ _ (k t h) (eval_leads here position e t h))
     clause_leads here position other next k s h = k s h
 
-    pub conjunction_leads : (here : Here) (v : Value) (e : Tree) (s : State) → Follows P r s → Leads P r (conjunction rec here v e s)
+    pub conjunction_leads : (here : Here) (v : Value) (e : Tree) (s : State) → IsBehind P r s → Leads P r (conjunction rec here v e s)
     conjunction_leads here v (Pair e rest) s h = then_leads _ _ (eval_leads here Inside e s h) (λ w t h. choose_leads (is_nil w) t _ _ (done_leads nil_value_of_state t h) (conjunction_leads here w rest t h))
     conjunction_leads here v end s h = done_leads v s h
 
-    pub disjunction_leads : (here : Here) (e : Tree) (s : State) → Follows P r s → Leads P r (disjunction rec here e s)
+    pub disjunction_leads : (here : Here) (e : Tree) (s : State) → IsBehind P r s → Leads P r (disjunction rec here e s)
     disjunction_leads here (Pair e rest) s h = then_leads _ _ (eval_leads here Inside e s h) (λ w t h. choose_leads (is_nil w) t _ _ (disjunction_leads here rest t h) (done_leads w t h))
     disjunction_leads here end s h = done_leads nil_value_of_state s h
 
-    pub setq_leads : (here : Here) (e : Tree) (s : State) → Follows P r s → Leads P r (setq rec here e s)
+    pub setq_leads : (here : Here) (e : Tree) (s : State) → IsBehind P r s → Leads P r (setq rec here e s)
     setq_leads here (Pair (Atom (Id x)) (Pair e end)) s h = then_leads _ _ (eval_leads here Inside e s h) (λ v t h. assigned_leads keeps.steps x v t h)
     setq_leads here args s h = done_leads nil_value_of_state s h
 
-    pub returning_leads : (here : Here) (position : Position) (e : Tree) (s : State) → Follows P r s → LeadsAt P position r (returning rec here position e s)
+    pub returning_leads : (here : Here) (position : Position) (e : Tree) (s : State) → IsBehind P r s → LeadsAt P position r (returning rec here position e s)
     returning_leads here position (Pair e end) s h = misplaced_leads keeps position (Id return_number) s _ h (then_leads _ _ (anywhere Statement _ (eval_leads here Inside e s h)) (λ v t h. record { moves = h.is; plain = tt }))
     returning_leads here position args s h = done_leads nil_value_of_state s h
 
-    pub prog_leads : (here : Here) (e : Tree) (s : State) → Follows P r s → Leads P r (prog rec here e s)
+    pub prog_leads : (here : Here) (e : Tree) (s : State) → IsBehind P r s → Leads P r (prog rec here e s)
     prog_leads here (Pair variables body) s h = binding_leads keeps.steps here.levels here.kept (identifiers_in rec variables) [] s _ h (λ l t h. statements_lead (record here { levels = l }) body body t h)
     prog_leads here args s h = done_leads nil_value_of_state s h
 
-    pub statements_lead : (here : Here) (whole e : Tree) (s : State) → Follows P r s → Leads P r (statements rec here whole e s)
+    pub statements_lead : (here : Here) (whole e : Tree) (s : State) → IsBehind P r s → Leads P r (statements rec here whole e s)
     statements_lead here whole (Pair (Atom (Id l)) rest) s h = statements_lead here whole rest s h
     statements_lead here whole (Pair e rest) s h = in_prog_leads keeps here whole _ _ (eval_leads here Statement e s h) (λ t h. statements_lead here whole rest t h)
     statements_lead here whole end s h = done_leads nil_value_of_state s h
 
-    pub listed_leads : (here : Here) (e : Tree) (s : State) → Follows P r s → Leads P r (listed rec here e s)
+    pub listed_leads : (here : Here) (e : Tree) (s : State) → IsBehind P r s → Leads P r (listed rec here e s)
     listed_leads here (Pair e rest) s h =
         then_leads _ _ (eval_leads here Inside e s h) (λ v t h. deeper_leads keeps.steps 1 here.levels t _ h (λ l.
         then_leads _ _ (listed_leads (record here { levels = l }) rest t h) (λ list u h. pair_leads keeps.steps v list u h)))
     listed_leads here end s h = done_leads nil_value_of_state s h
 
-    pub combined_leads : (form : Special) (here : Here) (e : Tree) (s : State) → Follows P r s → Leads P r (combined rec form here e s)
+    pub combined_leads : (form : Special) (here : Here) (e : Tree) (s : State) → IsBehind P r s → Leads P r (combined rec form here e s)
     combined_leads form here (Pair e rest) s h = then_leads _ _ (eval_leads here Inside e s h) (λ v t h. combined_rest_leads form here v rest t h)
     combined_leads form here end s h = done_leads (of_none form) s h
 
-    pub combined_rest_leads : (form : Special) (here : Here) (v : Value) (e : Tree) (s : State) → Follows P r s → Leads P r (combined_rest rec form here v e s)
+    pub combined_rest_leads : (form : Special) (here : Here) (v : Value) (e : Tree) (s : State) → IsBehind P r s → Leads P r (combined_rest rec form here v e s)
     combined_rest_leads form here v (Pair e rest) s h =
         deeper_leads keeps.steps 1 here.levels s _ h (λ l. let inner : Here = record here { levels = l } in
         then_leads _ _ (then_leads _ _ (eval_leads inner Inside e s h) (λ w t h. combined_rest_leads form inner w rest t h))
@@ -139,7 +139,7 @@ module _ {freely : Bool} {P : State → State → Type 0} {rec : Rec} (keeps : R
     combined_rest_leads form here v end s h = done_leads v s h
 
   -- a special form by itself
-  pub special_form_leads : (here : Here) (position : Position) (args : Tree) (form : Special) (s : State) → Follows P r s → LeadsAt P position r (special_form rec here position args s form)
+  pub special_form_leads : (here : Here) (position : Position) (args : Tree) (form : Special) (s : State) → IsBehind P r s → LeadsAt P position r (special_form rec here position args s form)
   special_form_leads here position args Quote s h = anywhere position _ (quoted_leads keeps args s h)
   special_form_leads here position args names.Function s h = anywhere position _ (function_named_leads keeps args s h)
   special_form_leads here position args Cond s h = clauses_lead here position args s h
@@ -159,7 +159,7 @@ module _ {freely : Bool} {P : State → State → Type 0} {rec : Rec} (keeps : R
   special_form_leads here position args Df s h = anywhere position _ (define_function_leads keeps Df here.levels args s h)
   special_form_leads here position args Dm s h = anywhere position _ (define_function_leads keeps Dm here.levels args s h)
 
-  pub walked_leads : (levels : Levels) (holder : ℕ) (f : Option Pointer) (held : Held) (vs : List Value) (s : State) → Follows P r s → Leads P r (walked rec levels holder f held vs s)
+  pub walked_leads : (levels : Levels) (holder : ℕ) (f : Option Pointer) (held : Held) (vs : List Value) (s : State) → IsBehind P r s → Leads P r (walked rec levels holder f held vs s)
   walked_leads levels holder f held vs s h =
       restored_leads keeps.steps s _ h (binding_leads keeps.steps levels held.kept held.parameters vs (with_mark f s) _ (mark_follows keeps.steps f s h) (λ l t h.
       eval_leads (record { levels = l; chain = longest_chain; kept = held.kept; holder = holder }) Inside held.body t h))

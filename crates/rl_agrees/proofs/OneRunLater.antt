@@ -12,7 +12,7 @@ use Rattle.rl_meaning.specs.Constants.{changing, last_change_of}
 use Rattle.rl_meaning.specs.Holding.{with_function}
 use Rattle.rl_meaning.specs.Copying.{with_object}
 use Rattle.rl_meaning.specs.Reach.{turns, with_change}
-use Rattle.rl_meaning.specs.Standing.{with_standing_codes}
+use Rattle.rl_meaning.specs.CodeInForce.{with_standing_codes}
 use Rattle.rl_meaning.specs.Definitions.{with_definition}
 use Rattle.rl_meaning.specs.Printing.{with_page, turns_taken, note}
 use Rattle.rl_meaning.specs.Evaluation.{with_expansion, without_expansion}
@@ -31,7 +31,7 @@ codes_more : (s t : State) → SameDefinitions s t → IsMore s.functions t.func
 codes_more s t same more e stand c i = all_stand_more s t same more c.dependencies (stand c (subst (λ (cs : List Coded). IsMemberOf c cs) e i))
 
 -- one state is as another but for what no law speaks of, for functions that are appended and for identifiers whose definitions stay
-record Alike (s t : State) : Type 0 where
+record IsSameButAppended (s t : State) : Type 0 where
   pub store : t.store ≡ s.store
   pub functions : IsMore s.functions t.functions
   pub definitions : SameDefinitions s t
@@ -41,7 +41,7 @@ record Alike (s t : State) : Type 0 where
   pub event : (r : Recorded) → s.watched.event ≡ Some r → t.watched.event ≡ Some r
   pub coded : t.compilation.coded ≡ s.compilation.coded
 
-alike_later : (s t : State) → Alike s t → Later s t
+alike_later : (s t : State) → IsSameButAppended s t → Later s t
 alike_later s t a = record {
   output = a.output;
   notes = a.notes;

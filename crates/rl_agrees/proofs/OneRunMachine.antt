@@ -16,7 +16,7 @@ use Rattle.rl_meaning.specs.Machine as machine
 use Rattle.rl_meaning.specs.Machine.{as_list, proper_elements, register, with_register, after_link, with_slot, allocated, deallocated, content, bound, freed, undone, one_more, frame_ended, at_entry, is_same, behind, behind_entry, part_linked, list_linked, definition_linked, form_linked, function_linked, linked_to, linked, again, run, seek, run_code}
 use Rattle.rl_meaning.specs.Compiling.{Compiler}
 use Rattle.rl_meaning.specs.Jobs.{run_held, code_of, job_done, rank, job_at, job, jobs, the_compiler}
-use Rattle.rl_agrees.proofs.OneRun.{Steps, Prints, Follows, LeadsAt, Leads, follows_same, follows_then, leads_from, stopped_leads, done_leads, then_leads, choose_leads, turn_leads, deeper_leads}
+use Rattle.rl_agrees.proofs.OneRun.{Steps, Prints, IsBehind, LeadsAt, Leads, follows_same, follows_then, leads_from, stopped_leads, done_leads, then_leads, choose_leads, turn_leads, deeper_leads}
 use Rattle.rl_agrees.proofs.OneRunObjects.{leading, fail_leads}
 use Rattle.rl_agrees.proofs.OneRunHolding.{hold_function_leads, copied_leads}
 use Rattle.rl_agrees.proofs.OneRunVariables.{mark_follows, variable_leads, assigned_leads, bind_all_leads, restored_leads}
@@ -27,62 +27,62 @@ use Rattle.rl_agrees.proofs.OneRunForms.{eval_leads, statements_lead, walked_lea
 -- ---- what asks for no job
 
 module _ {P : State → State → Type 0} (steps : Steps P) {r : State} where
-  pub bindings_follow : (entries : List state.Entry) (s : State) → Follows P r s → Follows P r (record s { bindings = entries })
+  pub bindings_follow : (entries : List state.Entry) (s : State) → IsBehind P r s → IsBehind P r (record s { bindings = entries })
   bindings_follow entries s h = follows_then steps r s _ h (steps.freed tt entries s)
 
-  pub ended_follows : (f : Frame) (s : State) → Follows P r s → Follows P r (frame_ended f s)
+  pub ended_follows : (f : Frame) (s : State) → IsBehind P r s → IsBehind P r (frame_ended f s)
   ended_follows f s h = bindings_follow _ s h
 
-  pub undone_follows : (n : ℕ) (s : State) → Follows P r s → Follows P r (undone n s)
+  pub undone_follows : (n : ℕ) (s : State) → IsBehind P r s → IsBehind P r (undone n s)
   undone_follows n s h = bindings_follow _ s h
 
-  pub content_leads : (m : Machine) (o : Operand) (s : State) → Follows P r s → Leads P r (content m o s)
+  pub content_leads : (m : Machine) (o : Operand) (s : State) → IsBehind P r s → Leads P r (content m o s)
   content_leads m (Slot k) s h = search leading
   content_leads m (Constant v) s h = search leading
   content_leads m (Variable x) s h = variable_leads steps x s h
   content_leads m (Register q) s h = search leading
 
-  pub bound_leads : (held : Held) (xs : List ℕ) (vs : List Value) (m : Machine) (s : State) (next : Machine → State → Outcome Value) → Follows P r s → ((m : Machine) (t : State) → Follows P r t → Leads P r (next m t)) → Leads P r (bound held xs vs m s next)
+  pub bound_leads : (held : Held) (xs : List ℕ) (vs : List Value) (m : Machine) (s : State) (next : Machine → State → Outcome Value) → IsBehind P r s → ((m : Machine) (t : State) → IsBehind P r t → Leads P r (next m t)) → Leads P r (bound held xs vs m s next)
   bound_leads held xs vs m s next h k = deeper_leads steps (binding_levels (length xs)) m.levels s _ h (λ l. then_leads _ _ (bind_all_leads steps held.kept xs vs s h) (λ done t h. k _ t h))
 
 -- ---- links
 
 module _ {P : State → State → Type 0} {rec : Rec} (keeps : RecLeads P rec) {r : State} where
-  pub part_linked_leads : (form : Special) (i : ℕ) (levels : Levels) (args : Tree) (s : State) → Follows P r s → Leads P r (part_linked rec form i levels args s)
+  pub part_linked_leads : (form : Special) (i : ℕ) (levels : Levels) (args : Tree) (s : State) → IsBehind P r s → Leads P r (part_linked rec form i levels args s)
   part_linked_leads form i levels args s h = choose_leads (fits form args) s _ _ (define_function_leads keeps form levels args s h) (fail_leads keeps.steps badly_formed (Id i) s h)
 
-  pub list_linked_leads : (form : Special) (i : ℕ) (levels : Levels) (list : Value) (o : Option (List Value)) (s : State) → Follows P r s → Leads P r (list_linked rec form i levels list o s)
+  pub list_linked_leads : (form : Special) (i : ℕ) (levels : Levels) (list : Value) (o : Option (List Value)) (s : State) → IsBehind P r s → Leads P r (list_linked rec form i levels list o s)
   list_linked_leads form i levels list (Some (Id name ∷ parameters ∷ forms)) s h =
       own_name_leads keeps.steps name s _ h (λ t h. function_defined_leads keeps form name _ (hold_function_leads keeps.steps (kind_of_definition form) levels parameters (cdr_at t (cdr_at t list)) t h))
   list_linked_leads form i levels list other s h = fail_leads keeps.steps badly_formed (Id i) s h
 
-  pub definition_linked_leads : (form : Special) (i : ℕ) (levels : Levels) (vs : List Value) (s : State) → Follows P r s → Leads P r (definition_linked rec form i levels vs s)
+  pub definition_linked_leads : (form : Special) (i : ℕ) (levels : Levels) (vs : List Value) (s : State) → IsBehind P r s → Leads P r (definition_linked rec form i levels vs s)
   definition_linked_leads form i levels (Fun f place ∷ []) s h = part_linked_leads form i levels (as_list (form_at s (Fun f place))) s h
   definition_linked_leads form i levels (list ∷ []) s h = list_linked_leads form i levels list (proper_elements s list) s h
   definition_linked_leads form i levels vs s h = fail_leads keeps.steps wrong_count (Id i) s h
 
-  pub form_linked_leads : (form : Special) (i : ℕ) (levels : Levels) (vs : List Value) (s : State) → Follows P r s → Leads P r (form_linked rec form i levels vs s)
+  pub form_linked_leads : (form : Special) (i : ℕ) (levels : Levels) (vs : List Value) (s : State) → IsBehind P r s → Leads P r (form_linked rec form i levels vs s)
   form_linked_leads De i levels vs s h = definition_linked_leads De i levels vs s h
   form_linked_leads Df i levels vs s h = definition_linked_leads Df i levels vs s h
   form_linked_leads Dm i levels vs s h = definition_linked_leads Dm i levels vs s h
   form_linked_leads form i levels vs s h = fail_leads keeps.steps wrong_type (Id i) s h
 
-  pub function_linked_leads : (function : state.Function) (i : ℕ) (levels : Levels) (vs : List Value) (s : State) → Follows P r s → Leads P r (function_linked rec function i levels vs s)
+  pub function_linked_leads : (function : state.Function) (i : ℕ) (levels : Levels) (vs : List Value) (s : State) → IsBehind P r s → Leads P r (function_linked rec function i levels vs s)
   function_linked_leads (SpecialForm form) i levels vs s h = form_linked_leads form i levels vs s h
   function_linked_leads (NativeFunction native) i levels vs s h = called_leads keeps i levels vs s h
   function_linked_leads (HeldFunction held) i levels vs s h = called_leads keeps i levels vs s h
 
-  pub linked_to_leads : (d : Option Definition) (i : ℕ) (levels : Levels) (vs : List Value) (s : State) → Follows P r s → Leads P r (linked_to rec d i levels vs s)
+  pub linked_to_leads : (d : Option Definition) (i : ℕ) (levels : Levels) (vs : List Value) (s : State) → IsBehind P r s → Leads P r (linked_to rec d i levels vs s)
   linked_to_leads None i levels vs s h = called_leads keeps i levels vs s h
   linked_to_leads (Some d) i levels vs s h = function_linked_leads (function_at s d.function) i levels vs s h
 
-  pub linked_leads : (i : ℕ) (levels : Levels) (vs : List Value) (s : State) → Follows P r s → Leads P r (linked rec i levels vs s)
+  pub linked_leads : (i : ℕ) (levels : Levels) (vs : List Value) (s : State) → IsBehind P r s → Leads P r (linked rec i levels vs s)
   linked_leads i levels vs s h = linked_to_leads (symbol_at s i).definition i levels vs s h
 
-  pub onward_leads : (f : Frame) (m : Machine) (code : Code) (s : State) → Follows P r s → Leads P r (rec.ask (Onward f m code) s)
+  pub onward_leads : (f : Frame) (m : Machine) (code : Code) (s : State) → IsBehind P r s → Leads P r (rec.ask (Onward f m code) s)
   onward_leads f m code s h = leads_from keeps.steps r s _ h (keeps.asks (Onward f m code) s)
 
-  pub again_leads : (f : Frame) (vs : List Value) (s : State) → Follows P r s → Leads P r (again rec f vs s)
+  pub again_leads : (f : Frame) (vs : List Value) (s : State) → IsBehind P r s → Leads P r (again rec f vs s)
   again_leads f vs s h =
       turn_leads keeps.steps s _ h (λ t h. let u : State = rec.compiler.requests_taken (Some f.name) t in let k = taken_follows keeps (Some f.name) t h in
       deeper_leads keeps.steps 1 f.outside u _ k (λ l. onward_leads f (at_entry vs l) (behind_entry f.code) (with_mark f.function u) (mark_follows keeps.steps f.function u k)))
@@ -90,7 +90,7 @@ module _ {P : State → State → Type 0} {rec : Rec} (keeps : RecLeads P rec) {
   -- ---- code
 
   mutual
-    pub run_leads : (f : Frame) (code : Code) (m : Machine) (s : State) → Follows P r s → Leads P r (run rec f code m s)
+    pub run_leads : (f : Frame) (code : Code) (m : Machine) (s : State) → IsBehind P r s → Leads P r (run rec f code m s)
     run_leads f (Entry i n ∷ rest) m s h = run_leads f rest m s h
     run_leads f (Alloc n ∷ rest) m s h = run_leads f rest (allocated n m) s h
     run_leads f (Dealloc n ∷ rest) m s h = run_leads f rest (deallocated n m) s h
@@ -118,22 +118,22 @@ module _ {P : State → State → Type 0} {rec : Rec} (keeps : RecLeads P rec) {
     run_leads f (Raise e ∷ rest) m s h = fail_leads keeps.steps e (register m 1) s h
     run_leads f [] m s h = done_leads nil_value_of_state s h
 
-    pub seek_leads : (f : Frame) (l : ℕ) (code : Code) (m : Machine) (s : State) → Follows P r s → Leads P r (seek rec f l code m s)
+    pub seek_leads : (f : Frame) (l : ℕ) (code : Code) (m : Machine) (s : State) → IsBehind P r s → Leads P r (seek rec f l code m s)
     seek_leads f l (Label k ∷ rest) m s h = choose_leads (k == l) s _ _ (run_leads f rest m s h) (seek_leads f l rest m s h)
     seek_leads f l (c ∷ rest) m s h = seek_leads f l rest m s h
     seek_leads f l [] m s h = done_leads nil_value_of_state s h
 
-  pub run_code_leads : (levels : Levels) (f : Option Pointer) (held : Held) (code : Code) (vs : List Value) (s : State) → Follows P r s → Leads P r (run_code rec levels f held code vs s)
+  pub run_code_leads : (levels : Levels) (f : Option Pointer) (held : Held) (code : Code) (vs : List Value) (s : State) → IsBehind P r s → Leads P r (run_code rec levels f held code vs s)
   run_code_leads levels f held (Entry i n ∷ rest) vs s h = restored_leads keeps.steps s _ h (run_leads _ rest (at_entry vs levels) (with_mark f s) (mark_follows keeps.steps f s h))
   run_code_leads levels f held other vs s h = done_leads nil_value_of_state s h
 
   -- ---- jobs
 
-  pub run_held_leads : (o : Option Code) (levels : Levels) (holder : ℕ) (f : Option Pointer) (held : Held) (vs : List Value) (s : State) → Follows P r s → Leads P r (run_held rec o levels holder f held vs s)
+  pub run_held_leads : (o : Option Code) (levels : Levels) (holder : ℕ) (f : Option Pointer) (held : Held) (vs : List Value) (s : State) → IsBehind P r s → Leads P r (run_held rec o levels holder f held vs s)
   run_held_leads None levels holder f held vs s h = walked_leads keeps levels holder f held vs s h
   run_held_leads (Some code) levels holder f held vs s h = run_code_leads levels f held code vs s h
 
-  pub job_done_leads : (j : Job) (s : State) → Follows P r s → LeadsAt P (position_of j) r (job_done rec j s)
+  pub job_done_leads : (j : Job) (s : State) → IsBehind P r s → LeadsAt P (position_of j) r (job_done rec j s)
   job_done_leads (Run name levels holder f held vs) s h = run_held_leads (code_of name f s) levels holder f held vs s h
   job_done_leads (Onward f m code) s h = run_leads f code m s h
   job_done_leads (Call_ name levels f vs) s h = applied_leads keeps name levels f vs s h

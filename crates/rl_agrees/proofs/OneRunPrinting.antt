@@ -11,7 +11,7 @@ use Rattle.rl_meaning.specs.Printing.{page_of, setting_in, progress_in, levels_i
 use Rattle.rl_meaning.specs.Printing as text
 use Rattle.rl_meaning.specs.Evaluation.{Position}
 use Rattle.rl_agrees.specs.Later.{IsMore}
-use Rattle.rl_agrees.proofs.OneRun.{StepsAt, Prints, Follows, LeadsAt, follows_then}
+use Rattle.rl_agrees.proofs.OneRun.{StepsAt, Prints, IsBehind, LeadsAt, follows_then}
 use Rattle.rl_agrees.proofs.OneRunObjects.{leading, reading_whole_follows}
 
 -- ---- lists that begin alike
@@ -153,59 +153,59 @@ module _ (old : List ℕ) where
 -- ---- in a state
 
 module _ {freely : Bool} {P : State → State → Type 0} (steps : StepsAt freely P) (prints : Prints P) {r : State} where
-  pub page_follows : (page : Page) (s : State) → IsMore s.outside.output page.text → Follows P r s → Follows P r (with_page page s)
+  pub page_follows : (page : Page) (s : State) → IsMore s.outside.output page.text → IsBehind P r s → IsBehind P r (with_page page s)
   page_follows page s more h = follows_then steps r s _ h (prints.printed page s more)
 
-  pub print_mark_follows : (bytes : List ℕ) (s : State) → Follows P r s → Follows P r (print_mark bytes s)
+  pub print_mark_follows : (bytes : List ℕ) (s : State) → IsBehind P r s → IsBehind P r (print_mark bytes s)
   print_mark_follows bytes s h = page_follows _ s (text_more _ (page_of s) bytes (more_same _)) h
 
-  pub end_of_line_follows : (s : State) → Follows P r s → Follows P r (print_end_of_line s)
+  pub end_of_line_follows : (s : State) → IsBehind P r s → IsBehind P r (print_end_of_line s)
   end_of_line_follows s h = print_mark_follows _ s h
 
-  pub fresh_line_follows : (s : State) → Follows P r s → Follows P r (fresh_line s)
+  pub fresh_line_follows : (s : State) → IsBehind P r s → IsBehind P r (fresh_line s)
   fresh_line_follows s h = at (s.outside.column == 0)
     where
-      at : (b : Bool) → Follows P r (if b then s else print_end_of_line s)
+      at : (b : Bool) → IsBehind P r (if b then s else print_end_of_line s)
       at true = h
       at false = end_of_line_follows s h
 
-  pub note_follows : (line : List ℕ) (s : State) → Follows P r s → Follows P r (note line s)
+  pub note_follows : (line : List ℕ) (s : State) → IsBehind P r s → IsBehind P r (note line s)
   note_follows line s h = follows_then steps r s _ h (prints.note_ line s)
 
 module _ {freely : Bool} {P : State → State → Type 0} (steps : StepsAt freely P) {r : State} where
-  pub length_follows : (n : ℕ) (s : State) → Follows P r s → Follows P r (record s { outside = record s.outside { line_length = n } })
+  pub length_follows : (n : ℕ) (s : State) → IsBehind P r s → IsBehind P r (record s { outside = record s.outside { line_length = n } })
   length_follows n s h = follows_then steps r s _ h (steps.line_length n s)
 
 module _ {freely : Bool} {P : State → State → Type 0} (steps : StepsAt freely P) (prints : Prints P) {position : Position} {r : State} where
-  pub ended_printing_leads : (e : Ending) (s : State) → Follows P r s → LeadsAt P position r (ended_printing e s)
+  pub ended_printing_leads : (e : Ending) (s : State) → IsBehind P r s → LeadsAt P position r (ended_printing e s)
   ended_printing_leads Whole s h = search leading
   ended_printing_leads NoTurn s h = search leading
   ended_printing_leads TooDeep s h = search leading
 
-  pub after_printing_leads : (p : Progress) (s : State) → Adds s.outside.output p → Follows P r s → LeadsAt P position r (after_printing p s)
+  pub after_printing_leads : (p : Progress) (s : State) → Adds s.outside.output p → IsBehind P r s → LeadsAt P position r (after_printing p s)
   after_printing_leads p s adds h = ended_printing_leads p.ending _ (page_follows steps prints p.page _ (at s.counts.expansion) (follows_then steps r s _ h (steps.turns p.turns s)))
     where
       at : (o : Option Expansion) → IsMore (turns_taken o p.turns s).outside.output p.page.text
       at None = adds.more
       at (Some e) = adds.more
 
-  pub print_value_leads : (style : Style) (levels : Levels) (v : Value) (s : State) → Follows P r s → LeadsAt P position r (print_value style levels v s)
+  pub print_value_leads : (style : Style) (levels : Levels) (v : Value) (s : State) → IsBehind P r s → LeadsAt P position r (print_value style levels v s)
   print_value_leads style levels v s h = after_printing_leads _ (reading_whole v s) (printed_adds _ (setting_in style s) v (levels_in levels s) (progress_in s) (record { more = more_same _ })) (reading_whole_follows steps v s h)
 
-  pub print_message_leads : (levels : Levels) (v : Value) (s : State) → Follows P r s → LeadsAt P position r (print_message levels v s)
+  pub print_message_leads : (levels : Levels) (v : Value) (s : State) → IsBehind P r s → LeadsAt P position r (print_message levels v s)
   print_message_leads levels v s h = after_printing_leads _ (reading_whole v s) (message_adds _ (setting_in Prin2 s) v (levels_in levels s) (progress_in s) (record { more = more_same _ })) (reading_whole_follows steps v s h)
 
-  pub print_error_leads : (levels : Levels) (message : Value) (s : State) → Follows P r s → LeadsAt P position r (print_error levels message s)
+  pub print_error_leads : (levels : Levels) (message : Value) (s : State) → IsBehind P r s → LeadsAt P position r (print_error levels message s)
   print_error_leads levels message s h = search (leading, print_message_leads, print_mark_follows, fresh_line_follows)
 
-  pub printing_leads : (style : Style) (levels : Levels) (v : Value) (s : State) → Follows P r s → LeadsAt P position r (printing style levels v s)
+  pub printing_leads : (style : Style) (levels : Levels) (v : Value) (s : State) → IsBehind P r s → LeadsAt P position r (printing style levels v s)
   printing_leads style levels v s h = search (leading, print_value_leads)
 
-  pub print_leads : (levels : Levels) (v : Value) (s : State) → Follows P r s → LeadsAt P position r (print levels v s)
+  pub print_leads : (levels : Levels) (v : Value) (s : State) → IsBehind P r s → LeadsAt P position r (print levels v s)
   print_leads levels v s h = search (leading, print_value_leads, end_of_line_follows)
 
 module _ {freely : Bool} {P : State → State → Type 0} (steps : StepsAt freely P) {position : Position} {r : State} where
-  pub linelength_leads : (v : Value) (s : State) → Follows P r s → LeadsAt P position r (linelength v s)
+  pub linelength_leads : (v : Value) (s : State) → IsBehind P r s → LeadsAt P position r (linelength v s)
   linelength_leads (Int (pos (suc n))) s h = search (leading, length_follows)
   linelength_leads (Int z) s h = search leading
   linelength_leads v s h = search leading

@@ -10,30 +10,30 @@ use Rattle.rl_meaning.specs.Lists.{Chain}
 use Rattle.rl_meaning.specs.Errors.{unreadable}
 use Rattle.rl_meaning.specs.Input.{with_input, byte_number, ReadingPlace, made_in, made_atom, byte_turn, entered_from, enter, ended_chain, vector_of_chain, quoted_value, in_state, FormReading, Form, End, Unreadable, form_reading_of, read_bytes, read_ended, read, readch_of, readch}
 use Rattle.rl_meaning.specs.Evaluation.{Position, Inside}
-use Rattle.rl_agrees.proofs.OneRun.{StepsAt, Follows, LeadsAt, Leads, Makes, follows_then, done_leads, stopped_leads, makes_any, deeper_leads}
+use Rattle.rl_agrees.proofs.OneRun.{StepsAt, IsBehind, LeadsAt, Leads, Makes, follows_then, done_leads, stopped_leads, makes_any, deeper_leads}
 use Rattle.rl_agrees.proofs.OneRunObjects.{leading, fail_leads, Chained, chained_none, cdr_set_follows, extended_makes}
 use Rattle.rl_agrees.proofs.OneRunReader.{Gives, IsKept, Reads, reads}
 
-pub input_follows : {freely : Bool} {P : State → State → Type 0} (steps : StepsAt freely P) {r : State} (rest : List ℕ) (s : State) → Follows P r s → Follows P r (with_input rest s)
+pub input_follows : {freely : Bool} {P : State → State → Type 0} (steps : StepsAt freely P) {r : State} (rest : List ℕ) (s : State) → IsBehind P r s → IsBehind P r (with_input rest s)
 input_follows steps {r} rest s h = follows_then steps r s _ h (steps.input rest s)
 
 module _ {freely : Bool} {P : State → State → Type 0} (steps : StepsAt freely P) {position : Position} {r : State} where
-  pub atom_leads : (a : word.Atom) (s : State) → Follows P r s → LeadsAt P position r (made_atom a s)
+  pub atom_leads : (a : word.Atom) (s : State) → IsBehind P r s → LeadsAt P position r (made_atom a s)
   atom_leads (word.Integer z) s h = search leading
   atom_leads (word.Identifier name) s h = search leading
   atom_leads (word.String bytes) s h = search leading
 
-  pub byte_leads : (b : Bool) (s : State) → Follows P r s → LeadsAt P position r (byte_turn b s)
+  pub byte_leads : (b : Bool) (s : State) → IsBehind P r s → LeadsAt P position r (byte_turn b s)
   byte_leads true s h = search leading
   byte_leads false s h = search leading
 
-  pub vector_of_leads : (chain : Chain) (s : State) → Follows P r s → LeadsAt P position r (vector_of_chain chain s)
+  pub vector_of_leads : (chain : Chain) (s : State) → IsBehind P r s → LeadsAt P position r (vector_of_chain chain s)
   vector_of_leads chain s h = search leading
 
-  pub quoted_leads : (v : Value) (s : State) → Follows P r s → LeadsAt P position r (quoted_value v s)
+  pub quoted_leads : (v : Value) (s : State) → IsBehind P r s → LeadsAt P position r (quoted_value v s)
   quoted_leads v s h = search leading
 
-  pub ended_chain_makes : (chain : Chain) (v : Value) (s : State) → Chained r chain → Follows P r s → Makes P position r (λ c t. Chained r c) (ended_chain chain v s)
+  pub ended_chain_makes : (chain : Chain) (v : Value) (s : State) → Chained r chain → IsBehind P r s → Makes P position r (λ c t. Chained r c) (ended_chain chain v s)
   ended_chain_makes None v s chained h = record { leads = search leading; good = chained }
   ended_chain_makes (Some c) v s chained h = record { leads = done_leads _ _ (cdr_set_follows steps c.1 v s chained.last h); good = chained }
 
@@ -41,7 +41,7 @@ module _ {freely : Bool} {P : State → State → Type 0} (steps : StepsAt freel
 
 module _ (P : State → State → Type 0) (r : State) where
   abbrev pub Kept : ReadingPlace → Type 0
-  Kept place = Follows P r place.state
+  Kept place = IsBehind P r place.state
 
   abbrev pub Good : Chain → Type 0
   Good chain = Chained r chain
@@ -67,7 +67,7 @@ module _ (P : State → State → Type 0) (r : State) where
   reading_leads bytes (reader.Stopped why place rest) h = stopped_leads _ _ h.is
 
 module _ {freely : Bool} {P : State → State → Type 0} (steps : StepsAt freely P) (r : State) where
-  pub enter_gives : (place : ReadingPlace) → Follows P r place.state → Gives (Kept P r) (Good P r) (λ (u : Unit {0}). Unit {0}) (enter place)
+  pub enter_gives : (place : ReadingPlace) → IsBehind P r place.state → Gives (Kept P r) (Good P r) (λ (u : Unit {0}). Unit {0}) (enter place)
   enter_gives place h = entered_gives P r place.levels (deeper 1 place.levels place.state (λ levels. Done levels place.state)) (deeper_leads steps 1 place.levels place.state _ h (λ l. search leading))
 
   pub in_state_kept : (turns : Bool) → IsKept (Kept P r) (Good P r) (in_state turns)
@@ -84,20 +84,20 @@ module _ {freely : Bool} {P : State → State → Type 0} (steps : StepsAt freel
   }
 
 module _ {freely : Bool} {P : State → State → Type 0} (steps : StepsAt freely P) {position : Position} {r : State} where
-  pub read_bytes_leads : (turns : Bool) (levels : Levels) (bytes : List ℕ) (s : State) → Follows P r s → LeadsAt P position r (read_bytes turns levels bytes s)
+  pub read_bytes_leads : (turns : Bool) (levels : Levels) (bytes : List ℕ) (s : State) → IsBehind P r s → LeadsAt P position r (read_bytes turns levels bytes s)
   read_bytes_leads turns levels bytes s h = reading_leads P r bytes _ (reads (Kept P r) (Good P r) (in_state turns) (in_state_kept steps r turns) (record { state = s; levels = levels }) bytes h)
 
-  pub read_ended_leads : (taken : ℕ) (reading : FormReading) (s : State) → Follows P r s → LeadsAt P position r (read_ended taken reading s)
+  pub read_ended_leads : (taken : ℕ) (reading : FormReading) (s : State) → IsBehind P r s → LeadsAt P position r (read_ended taken reading s)
   read_ended_leads taken (Form v rest) s h = search (leading, input_follows)
   read_ended_leads taken End s h = search (leading, input_follows)
   read_ended_leads taken (Unreadable k from) s h = fail_leads steps unreadable (byte_number (taken + k)) (with_input (drop 1 from) s) (input_follows steps (drop 1 from) s h)
 
-  pub read_leads : (levels : Levels) (s : State) → Follows P r s → LeadsAt P position r (read levels s)
+  pub read_leads : (levels : Levels) (s : State) → IsBehind P r s → LeadsAt P position r (read levels s)
   read_leads levels s h = search (leading, read_bytes_leads, read_ended_leads)
 
-  pub readch_of_leads : (bytes : List ℕ) (s : State) → Follows P r s → LeadsAt P position r (readch_of bytes s)
+  pub readch_of_leads : (bytes : List ℕ) (s : State) → IsBehind P r s → LeadsAt P position r (readch_of bytes s)
   readch_of_leads [] s h = search leading
   readch_of_leads (b ∷ bs) s h = search (leading, input_follows)
 
-  pub readch_leads : (s : State) → Follows P r s → LeadsAt P position r (readch s)
+  pub readch_leads : (s : State) → IsBehind P r s → LeadsAt P position r (readch s)
   readch_leads s h = readch_of_leads s.outside.input s h

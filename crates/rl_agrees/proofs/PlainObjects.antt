@@ -1,7 +1,7 @@
 -- What an expansion makes: objects and functions behind those that were there; and the objects that it makes may be changed.
 use Rattle.std.proofs.Common.{◌≡◌, ◌≤◌, ◌+◌, ◌-◌, ℕ, suc, Bool, true, false, List, [], ◌∷◌, ◌++◌, length, slice_set, sym, ◌∙◌, ap, subst, arith}
 use Rattle.std.proofs.Common.{length-append}
-use Rattle.std.proofs.lemmas.List.{append_assoc, append-nil_value_of_state}
+use Rattle.std.proofs.lemmas.List.{append_assoc, append-nil}
 use Rattle.rl_tree.specs.Value.{Value, Int, Id, Str, Ref, Fun, Object, Store}
 use Rattle.rl_meaning.specs.State.{State, Entry, Function}
 use Rattle.rl_meaning.specs.Outcome.{Outcome, choose, turn, Levels, deeper, pair_turn, made_pair}
@@ -15,7 +15,7 @@ use Rattle.rl_agrees.proofs.PlainWays.{Ends, then_ends, Stays, Leaves, done_stay
 -- ---- longer lists
 
 pub longer_refl : {A : Type 0} (xs : List A) → IsLonger xs xs
-longer_refl xs = record { more = []; is = sym (append-nil_value_of_state xs) }
+longer_refl xs = record { more = []; is = sym (append-nil xs) }
 
 pub longer_more : {A : Type 0} (xs ys zs : List A) → IsLonger xs ys → IsLonger xs (ys ++ zs)
 longer_more xs ys zs l = record { more = l.more ++ zs; is = ap (λ y. y ++ zs) l.is ∙ append_assoc xs l.more zs }

@@ -12,7 +12,7 @@ use Rattle.rl_agrees.proofs.TwoRunsKept.{Goes, IsOfState, EndsOf}
 use Rattle.rl_agrees.proofs.TwoRunsReady.{function_stays}
 use Rattle.rl_agrees.proofs.TwoRunsFacts.{Ask, AskGoes, GoesOn, IsPlainCompiler, RecGoes}
 use Rattle.rl_agrees.proofs.TwoRunsGoes.{goes_refl}
-use Rattle.rl_agrees.proofs.TwoRunsEnding.{Alike, stopped_here}
+use Rattle.rl_agrees.proofs.TwoRunsEnding.{EndTogether, stopped_here}
 use Rattle.rl_agrees.proofs.TwoRunsCompared.{Comparison, Sides, BelowSides, PlacesOf, Starts}
 
 abbrev pub by : Compiler → Ask → Rec
@@ -26,9 +26,9 @@ Respects bounds c ask ask' = (n : Names) (ps : List EntryPlace) (j : Job) (s : S
 pub record CompilerRespects (bounds : Bounds) (compiler : Compiler) (c : Comparison) : Type 0 where
   pub taken : (n : Names) (ps : List EntryPlace) (name : Option ℕ) (s t : State) → Like bounds n ps s t → Like bounds n ps (compiler.requests_taken name s) (compiler.requests_taken name t)
   pub defined : (n : Names) (ps : List EntryPlace) (v w : Value) (s t : State) → SameValue n v w → Like bounds n ps s t → Like bounds n ps (compiler.defined v s) (compiler.defined w t)
-  pub names : (n : Names) (ps : List EntryPlace) (vs ws : List Value) (s t : State) → Each (SameValue n) vs ws → BelowSides bounds c n ps s t → Alike bounds SameValue n ps (compiler.compile_names vs s) (compiler.compile_names ws t)
-  pub writes : (n : Names) (ps : List EntryPlace) (vs ws : List Value) (s t : State) → Each (SameValue n) vs ws → BelowSides bounds c n ps s t → Alike bounds SameValue n ps (compiler.write_file vs s) (compiler.write_file ws t)
-  pub loads : (n : Names) (ps : List EntryPlace) (vs ws : List Value) (s t : State) → Each (SameValue n) vs ws → BelowSides bounds c n ps s t → Alike bounds SameValue n ps (compiler.load_file vs s) (compiler.load_file ws t)
+  pub names : (n : Names) (ps : List EntryPlace) (vs ws : List Value) (s t : State) → Each (SameValue n) vs ws → BelowSides bounds c n ps s t → EndTogether bounds SameValue n ps (compiler.compile_names vs s) (compiler.compile_names ws t)
+  pub writes : (n : Names) (ps : List EntryPlace) (vs ws : List Value) (s t : State) → Each (SameValue n) vs ws → BelowSides bounds c n ps s t → EndTogether bounds SameValue n ps (compiler.write_file vs s) (compiler.write_file ws t)
+  pub loads : (n : Names) (ps : List EntryPlace) (vs ws : List Value) (s t : State) → Each (SameValue n) vs ws → BelowSides bounds c n ps s t → EndTogether bounds SameValue n ps (compiler.load_file vs s) (compiler.load_file ws t)
   pub taken_goes : (name : Option ℕ) (s : State) → Goes s (compiler.requests_taken name s)
   pub defined_goes : (v : Value) (s : State) → Goes s (compiler.defined v s)
   pub names_goes : (vs : List Value) (s : State) → GoesOn s (compiler.compile_names vs s)

@@ -27,7 +27,7 @@ use Rattle.rl_agrees.proofs.TwoRunsBinding.{level, over}
 use Rattle.rl_agrees.proofs.TwoRunsForms.{list_same, count_same, identifiers_same, fits_same, parameters_same, SameHead, same_form, same_call, same_applied, same_bad, head_same}
 use Rattle.rl_agrees.proofs.TwoRunsFacts.{Ask, AskGoes, GoesOn, RecGoes, OneRunFacts, TwoRunsFacts}
 use Rattle.rl_agrees.proofs.TwoRunsGoes.{goes_refl, then_goes, choose_goes, deeper_goes, goes_to, restored_context}
-use Rattle.rl_agrees.proofs.TwoRunsEnding.{Alike, done_here, then_ends, choose_ends, deeper_ends, quiet_ends, fail_ends, fail_goes, restored_ends, mark_sides, binding_ends}
+use Rattle.rl_agrees.proofs.TwoRunsEnding.{EndTogether, done_here, then_ends, choose_ends, deeper_ends, quiet_ends, fail_ends, fail_goes, restored_ends, mark_sides, binding_ends}
 use Rattle.rl_agrees.proofs.TwoRunsAsked.{by, Respects, CompilerRespects, rec_goes}
 use Rattle.rl_agrees.proofs.TwoRunsEvaluation.{Values, misplaced_ends, pair_ends, called_ends, fexpr_ends, macro_ends, chain_ends, in_prog_ends, define_ends}
 use Rattle.rl_agrees.proofs.TwoRunsCompared.{Comparison, BelowSides, CleanSides, begun_sides}
@@ -60,18 +60,18 @@ module _ {bounds : Bounds} {compiler : Compiler} (c : Comparison) (cr : Compiler
   gr = rec_goes compiler c cr ask' gb
 
   -- as many levels on both sides
-  deeper_same : {A : Type 0} {R : Names → A → A → Type 0} (n : Names) (ps : List EntryPlace) (i j : ℕ) (l m : Levels) (s t : State) (f g : Levels → Outcome A) → i ≡ j → Roomier bounds l m → CleanSides bounds c n ps s t → ((l : Levels) → GoesOn s (f l)) → ((l : Levels) → GoesOn t (g l)) → ((l m : Levels) → Roomier bounds l m → Alike bounds R n ps (f l) (g m)) → Alike bounds R n ps (deeper i l s f) (deeper j m t g)
-  deeper_same {R = R} n ps i j l m s t f g e r side x y h = subst (λ z. Alike bounds R n ps (deeper i l s f) (deeper z m t g)) e (deeper_ends c n ps s t f g side x y h i l m r)
+  deeper_same : {A : Type 0} {R : Names → A → A → Type 0} (n : Names) (ps : List EntryPlace) (i j : ℕ) (l m : Levels) (s t : State) (f g : Levels → Outcome A) → i ≡ j → Roomier bounds l m → CleanSides bounds c n ps s t → ((l : Levels) → GoesOn s (f l)) → ((l : Levels) → GoesOn t (g l)) → ((l m : Levels) → Roomier bounds l m → EndTogether bounds R n ps (f l) (g m)) → EndTogether bounds R n ps (deeper i l s f) (deeper j m t g)
+  deeper_same {R = R} n ps i j l m s t f g e r side x y h = subst (λ z. EndTogether bounds R n ps (deeper i l s f) (deeper z m t g)) e (deeper_ends c n ps s t f g side x y h i l m r)
 
   bad_goes : (v : Value) (s : State) → GoesOn {A = Value} s (bad_form v s)
   bad_goes v s = fail_goes one Value badly_formed v s
 
-  bad_ends : (n : Names) (ps : List EntryPlace) (v w : Value) (l m : Levels) (s t : State) → SameValue n v w → Roomier bounds l m → CleanSides bounds c n ps s t → Alike bounds {A = Value} SameValue n ps (deeper 1 l s (λ levels. bad_form v s)) (deeper 1 m t (λ levels. bad_form w t))
+  bad_ends : (n : Names) (ps : List EntryPlace) (v w : Value) (l m : Levels) (s t : State) → SameValue n v w → Roomier bounds l m → CleanSides bounds c n ps s t → EndTogether bounds {A = Value} SameValue n ps (deeper 1 l s (λ levels. bad_form v s)) (deeper 1 m t (λ levels. bad_form w t))
   bad_ends n ps v w l m s t h r e = deeper_ends c n ps s t (λ levels. bad_form v s) (λ levels. bad_form w t) e (λ l. bad_goes v s) (λ l. bad_goes w t) (λ l m r. fail_ends c n ps badly_formed v w s t e h) 1 l m r
 
   -- what goes on with values
   record Nexts (k : Names) (ps : List EntryPlace) (f g : List Value → State → Outcome Value) : Type 0 where
-    ends : (k' : Names) (vs ws : List Value) (s t : State) → Grows k k' → Values k' vs ws → CleanSides bounds c k' ps s t → Alike bounds SameValue k' ps (f vs s) (g ws t)
+    ends : (k' : Names) (vs ws : List Value) (s t : State) → Grows k k' → Values k' vs ws → CleanSides bounds c k' ps s t → EndTogether bounds SameValue k' ps (f vs s) (g ws t)
     left : (vs : List Value) (s : State) → GoesOn s (f vs s)
     right : (vs : List Value) (s : State) → GoesOn s (g vs s)
 
@@ -82,20 +82,20 @@ module _ {bounds : Bounds} {compiler : Compiler} (c : Comparison) (cr : Compiler
   atom_same n _ _ (same_atom v w r) = r
   atom_same n _ _ h = same_id 0
 
-  going_ends : (n : Names) (x y : Tree) → SameTree n x y → (qs : List EntryPlace) (position : Position) (s t : State) → CleanSides bounds c n qs s t → Alike bounds SameValue n qs (going rec position x s) (going rec' position y t)
+  going_ends : (n : Names) (x y : Tree) → SameTree n x y → (qs : List EntryPlace) (position : Position) (s t : State) → CleanSides bounds c n qs s t → EndTogether bounds SameValue n qs (going rec position x s) (going rec' position y t)
   going_ends n _ _ (same_node _ _ _ _ (same_atom _ _ (same_id l)) h) qs position s t e = misplaced_ends c one n qs position (Id l) (Id l) s t _ _ (same_id l) e (went n l s t (grows_refl n) e.like)
   going_ends n _ _ (same_node _ _ _ _ (same_atom _ _ r) h) qs position s t e = done_here c n qs nil_value_of_state nil_value_of_state s t (same_id 0) e
   going_ends n _ _ h qs position s t e = done_here c n qs nil_value_of_state nil_value_of_state s t (same_id 0) e
 
-  quoted_ends : (n : Names) (x y : Tree) → SameTree n x y → (qs : List EntryPlace) (s t : State) → CleanSides bounds c n qs s t → Alike bounds SameValue n qs (quoted rec x s) (quoted rec' y t)
+  quoted_ends : (n : Names) (x y : Tree) → SameTree n x y → (qs : List EntryPlace) (s t : State) → CleanSides bounds c n qs s t → EndTogether bounds SameValue n qs (quoted rec x s) (quoted rec' y t)
   quoted_ends n _ _ (same_node _ _ _ _ (same_quoted v w r) h) qs s t e = done_here c n qs v w s t r e
   quoted_ends n _ _ h qs s t e = done_here c n qs nil_value_of_state nil_value_of_state s t (same_id 0) e
 
-  named_ends : (n : Names) (x y : Tree) → SameTree n x y → (qs : List EntryPlace) (s t : State) → CleanSides bounds c n qs s t → Alike bounds SameValue n qs (function_named rec x s) (function_named rec' y t)
+  named_ends : (n : Names) (x y : Tree) → SameTree n x y → (qs : List EntryPlace) (s t : State) → CleanSides bounds c n qs s t → EndTogether bounds SameValue n qs (function_named rec x s) (function_named rec' y t)
   named_ends n _ _ (same_node _ _ _ _ (same_atom v w r) h) qs s t e = done_here c n qs v w s t r e
   named_ends n _ _ h qs s t e = done_here c n qs nil_value_of_state nil_value_of_state s t (same_id 0) e
 
-  variable_ends : (n : Names) (ps : List EntryPlace) (x : ℕ) (s t : State) → CleanSides bounds c n ps s t → Alike bounds SameValue n ps (variable x s) (variable x t)
+  variable_ends : (n : Names) (ps : List EntryPlace) (x : ℕ) (s t : State) → CleanSides bounds c n ps s t → EndTogether bounds SameValue n ps (variable x s) (variable x t)
   variable_ends n ps x s t e = two.variable_ n ps x s t (c.shown ps e.places) e.like
 
   -- how functions go on, where a level is taken
@@ -132,64 +132,64 @@ module _ {bounds : Bounds} {compiler : Compiler} (c : Comparison) (cr : Compiler
 
   abbrev EvalGood : Names → Tree → Tree → Type 0
   EvalGood n x y = (k : Names) (qs : List EntryPlace) (here : Here) (m : Levels) (o : ℕ) (position : Position) (s t : State) → Linked n.functions here.holder o → Grows n k → Roomier bounds here.levels m → CleanSides bounds c k qs s t
-      → Alike bounds SameValue k qs (eval rec here position x s) (eval rec' (record here { levels = m; holder = o }) position y t)
+      → EndTogether bounds SameValue k qs (eval rec here position x s) (eval rec' (record here { levels = m; holder = o }) position y t)
 
   abbrev ArgumentsGood : Names → Tree → Tree → Type 0
   ArgumentsGood n x y = (k : Names) (qs : List EntryPlace) (here : Here) (m : Levels) (o : ℕ) (vs ws : List Value) (f h : List Value → State → Outcome Value) (s t : State) → Linked n.functions here.holder o → Grows n k → Roomier bounds here.levels m → Values k vs ws → Nexts k qs f h → CleanSides bounds c k qs s t
-      → Alike bounds SameValue k qs (arguments rec here vs f x s) (arguments rec' (record here { levels = m; holder = o }) ws h y t)
+      → EndTogether bounds SameValue k qs (arguments rec here vs f x s) (arguments rec' (record here { levels = m; holder = o }) ws h y t)
 
   abbrev PrognGood : Names → Tree → Tree → Type 0
   PrognGood n x y = (k : Names) (qs : List EntryPlace) (here : Here) (m : Levels) (o : ℕ) (position : Position) (v w : Value) (s t : State) → Linked n.functions here.holder o → Grows n k → Roomier bounds here.levels m → SameValue k v w → CleanSides bounds c k qs s t
-      → Alike bounds SameValue k qs (progn rec here position v x s) (progn rec' (record here { levels = m; holder = o }) position w y t)
+      → EndTogether bounds SameValue k qs (progn rec here position v x s) (progn rec' (record here { levels = m; holder = o }) position w y t)
 
   abbrev ClausesGood : Names → Tree → Tree → Type 0
   ClausesGood n x y = (k : Names) (qs : List EntryPlace) (here : Here) (m : Levels) (o : ℕ) (position : Position) (s t : State) → Linked n.functions here.holder o → Grows n k → Roomier bounds here.levels m → CleanSides bounds c k qs s t
-      → Alike bounds SameValue k qs (clauses rec here position x s) (clauses rec' (record here { levels = m; holder = o }) position y t)
+      → EndTogether bounds SameValue k qs (clauses rec here position x s) (clauses rec' (record here { levels = m; holder = o }) position y t)
 
   abbrev ClauseGood : Names → Tree → Tree → Type 0
   ClauseGood n x y = (k : Names) (qs : List EntryPlace) (here : Here) (m : Levels) (o : ℕ) (position : Position) (f h : State → Outcome Value) (s t : State) → Linked n.functions here.holder o → Grows n k → Roomier bounds here.levels m
-      → ((s : State) → GoesOn s (f s)) → ((s : State) → GoesOn s (h s)) → ((k' : Names) (s t : State) → Grows k k' → CleanSides bounds c k' qs s t → Alike bounds SameValue k' qs (f s) (h t)) → CleanSides bounds c k qs s t
-      → Alike bounds SameValue k qs (clause rec here position x f s) (clause rec' (record here { levels = m; holder = o }) position y h t)
+      → ((s : State) → GoesOn s (f s)) → ((s : State) → GoesOn s (h s)) → ((k' : Names) (s t : State) → Grows k k' → CleanSides bounds c k' qs s t → EndTogether bounds SameValue k' qs (f s) (h t)) → CleanSides bounds c k qs s t
+      → EndTogether bounds SameValue k qs (clause rec here position x f s) (clause rec' (record here { levels = m; holder = o }) position y h t)
 
   abbrev ConjunctionGood : Names → Tree → Tree → Type 0
   ConjunctionGood n x y = (k : Names) (qs : List EntryPlace) (here : Here) (m : Levels) (o : ℕ) (v w : Value) (s t : State) → Linked n.functions here.holder o → Grows n k → Roomier bounds here.levels m → SameValue k v w → CleanSides bounds c k qs s t
-      → Alike bounds SameValue k qs (conjunction rec here v x s) (conjunction rec' (record here { levels = m; holder = o }) w y t)
+      → EndTogether bounds SameValue k qs (conjunction rec here v x s) (conjunction rec' (record here { levels = m; holder = o }) w y t)
 
   abbrev DisjunctionGood : Names → Tree → Tree → Type 0
   DisjunctionGood n x y = (k : Names) (qs : List EntryPlace) (here : Here) (m : Levels) (o : ℕ) (s t : State) → Linked n.functions here.holder o → Grows n k → Roomier bounds here.levels m → CleanSides bounds c k qs s t
-      → Alike bounds SameValue k qs (disjunction rec here x s) (disjunction rec' (record here { levels = m; holder = o }) y t)
+      → EndTogether bounds SameValue k qs (disjunction rec here x s) (disjunction rec' (record here { levels = m; holder = o }) y t)
 
   abbrev SetqGood : Names → Tree → Tree → Type 0
   SetqGood n x y = (k : Names) (qs : List EntryPlace) (here : Here) (m : Levels) (o : ℕ) (s t : State) → Linked n.functions here.holder o → Grows n k → Roomier bounds here.levels m → CleanSides bounds c k qs s t
-      → Alike bounds SameValue k qs (setq rec here x s) (setq rec' (record here { levels = m; holder = o }) y t)
+      → EndTogether bounds SameValue k qs (setq rec here x s) (setq rec' (record here { levels = m; holder = o }) y t)
 
   abbrev ReturningGood : Names → Tree → Tree → Type 0
   ReturningGood n x y = (k : Names) (qs : List EntryPlace) (here : Here) (m : Levels) (o : ℕ) (position : Position) (s t : State) → Linked n.functions here.holder o → Grows n k → Roomier bounds here.levels m → CleanSides bounds c k qs s t
-      → Alike bounds SameValue k qs (returning rec here position x s) (returning rec' (record here { levels = m; holder = o }) position y t)
+      → EndTogether bounds SameValue k qs (returning rec here position x s) (returning rec' (record here { levels = m; holder = o }) position y t)
 
   abbrev ProgGood : Names → Tree → Tree → Type 0
   ProgGood n x y = (k : Names) (qs : List EntryPlace) (here : Here) (m : Levels) (o : ℕ) (s t : State) → Linked n.functions here.holder o → Grows n k → Roomier bounds here.levels m → CleanSides bounds c k qs s t
-      → Alike bounds SameValue k qs (prog rec here x s) (prog rec' (record here { levels = m; holder = o }) y t)
+      → EndTogether bounds SameValue k qs (prog rec here x s) (prog rec' (record here { levels = m; holder = o }) y t)
 
   abbrev StatementsGood : Names → Tree → Tree → Type 0
   StatementsGood n x y = (k : Names) (qs : List EntryPlace) (here : Here) (m : Levels) (o : ℕ) (whole whole' : Tree) → SameTree n whole whole' → (s t : State) → Linked n.functions here.holder o → Grows n k → Roomier bounds here.levels m → CleanSides bounds c k qs s t
-      → Alike bounds SameValue k qs (statements rec here whole x s) (statements rec' (record here { levels = m; holder = o }) whole' y t)
+      → EndTogether bounds SameValue k qs (statements rec here whole x s) (statements rec' (record here { levels = m; holder = o }) whole' y t)
 
   abbrev ListedGood : Names → Tree → Tree → Type 0
   ListedGood n x y = (k : Names) (qs : List EntryPlace) (here : Here) (m : Levels) (o : ℕ) (s t : State) → Linked n.functions here.holder o → Grows n k → Roomier bounds here.levels m → CleanSides bounds c k qs s t
-      → Alike bounds SameValue k qs (listed rec here x s) (listed rec' (record here { levels = m; holder = o }) y t)
+      → EndTogether bounds SameValue k qs (listed rec here x s) (listed rec' (record here { levels = m; holder = o }) y t)
 
   abbrev CombinedGood : Names → Tree → Tree → Type 0
   CombinedGood n x y = (form : Special) (k : Names) (qs : List EntryPlace) (here : Here) (m : Levels) (o : ℕ) (s t : State) → Linked n.functions here.holder o → Grows n k → Roomier bounds here.levels m → CleanSides bounds c k qs s t
-      → Alike bounds SameValue k qs (combined rec form here x s) (combined rec' form (record here { levels = m; holder = o }) y t)
+      → EndTogether bounds SameValue k qs (combined rec form here x s) (combined rec' form (record here { levels = m; holder = o }) y t)
 
   abbrev CombinedRestGood : Names → Tree → Tree → Type 0
   CombinedRestGood n x y = (form : Special) (k : Names) (qs : List EntryPlace) (here : Here) (m : Levels) (o : ℕ) (v w : Value) (s t : State) → Linked n.functions here.holder o → Grows n k → Roomier bounds here.levels m → SameValue k v w → CleanSides bounds c k qs s t
-      → Alike bounds SameValue k qs (combined_rest rec form here v x s) (combined_rest rec' form (record here { levels = m; holder = o }) w y t)
+      → EndTogether bounds SameValue k qs (combined_rest rec form here v x s) (combined_rest rec' form (record here { levels = m; holder = o }) w y t)
 
   abbrev AppliedGood : Names → Tree → Tree → Type 0
   AppliedGood n x y = (k : Names) (qs : List EntryPlace) (here : Here) (m : Levels) (o : ℕ) (xs ys : Option (List ℕ)) (i j : ℕ) (args args' : Tree) (s t : State) → Linked n.functions here.holder o → Grows n k → Roomier bounds here.levels m → Is k xs ys → Is k i j → ArgumentsGood n args args' → CleanSides bounds c k qs s t
-      → Alike bounds SameValue k qs (applied_lambda rec here xs i (λ here next s. arguments rec here [] next args s) x s) (applied_lambda rec' (record here { levels = m; holder = o }) ys j (λ here next s. arguments rec' here [] next args' s) y t)
+      → EndTogether bounds SameValue k qs (applied_lambda rec here xs i (λ here next s. arguments rec here [] next args s) x s) (applied_lambda rec' (record here { levels = m; holder = o }) ys j (λ here next s. arguments rec' here [] next args' s) y t)
 
   -- behind the first element, and of the first element
   abbrev Behind : Names → Tree → Tree → Type 0
@@ -340,7 +340,7 @@ module _ {bounds : Bounds} {compiler : Compiler} (c : Comparison) (cr : Compiler
       (λ k' v w s t x z e. j.combined_rest_ form k' qs here m o v w s t u (grows_trans n k k' g x) r z e)
   combined_good n _ _ i form k qs here m o s t u g r e = done_here c k qs _ _ s t (none_same k form) e
 
-  operated_ends : (n : Names) (ps : List EntryPlace) (o : Operation) (xs ys : List Value) (s t : State) → Values n xs ys → CleanSides bounds c n ps s t → Alike bounds SameValue n ps (operated o xs s) (operated o ys t)
+  operated_ends : (n : Names) (ps : List EntryPlace) (o : Operation) (xs ys : List Value) (s t : State) → Values n xs ys → CleanSides bounds c n ps s t → EndTogether bounds SameValue n ps (operated o xs s) (operated o ys t)
   operated_ends n ps o xs ys s t h i = quiet_ends n ps s t _ _ i.like (two.operated_quiet o xs s) (two.operated_quiet o ys t) (two.operated_ n ps o xs ys s t h i.like)
 
   rest_goes : (rec : Rec) → RecGoes rec → (form : Special) (v : Value) (inner : Here) (e rest : Tree) (s : State) → GoesOn s (then_do (then_do (eval rec inner Inside e s) (λ w s. combined_rest rec form inner w rest s)) (λ w s. operated (operation_of form) (v ∷ w ∷ []) s))
@@ -383,7 +383,7 @@ module _ {bounds : Bounds} {compiler : Compiler} (c : Comparison) (cr : Compiler
   applied_good n _ _ i k qs here m o _ _ _ _ args args' s t u g r (is None) (is d) given e = bad_ends k qs (Id lambda_number) (Id lambda_number) here.levels m s t (same_id lambda_number) r e
 
   call_ends : (n : Names) (head head' args args' : Tree) → SameTree n head head' → AllGood n args args' → (k : Names) (qs : List EntryPlace) (here : Here) (m : Levels) (o : ℕ) (position : Position) (s t : State) → Linked n.functions here.holder o → Grows n k → Roomier bounds here.levels m → CleanSides bounds c k qs s t → (i : ℕ) (kind : Kind)
-      → Alike bounds SameValue k qs (call_form rec here position head args s i kind) (call_form rec' (record here { levels = m; holder = o }) position head' args' t i kind)
+      → EndTogether bounds SameValue k qs (call_form rec here position head args s i kind) (call_form rec' (record here { levels = m; holder = o }) position head' args' t i kind)
   call_ends n head head' args args' h j k qs here m o position s t u g r e i Expr = deeper_same k qs _ _ here.levels m s t _ _ (ap (λ z. call_levels z) (count_same n args args' j.same)) r e (λ l. call_goes rec gl here i args s l) (λ l. call_goes rec' gr (record here { holder = o }) i args' t l)
       (λ l m r. j.arguments_ k qs (record here { levels = l }) m o [] [] (λ vs s. called rec i l vs s) (λ vs s. called rec' i m vs s) s t u g r end
       (record { ends = λ k' vs ws s t w z e. called_ends c cr one two ask ask' ga gb respects k' qs i l m vs ws s t r z (begun_sides c k' qs s t e); left = λ vs s. one.called_goes rec gl i l vs s; right = λ vs s. one.called_goes rec' gr i m vs s }) e)
@@ -394,7 +394,7 @@ module _ {bounds : Bounds} {compiler : Compiler} (c : Comparison) (cr : Compiler
       (λ l m r. macro_ends c cr one two ask ask' ga gb respects k qs i (record here { levels = l; chain = d }) m o position _ _ s t r (tree_grows n k _ _ (same_node head args head' args' h j.same) g) e))
 
   form_ends_ : (n : Names) (args args' : Tree) → AllGood n args args' → (k : Names) (qs : List EntryPlace) (here : Here) (m : Levels) (o : ℕ) (position : Position) (s t : State) → Linked n.functions here.holder o → Grows n k → Roomier bounds here.levels m → CleanSides bounds c k qs s t → (form : Special)
-      → Alike bounds SameValue k qs (special_form rec here position args s form) (special_form rec' (record here { levels = m; holder = o }) position args' t form)
+      → EndTogether bounds SameValue k qs (special_form rec here position args s form) (special_form rec' (record here { levels = m; holder = o }) position args' t form)
   form_ends_ n args args' j k qs here m o position s t u g r e Quote = quoted_ends k args args' (tree_grows n k args args' j.same g) qs s t e
   form_ends_ n args args' j k qs here m o position s t u g r e names.Function = named_ends k args args' (tree_grows n k args args' j.same g) qs s t e
   form_ends_ n args args' j k qs here m o position s t u g r e Cond = j.clauses_ k qs here m o position s t u g r e
@@ -415,7 +415,7 @@ module _ {bounds : Bounds} {compiler : Compiler} (c : Comparison) (cr : Compiler
   form_ends_ n args args' j k qs here m o position s t u g r e Dm = define_ends c cr one two ask ask' ga gb respects Dm k args args' (tree_grows n k args args' j.same g) qs here.levels m s t r e
 
   list_ends : (n : Names) (head head' args args' : Tree) → SameTree n head head' → AllGood n args args' → (k : Names) (qs : List EntryPlace) (here : Here) (m : Levels) (o : ℕ) (position : Position) (s t : State) → Linked n.functions here.holder o → Grows n k → Roomier bounds here.levels m → CleanSides bounds c k qs s t → (x y : Head) → SameHead k x y
-      → Alike bounds SameValue k qs (list_form rec here position head args s x) (list_form rec' (record here { levels = m; holder = o }) position head' args' t y)
+      → EndTogether bounds SameValue k qs (list_form rec here position head args s x) (list_form rec' (record here { levels = m; holder = o }) position head' args' t y)
   list_ends n head head' args args' h j k qs here m o position s t u g r e _ _ same_applied = done_here c k qs nil_value_of_state nil_value_of_state s t (same_id 0) e
   list_ends n head head' args args' h j k qs here m o position s t u g r e _ _ (same_bad v w z) = bad_ends k qs v w here.levels m s t z r e
   list_ends n head head' args args' h j k qs here m o position s t u g r e _ _ (same_call kind i) =
@@ -428,7 +428,7 @@ module _ {bounds : Bounds} {compiler : Compiler} (c : Comparison) (cr : Compiler
       (form_ends_ n args args' j k qs (record here { levels = l }) m o position s t u g r e form) (fail_ends c k qs badly_formed _ _ s t e (atom_same k head head' (tree_grows n k head head' h g)))) 1 here.levels m r
 
   lambda_ends_ : (n : Names) (a b lambda lambda' args args' : Tree) → SameTree n lambda lambda' → AppliedGood n lambda lambda' → AllGood n args args' → (k : Names) (qs : List EntryPlace) (here : Here) (m : Levels) (o : ℕ) (s t : State) → Linked n.functions here.holder o → Grows n k → Roomier bounds here.levels m → CleanSides bounds c k qs s t → (x y : Head) → SameHead k x y
-      → Alike bounds SameValue k qs (lambda_form rec here a lambda args s x) (lambda_form rec' (record here { levels = m; holder = o }) b lambda' args' t y)
+      → EndTogether bounds SameValue k qs (lambda_form rec here a lambda args s x) (lambda_form rec' (record here { levels = m; holder = o }) b lambda' args' t y)
   lambda_ends_ n a b lambda lambda' args args' h applied_ j k qs here m o s t u g r e _ _ (same_form form) = done_here c k qs nil_value_of_state nil_value_of_state s t (same_id 0) e
   lambda_ends_ n a b lambda lambda' args args' h applied_ j k qs here m o s t u g r e _ _ (same_call kind f) = done_here c k qs nil_value_of_state nil_value_of_state s t (same_id 0) e
   lambda_ends_ n a b lambda lambda' args args' h applied_ j k qs here m o s t u g r e _ _ (same_bad v w z) = bad_ends k qs v w here.levels m s t z r e
@@ -496,7 +496,7 @@ module _ {bounds : Bounds} {compiler : Compiler} (c : Comparison) (cr : Compiler
   statements_ends n x y h = (good n x y h).statements_
 
   -- a held function is walked
-  pub walked_ends : (n : Names) (ps : List EntryPlace) (l m : Levels) (h o : ℕ) (p q : Option Pointer) (a b : Held) (vs ws : List Value) (s t : State) → Roomier bounds l m → Linked n.functions h o → Maybe (SamePointer n) p q → SameHeld n a b → Values n vs ws → BelowSides bounds c n ps s t → Alike bounds SameValue n ps (walked rec l h p a vs s) (walked rec' m o q b ws t)
+  pub walked_ends : (n : Names) (ps : List EntryPlace) (l m : Levels) (h o : ℕ) (p q : Option Pointer) (a b : Held) (vs ws : List Value) (s t : State) → Roomier bounds l m → Linked n.functions h o → Maybe (SamePointer n) p q → SameHeld n a b → Values n vs ws → BelowSides bounds c n ps s t → EndTogether bounds SameValue n ps (walked rec l h p a vs s) (walked rec' m o q b ws t)
   walked_ends n ps l m h o p q _ _ vs ws s t r x pq (same_held kind parameters kept a b y) vv i =
       let j : CleanSides bounds c n (BothMark ∷ ps) (with_mark p s) (with_mark q t) = mark_sides c n ps p q s t pq i in
       restored_ends n ps s t (binding l kept parameters vs (with_mark p s) (λ levels s. eval rec (at_here kept h levels) Inside a s)) (binding m kept parameters ws (with_mark q t) (λ levels t. eval rec' (at_here kept o levels) Inside b t)) i.like

@@ -8,13 +8,14 @@ use Rattle.rl_tree.specs.declared.held.VarKind.TheVariants.{Plain, Fluid, Global
 use Rattle.rl_meaning.specs.State.{State, Tree, Held, Pointer, Symbol, Function, Definition, Dependency, Coded, Compilation, Turned}
 use Rattle.rl_meaning.specs.Outcome.{Outcome, Levels}
 use Rattle.rl_meaning.specs.Symbols.{nil_value_of_state, nil_number, lambda_number, is_constant, symbol_at}
+use Rattle.rl_meaning.specs.System.{is_system}
 use Rattle.rl_meaning.specs.Errors.{wrong_type}
 use Rattle.rl_meaning.specs.Events.{with_event}
 use Rattle.rl_meaning.specs.Holding.{pointer_to}
 use Rattle.rl_meaning.specs.Holding.{same_pointer as equal_pointers}
 use Rattle.rl_meaning.specs.Reach.{same_kind, same_tree, same_names, same_kept, turns, with_change, expands}
 use Rattle.rl_meaning.specs.Reach.{same_held as equal_held, same_function as equal_functions, same_definition as equal_definitions}
-use Rattle.rl_meaning.specs.Standing.{is_fexpr, stands, all_stand, standing, with_standing_codes}
+use Rattle.rl_meaning.specs.CodeInForce.{is_fexpr, stands, all_stand, standing, with_standing_codes}
 use Rattle.rl_meaning.specs.Definitions.{kind_of, with_definition, define, definition_pair, getd, FunctionBody, Given, Lambda, lambda_body, may_define, body_in, with_kind, with_body, own_name, fits_function, hold_lambda, function_of, putd, remd, or_given_nil, is_kind, declare, undeclare, fluid, global, unfluid, set}
 use Rattle.rl_meaning.specs.TwoRunsLinks.{OneToOne}
 use Rattle.rl_meaning.specs.TwoRunsValues.{Names, Maybe, nothing, just, Each, end, more, SameValue, same_int, same_id, same_str, same_ref, same_fun, SameParts, same_parts, SameTree, same_atom, same_quoted, same_node, same_literal, SameHeld, same_held, SameFunction, same_special, same_native, same_held_function, SamePointer, same_pointer, SameNumber, SameDefinition, same_definition, SameSymbol, same_symbol, SameDependency, same_called, same_fexpr, same_whole, SameCoded, same_coded}
@@ -138,7 +139,7 @@ module _ {bounds : Bounds} where
 
 module _ {bounds : Bounds} where
   pub own_name_related : {A : Type 0} {R : Names → A → A → Type 0} (n : Names) (ps : List EntryPlace) (i : ℕ) (s t : State) (f g : State → Outcome A) → Like bounds n ps s t → Beside bounds R n ps (f s) (g t) → Beside bounds R n ps (own_name i s f) (own_name i t g)
-  own_name_related n ps i s t f g l h = choose_same n ps _ _ s t _ _ _ _ refl (search (fail_related, same_id)) h
+  own_name_related n ps i s t f g l h = choose_same n ps (is_system i) (is_system i) s t _ _ _ _ refl (search (fail_related, same_id)) h
 
   definition_pair_related : (n : Names) (ps : List EntryPlace) (o p : Option Definition) (s t : State) → Maybe (SameDefinition n) o p → Like bounds n ps s t → Beside bounds SameValue n ps (definition_pair o s) (definition_pair p t)
   definition_pair_related n ps _ _ s t nothing l = done_now n ps nil_value_of_state nil_value_of_state s t (same_id nil_number) l

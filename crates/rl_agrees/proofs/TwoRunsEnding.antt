@@ -29,11 +29,11 @@ use Rattle.rl_agrees.proofs.TwoRunsGoes.{goes_with, goes_to, then_goes, parted_i
 use Rattle.rl_agrees.proofs.TwoRunsCompared.{Comparison, Sides, BelowSides, CleanSides}
 
 -- the ends of two runs of which the left one may run code
-abbrev pub Alike : Bounds → {A : Type 0} → (Names → A → A → Type 0) → Names → List EntryPlace → Outcome A → Outcome A → Type 0
-Alike bounds {A} R n ps o p = Related bounds {A = A} (Parted bounds) R n ps o p
+abbrev pub EndTogether : Bounds → {A : Type 0} → (Names → A → A → Type 0) → Names → List EntryPlace → Outcome A → Outcome A → Type 0
+EndTogether bounds {A} R n ps o p = Related bounds {A = A} (Parted bounds) R n ps o p
 
 module _ {bounds : Bounds} where
-  pub further_ends : {A : Type 0} {R : Names → A → A → Type 0} (n m : Names) (ps : List EntryPlace) (o p : Outcome A) → Grows n m → Alike bounds R m ps o p → Alike bounds R n ps o p
+  pub further_ends : {A : Type 0} {R : Names → A → A → Type 0} (n m : Names) (ps : List EntryPlace) (o p : Outcome A) → Grows n m → EndTogether bounds R m ps o p → EndTogether bounds R n ps o p
   further_ends n m ps o p g (done k a b s t h r l) = done k a b s t (grows_trans n m k g h) r l
   further_ends n m ps o p g (failed k z v w s t h r l) = failed k z v w s t (grows_trans n m k g h) r l
   further_ends n m ps o p g (went k x s t h l) = went k x s t (grows_trans n m k g h) l
@@ -41,10 +41,10 @@ module _ {bounds : Bounds} where
   further_ends n m ps o p g (stopped why s t e) = stopped why s t e
   further_ends n m ps o p g (parted _ _ a) = parted _ _ a
 
-  pub done_here : {A : Type 0} {R : Names → A → A → Type 0} {P : List EntryPlace → Type 0} (c : Comparison) (n : Names) (ps : List EntryPlace) (a b : A) (s t : State) → R n a b → Sides bounds c P n ps s t → Alike bounds R n ps (Done a s) (Done b t)
+  pub done_here : {A : Type 0} {R : Names → A → A → Type 0} {P : List EntryPlace → Type 0} (c : Comparison) (n : Names) (ps : List EntryPlace) (a b : A) (s t : State) → R n a b → Sides bounds c P n ps s t → EndTogether bounds R n ps (Done a s) (Done b t)
   done_here c n ps a b s t r i = done n a b s t (grows_refl n) r i.like
 
-  pub stopped_here : {A : Type 0} {R : Names → A → A → Type 0} {P : List EntryPlace → Type 0} (c : Comparison) (n : Names) (ps : List EntryPlace) (why : Stop) (s t : State) → MayStop bounds why → Sides bounds c P n ps s t → Alike bounds {A = A} R n ps (Stopped why s) (Stopped why t)
+  pub stopped_here : {A : Type 0} {R : Names → A → A → Type 0} {P : List EntryPlace → Type 0} (c : Comparison) (n : Names) (ps : List EntryPlace) (why : Stop) (s t : State) → MayStop bounds why → Sides bounds c P n ps s t → EndTogether bounds {A = A} R n ps (Stopped why s) (Stopped why t)
   stopped_here c n ps why s t may i = stopped why s t (record { outside = i.like.outside; turns = i.like.counts.turns; may = may })
 
 module _ (c : Comparison) where
@@ -55,8 +55,8 @@ module _ (c : Comparison) where
     -- ---- and then
 
     pub then_ends : {A B : Type 0} {R : Names → A → A → Type 0} {S : Names → B → B → Type 0} {P : List EntryPlace → Type 0} (n : Names) (ps : List EntryPlace) (s t : State) (o p : Outcome A) (f g : A → State → Outcome B)
-        → Sides bounds c P n ps s t → GoesOn s o → GoesOn t p → ((a : A) (s : State) → GoesOn s (f a s)) → ((a : A) (s : State) → GoesOn s (g a s)) → Alike bounds R n ps o p
-        → ((m : Names) (a b : A) (u v : State) → Grows n m → R m a b → Sides bounds c P m ps u v → Alike bounds S m ps (f a u) (g b v)) → Alike bounds S n ps (then_do o f) (then_do p g)
+        → Sides bounds c P n ps s t → GoesOn s o → GoesOn t p → ((a : A) (s : State) → GoesOn s (f a s)) → ((a : A) (s : State) → GoesOn s (g a s)) → EndTogether bounds R n ps o p
+        → ((m : Names) (a b : A) (u v : State) → Grows n m → R m a b → Sides bounds c P m ps u v → EndTogether bounds S m ps (f a u) (g b v)) → EndTogether bounds S n ps (then_do o f) (then_do p g)
     then_ends n ps s t o p f g i d w x y (done m a b u v k r l) h = further_ends n m ps _ _ k (h m a b u v k r (sides_on n m ps s t u v i d.goes w.goes l))
     then_ends n ps s t o p f g i d w x y (failed m z a b u v k r l) h = failed m z a b u v k r l
     then_ends n ps s t o p f g i d w x y (went m z u v k l) h = went m z u v k l
@@ -64,7 +64,7 @@ module _ (c : Comparison) where
     then_ends n ps s t o p f g i d w x y (stopped why u v e) h = stopped why u v e
     then_ends n ps s t o p f g i d w x y (parted _ _ a) h = parted _ _ (parted_in (λ o. then_do o f) (λ o. then_do o g) o p (then_context f x) (then_context g y) (w.goes.within (c.event s t i.ready)) a)
 
-    pub closed_ends : {A : Type 0} {R : Names → A → A → Type 0} (n : Names) (ps : List EntryPlace) (o p : Outcome A) → ((m : Names) (u v : State) → Like bounds m ps u v → Like bounds m ps (without_expansion u) (without_expansion v)) → EventWithin (state_of p) → Alike bounds R n ps o p → Alike bounds R n ps (closed o) (closed p)
+    pub closed_ends : {A : Type 0} {R : Names → A → A → Type 0} (n : Names) (ps : List EntryPlace) (o p : Outcome A) → ((m : Names) (u v : State) → Like bounds m ps u v → Like bounds m ps (without_expansion u) (without_expansion v)) → EventWithin (state_of p) → EndTogether bounds R n ps o p → EndTogether bounds R n ps (closed o) (closed p)
     closed_ends n ps o p h w (done m a b u v k r l) = done m a b _ _ k r (h m u v l)
     closed_ends n ps o p h w (failed m z a b u v k r l) = failed m z a b _ _ k r (h m u v l)
     closed_ends n ps o p h w (went m z u v k l) = went m z _ _ k (h m u v l)
@@ -72,10 +72,10 @@ module _ (c : Comparison) where
     closed_ends n ps o p h w (stopped why u v e) = stopped why u v e
     closed_ends n ps o p h w (parted _ _ a) = parted _ _ (parted_in (λ o. closed o) (λ o. closed o) o p closed_context closed_context w a)
 
-    pub choose_ends : {A : Type 0} {R : Names → A → A → Type 0} (n : Names) (ps : List EntryPlace) (b d : Bool) (s t : State) (f g f' g' : State → Outcome A) → b ≡ d → Alike bounds R n ps (f s) (f' t) → Alike bounds R n ps (g s) (g' t) → Alike bounds R n ps (choose b s f g) (choose d t f' g')
-    choose_ends {R = R} n ps b d s t f g f' g' e h k = subst (λ x. Alike bounds R n ps (choose b s f g) (choose x t f' g')) e (at b)
+    pub choose_ends : {A : Type 0} {R : Names → A → A → Type 0} (n : Names) (ps : List EntryPlace) (b d : Bool) (s t : State) (f g f' g' : State → Outcome A) → b ≡ d → EndTogether bounds R n ps (f s) (f' t) → EndTogether bounds R n ps (g s) (g' t) → EndTogether bounds R n ps (choose b s f g) (choose d t f' g')
+    choose_ends {R = R} n ps b d s t f g f' g' e h k = subst (λ x. EndTogether bounds R n ps (choose b s f g) (choose x t f' g')) e (at b)
       where
-        at : (b : Bool) → Alike bounds R n ps (choose b s f g) (choose b t f' g')
+        at : (b : Bool) → EndTogether bounds R n ps (choose b s f g) (choose b t f' g')
         at true = h
         at false = k
 
@@ -141,12 +141,12 @@ module _ (c : Comparison) where
 
   module _ {bounds : Bounds} where
     pub turn_ends : {A : Type 0} {R : Names → A → A → Type 0} {P : List EntryPlace → Type 0} (n : Names) (ps : List EntryPlace) (s t : State) (f g : State → Outcome A) → Sides bounds c P n ps s t
-        → ((u v : State) → Goes s u → Goes t v → Sides bounds c P n ps u v → Alike bounds R n ps (f u) (g v)) → Alike bounds R n ps (turn s f) (turn t g)
-    turn_ends {R = R} n ps s t f g i h = turn_by (Alike bounds R n ps) n ps s t i (λ why may. stopped_here c n ps why s t may i) f g h
+        → ((u v : State) → Goes s u → Goes t v → Sides bounds c P n ps u v → EndTogether bounds R n ps (f u) (g v)) → EndTogether bounds R n ps (turn s f) (turn t g)
+    turn_ends {R = R} n ps s t f g i h = turn_by (EndTogether bounds R n ps) n ps s t i (λ why may. stopped_here c n ps why s t may i) f g h
 
-    pub deeper_ends : {A : Type 0} {R : Names → A → A → Type 0} {P : List EntryPlace → Type 0} (n : Names) (ps : List EntryPlace) (s t : State) (f g : Levels → Outcome A) → Sides bounds c P n ps s t → ((l : Levels) → GoesOn s (f l)) → ((l : Levels) → GoesOn t (g l)) → ((l m : Levels) → Roomier bounds l m → Alike bounds R n ps (f l) (g m))
-        → (k : ℕ) (l m : Levels) → Roomier bounds l m → Alike bounds R n ps (deeper k l s f) (deeper k m t g)
-    deeper_ends {R = R} n ps s t f g i x y h = deeper_by (Alike bounds R n ps) n ps s t i (λ why may. stopped_here c n ps why s t may i) (λ o p a. parted o p a) f g x y h
+    pub deeper_ends : {A : Type 0} {R : Names → A → A → Type 0} {P : List EntryPlace → Type 0} (n : Names) (ps : List EntryPlace) (s t : State) (f g : Levels → Outcome A) → Sides bounds c P n ps s t → ((l : Levels) → GoesOn s (f l)) → ((l : Levels) → GoesOn t (g l)) → ((l m : Levels) → Roomier bounds l m → EndTogether bounds R n ps (f l) (g m))
+        → (k : ℕ) (l m : Levels) → Roomier bounds l m → EndTogether bounds R n ps (deeper k l s f) (deeper k m t g)
+    deeper_ends {R = R} n ps s t f g i x y h = deeper_by (EndTogether bounds R n ps) n ps s t i (λ why may. stopped_here c n ps why s t may i) (λ o p a. parted o p a) f g x y h
 
 -- ---- what prints nothing
 
@@ -162,7 +162,7 @@ module _ {bounds : Bounds} where
   quiet_short s t o p e h k (left_short why u _ x) = ends.left_short why u p x (quiet_shown t s p o (sym e) k h)
 
   -- outcomes that are alike, or of which one stops short, where neither prints
-  pub quiet_ends : {A : Type 0} {R : Names → A → A → Type 0} (n : Names) (ps : List EntryPlace) (s t : State) (o p : Outcome A) → Like bounds n ps s t → Quiet s o → Quiet t p → Beside bounds R n ps o p → Alike bounds R n ps o p
+  pub quiet_ends : {A : Type 0} {R : Names → A → A → Type 0} (n : Names) (ps : List EntryPlace) (s t : State) (o p : Outcome A) → Like bounds n ps s t → Quiet s o → Quiet t p → Beside bounds R n ps o p → EndTogether bounds R n ps o p
   quiet_ends n ps s t o p i h k (done m a b u v g r l) = done m a b u v g r l
   quiet_ends n ps s t o p i h k (failed m z a b u v g r l) = failed m z a b u v g r l
   quiet_ends n ps s t o p i h k (went m z u v g l) = went m z u v g l
@@ -204,7 +204,7 @@ pub fail_quiet : {A : Type 0} (n : ℕ) (v : Value) (s : State) → Quiet {A = A
 fail_quiet n v s = quiet_then s _ _ (pair_quiet (Str (error_text n)) nil_value_of_state s) (λ a t x y. quiet_then s _ _ (pair_quiet_from s v a t x y) (λ b u x y. record { output = x; notes = y }))
 
 module _ {bounds : Bounds} where
-  pub fail_ends : {A : Type 0} {R : Names → A → A → Type 0} {P : List EntryPlace → Type 0} (c : Comparison) (n : Names) (ps : List EntryPlace) (k : ℕ) (v w : Value) (s t : State) → Sides bounds c P n ps s t → SameValue n v w → Alike bounds {A = A} R n ps (fail k v s) (fail k w t)
+  pub fail_ends : {A : Type 0} {R : Names → A → A → Type 0} {P : List EntryPlace → Type 0} (c : Comparison) (n : Names) (ps : List EntryPlace) (k : ℕ) (v w : Value) (s t : State) → Sides bounds c P n ps s t → SameValue n v w → EndTogether bounds {A = A} R n ps (fail k v s) (fail k w t)
   fail_ends {A} c n ps k v w s t i r = quiet_ends n ps s t _ _ i.like (fail_quiet {A = A} k v s) (fail_quiet {A = A} k w t) (fail_related n ps k v w s t i.like r)
 
 module _ (facts : OneRunFacts) where
@@ -217,14 +217,14 @@ module _ (facts : OneRunFacts) where
 pub record EndsIn (bounds : Bounds) {A : Type 0} (base : List EntryPlace) (R : Names → A → A → Type 0) (n : Names) (o p : Outcome A) : Type 0 where
   pub places : List EntryPlace
   pub above : Above base places
-  pub ends : Alike bounds R n places o p
+  pub ends : EndTogether bounds R n places o p
 
 module _ {bounds : Bounds} where
   pub further_in : {A : Type 0} {R : Names → A → A → Type 0} (base : List EntryPlace) (n m : Names) (o p : Outcome A) → Grows n m → EndsIn bounds base R m o p → EndsIn bounds base R n o p
   further_in base n m o p g e = record { places = e.places; above = e.above; ends = further_ends n m e.places o p g e.ends }
 
   -- former bindings are back
-  pub restored_ends : {A : Type 0} {R : Names → A → A → Type 0} (n : Names) (ps : List EntryPlace) (s t : State) (o p : Outcome A) → Like bounds n ps s t → EndsIn bounds ps R n o p → Alike bounds R n ps (restored (length s.bindings) o) (restored (length t.bindings) p)
+  pub restored_ends : {A : Type 0} {R : Names → A → A → Type 0} (n : Names) (ps : List EntryPlace) (s t : State) (o p : Outcome A) → Like bounds n ps s t → EndsIn bounds ps R n o p → EndTogether bounds R n ps (restored (length s.bindings) o) (restored (length t.bindings) p)
   restored_ends n ps s t o p l e = restored_related n ps s t l n e.places o p e.above e.ends
 
 module _ (c : Comparison) where
@@ -244,7 +244,7 @@ module _ (c : Comparison) where
     }
 
     pub then_in : {A B : Type 0} {R : Names → A → A → Type 0} {S : Names → B → B → Type 0} (base : List EntryPlace) (n : Names) (ps : List EntryPlace) (s t : State) (o p : Outcome A) (f g : A → State → Outcome B)
-        → CleanSides bounds c n ps s t → Above base ps → GoesOn s o → GoesOn t p → ((a : A) (s : State) → GoesOn s (f a s)) → ((a : A) (s : State) → GoesOn s (g a s)) → Alike bounds R n ps o p
+        → CleanSides bounds c n ps s t → Above base ps → GoesOn s o → GoesOn t p → ((a : A) (s : State) → GoesOn s (f a s)) → ((a : A) (s : State) → GoesOn s (g a s)) → EndTogether bounds R n ps o p
         → ((m : Names) (a b : A) (u v : State) → Grows n m → R m a b → CleanSides bounds c m ps u v → EndsIn bounds base S m (f a u) (g b v)) → EndsIn bounds base S n (then_do o f) (then_do p g)
     then_in base n ps s t o p f g i le d w x y (done m a b u v j r l) h = further_in base n m _ _ j (h m a b u v j r (sides_on c n m ps s t u v i d.goes w.goes l))
     then_in base n ps s t o p f g i le d w x y (failed m z a b u v j r l) h = record { places = ps; above = le; ends = failed m z a b u v j r l }
@@ -302,8 +302,8 @@ module _ (c : Comparison) where
       -- variables are bound on both sides, and former bindings come back
       pub binding_ends : {A : Type 0} {R : Names → A → A → Type 0} (n : Names) (ps : List EntryPlace) (l m : Levels) (kept : List Kept) (xs : List ℕ) (vs ws : List Value) (s t : State) (f g : Levels → State → Outcome A) → Roomier bounds l m → Each (SameValue n) vs ws → CleanSides bounds c n ps s t
           → ((l : Levels) (s : State) → GoesOn s (f l s)) → ((l : Levels) (s : State) → GoesOn s (g l s))
-          → ((k : Names) (qs : List EntryPlace) (l m : Levels) (s t : State) → Grows n k → Roomier bounds l m → CleanSides bounds c k qs s t → Alike bounds R k qs (f l s) (g m t))
-          → Alike bounds R n ps (binding l kept xs vs s f) (binding m kept xs ws t g)
+          → ((k : Names) (qs : List EntryPlace) (l m : Levels) (s t : State) → Grows n k → Roomier bounds l m → CleanSides bounds c k qs s t → EndTogether bounds R k qs (f l s) (g m t))
+          → EndTogether bounds R n ps (binding l kept xs vs s f) (binding m kept xs ws t g)
       binding_ends {A} {R} n ps l m kept xs vs ws s t f g r h i x y next =
           deeper_ends c n ps s t _ _ i (λ l. left l) (λ l. right l) (λ l m r. restored_ends n ps s t _ _ i.like
           (bind_ends ps kept (f l) (g m) (λ s. x l s) (λ s. y m s) xs n ps vs ws s t h

@@ -9,6 +9,7 @@ use Rattle.rl_meaning.specs.State.{State, Tree, Held, Pointer, Definition, Symbo
 use Rattle.rl_meaning.specs.Outcome.{Outcome, Done, Failed, Went, Returned, Stopped, Expands, then_do, Levels, deeper, made_pair}
 use Rattle.rl_meaning.specs.Opening.{state_of}
 use Rattle.rl_meaning.specs.Symbols.{nil_value_of_state, is_nil, lambda_number, pair_at}
+use Rattle.rl_meaning.specs.System.{is_system}
 use Rattle.rl_meaning.specs.Errors.{fail, undefined, wrong_count, wrong_type, misplaced, system_name}
 use Rattle.rl_meaning.specs.Constants.{reading_object, reading_pair}
 use Rattle.rl_meaning.specs.Holding.{hold_form, hold_expansion, elements_walked, pointer_value, pointer_to, function_at}
@@ -38,7 +39,7 @@ use Rattle.rl_agrees.proofs.TwoRunsBinding.{level, over}
 use Rattle.rl_agrees.proofs.TwoRunsFacts.{Ask, AskGoes, GoesOn, RecGoes, OneRunFacts, TwoRunsFacts, may_part, SameList}
 use Rattle.rl_agrees.proofs.TwoRunsWalks.{same_walked}
 use Rattle.rl_agrees.proofs.TwoRunsGoes.{goes_refl, goes_trans, then_goes, choose_goes, deeper_goes, goes_to, Context, parted_in}
-use Rattle.rl_agrees.proofs.TwoRunsEnding.{Alike, further_ends, done_here, stopped_here, sides_on, then_ends, closed_ends, choose_ends, turn_ends, counts_sides, deeper_ends, quiet_ends, pair_quiet, fail_ends, fail_goes, restored_ends, mark_sides}
+use Rattle.rl_agrees.proofs.TwoRunsEnding.{EndTogether, further_ends, done_here, stopped_here, sides_on, then_ends, closed_ends, choose_ends, turn_ends, counts_sides, deeper_ends, quiet_ends, pair_quiet, fail_ends, fail_goes, restored_ends, mark_sides}
 use Rattle.rl_agrees.proofs.TwoRunsAsked.{by, Respects, CompilerRespects, rec_goes, of_state_stays, starts, taken_sides}
 use Rattle.rl_agrees.proofs.TwoRunsCompared.{Comparison, Sides, BelowSides, CleanSides, begun_sides}
 
@@ -129,7 +130,7 @@ module _ (c : Comparison) (one : OneRunFacts) where
   fails {A} n v s = fail_goes one A n v s
 
   module _ {bounds : Bounds} where
-    pub misplaced_ends : {A : Type 0} {R : Names → A → A → Type 0} {P : List EntryPlace → Type 0} (n : Names) (ps : List EntryPlace) (position : Position) (v w : Value) (s t : State) (f g : State → Outcome A) → SameValue n v w → Sides bounds c P n ps s t → Alike bounds R n ps (f s) (g t) → Alike bounds R n ps (misplaced_at position v s f) (misplaced_at position w t g)
+    pub misplaced_ends : {A : Type 0} {R : Names → A → A → Type 0} {P : List EntryPlace → Type 0} (n : Names) (ps : List EntryPlace) (position : Position) (v w : Value) (s t : State) (f g : State → Outcome A) → SameValue n v w → Sides bounds c P n ps s t → EndTogether bounds R n ps (f s) (g t) → EndTogether bounds R n ps (misplaced_at position v s f) (misplaced_at position w t g)
     misplaced_ends n ps Statement v w s t f g r l h = h
     misplaced_ends n ps Inside v w s t f g r l h = fail_ends c n ps misplaced v w s t l r
 
@@ -138,17 +139,17 @@ module _ (c : Comparison) (one : OneRunFacts) where
   arguments_goes (Some vs) u s f h = h vs
 
   module _ {bounds : Bounds} where
-    proper_ends : {A : Type 0} {R : Names → A → A → Type 0} (n : Names) (ps : List EntryPlace) (x y : Option Value) (xs ys : List Value) (u v : Value) (s t : State) (f g : List Value → State → Outcome A) → Maybe (SameValue n) x y → SameValue n u v → BelowSides bounds c n ps s t → Alike bounds R n ps (f xs s) (g ys t) → Alike bounds R n ps (with_arguments (proper x (Some xs)) u s f) (with_arguments (proper y (Some ys)) v t g)
+    proper_ends : {A : Type 0} {R : Names → A → A → Type 0} (n : Names) (ps : List EntryPlace) (x y : Option Value) (xs ys : List Value) (u v : Value) (s t : State) (f g : List Value → State → Outcome A) → Maybe (SameValue n) x y → SameValue n u v → BelowSides bounds c n ps s t → EndTogether bounds R n ps (f xs s) (g ys t) → EndTogether bounds R n ps (with_arguments (proper x (Some xs)) u s f) (with_arguments (proper y (Some ys)) v t g)
     proper_ends n ps _ _ xs ys u v s t f g nothing r l k = fail_ends c n ps wrong_type u v s t l r
     proper_ends {R = R} n ps _ _ xs ys u v s t f g (just a b e) r l k = at (is_nil a) (is_nil b) (nil_same n a b e)
       where
-        at : (i j : Bool) → i ≡ j → Alike bounds R n ps (with_arguments (if i then Some xs else None) u s f) (with_arguments (if j then Some ys else None) v t g)
+        at : (i j : Bool) → i ≡ j → EndTogether bounds R n ps (with_arguments (if i then Some xs else None) u s f) (with_arguments (if j then Some ys else None) v t g)
         at true true e = k
         at false false e = fail_ends c n ps wrong_type u v s t l r
         at true false e = absurd (cc)
         at false true e = absurd (cc)
 
-    pub pair_ends : {P : List EntryPlace → Type 0} (n : Names) (ps : List EntryPlace) (a b d e : Value) (s t : State) → SameValue n a b → SameValue n d e → Sides bounds c P n ps s t → Alike bounds SameValue n ps (made_pair a d s) (made_pair b e t)
+    pub pair_ends : {P : List EntryPlace → Type 0} (n : Names) (ps : List EntryPlace) (a b d e : Value) (s t : State) → SameValue n a b → SameValue n d e → Sides bounds c P n ps s t → EndTogether bounds SameValue n ps (made_pair a d s) (made_pair b e t)
     pair_ends n ps a b d e s t h k i = quiet_ends n ps s t _ _ i.like (pair_quiet a d s) (pair_quiet b e t) (made_pair_related n ps a b d e s t i.like h k)
 
 -- ---- jobs
@@ -168,14 +169,14 @@ module _ {bounds : Bounds} {compiler : Compiler} (c : Comparison) (cr : Compiler
 
   -- ---- application
 
-  counted_ends : (n : Names) (ps : List EntryPlace) (b d : Bool) (v w : Value) (s t : State) (f g : State → Outcome Value) → b ≡ d → SameValue n v w → BelowSides bounds c n ps s t → (d ≡ true → Alike bounds SameValue n ps (f s) (g t)) → Alike bounds SameValue n ps (counted rec b v s f) (counted rec' d w t g)
+  counted_ends : (n : Names) (ps : List EntryPlace) (b d : Bool) (v w : Value) (s t : State) (f g : State → Outcome Value) → b ≡ d → SameValue n v w → BelowSides bounds c n ps s t → (d ≡ true → EndTogether bounds SameValue n ps (f s) (g t)) → EndTogether bounds SameValue n ps (counted rec b v s f) (counted rec' d w t g)
   counted_ends n ps true true v w s t f g e r i h = h refl
   counted_ends n ps false false v w s t f g e r i h = fail_ends c n ps wrong_count v w s t i r
   counted_ends n ps true false v w s t f g e r i h = absurd (cc)
   counted_ends n ps false true v w s t f g e r i h = absurd (cc)
 
   held_ends : (n : Names) (ps : List EntryPlace) (name : Option ℕ) (l m : Levels) (h g : ℕ) (p q : Option Pointer) (a b : Held) (xs ys : List Value) (s t : State) → Roomier bounds l m → Linked n.functions h g → Maybe (SamePointer n) p q → SameHeld n a b → Values n xs ys → BelowSides bounds c n ps s t → IsOfState (Run name m g q b ys) t
-      → Alike bounds SameValue n ps (held_applied rec name l h p a xs s) (held_applied rec' name m g q b ys t)
+      → EndTogether bounds SameValue n ps (held_applied rec name l h p a xs s) (held_applied rec' name m g q b ys t)
   held_ends n ps name l m h g p q a b xs ys s t r x pq ab vv i e = turn_ends c n ps s t _ _ i (λ u v gu gv i.
       let u' : State = compiler.requests_taken name u in
       let v' : State = compiler.requests_taken name v in
@@ -184,7 +185,7 @@ module _ {bounds : Bounds} {compiler : Compiler} (c : Comparison) (cr : Compiler
       (λ l m r. respects n ps (Run name l h p a xs) u' (Run name m g q b ys) v' (starts c n ps _ _ u' v' (same_run name l m h g p q a b xs ys r x pq ab vv) j j.places
       (of_state_stays (Run name m g q b ys) t v' (goes_trans t v v' gv (cr.taken_goes name v)) e))) 1 l m r)
 
-  pub form_ends : (n : Names) (ps : List EntryPlace) (l m : Levels) (f g : ℕ) (x y : Function) (s t : State) → Roomier bounds l m → Linked n.functions f g → SameFunction n x y → BelowSides bounds c n ps s t → Alike bounds SameValue n ps (form_evaluated rec l f x s) (form_evaluated rec' m g y t)
+  pub form_ends : (n : Names) (ps : List EntryPlace) (l m : Levels) (f g : ℕ) (x y : Function) (s t : State) → Roomier bounds l m → Linked n.functions f g → SameFunction n x y → BelowSides bounds c n ps s t → EndTogether bounds SameValue n ps (form_evaluated rec l f x s) (form_evaluated rec' m g y t)
   form_ends n ps l m f g _ _ s t r x (same_held_function _ _ (same_held kind parameters kept a b h)) i =
       let j : CleanSides bounds c n (BothMark ∷ ps) (with_mark None s) (with_mark None t) = mark_sides c n ps None None s t nothing i in
       let h' : Here = record { levels = l; chain = longest_chain; kept = kept; holder = f } in
@@ -197,15 +198,15 @@ module _ {bounds : Bounds} {compiler : Compiler} (c : Comparison) (cr : Compiler
   function_now : {P : List EntryPlace → Type 0} (n : Names) (ps : List EntryPlace) (f g : ℕ) (s t : State) → Linked n.functions f g → Sides bounds c P n ps s t → SameFunction n (function_at s (pointer_to f)) (function_at t (pointer_to g))
   function_now n ps f g s t h i = function_same n ps s t (pointer_to f) (pointer_to g) i.like (whole_pointer n f g h)
 
-  held_form_ends : (n : Names) (ps : List EntryPlace) (l m : Levels) (u v : Value) (s t : State) → Roomier bounds l m → SameValue n u v → BelowSides bounds c n ps s t → Alike bounds SameNumber n ps (hold_form l u s) (hold_form m v t)
+  held_form_ends : (n : Names) (ps : List EntryPlace) (l m : Levels) (u v : Value) (s t : State) → Roomier bounds l m → SameValue n u v → BelowSides bounds c n ps s t → EndTogether bounds SameNumber n ps (hold_form l u s) (hold_form m v t)
   held_form_ends n ps l m u v s t r h i = quiet_ends n ps s t _ _ i.like (two.hold_form_quiet l u s) (two.hold_form_quiet m v t) (two.hold_form_ n ps l m u v s t r h i.like)
 
-  evaluated_ends : (n : Names) (ps : List EntryPlace) (l m : Levels) (u v : Value) (s t : State) → Roomier bounds l m → SameValue n u v → BelowSides bounds c n ps s t → Alike bounds SameValue n ps (evaluated rec l u s) (evaluated rec' m v t)
+  evaluated_ends : (n : Names) (ps : List EntryPlace) (l m : Levels) (u v : Value) (s t : State) → Roomier bounds l m → SameValue n u v → BelowSides bounds c n ps s t → EndTogether bounds SameValue n ps (evaluated rec l u s) (evaluated rec' m v t)
   evaluated_ends n ps l m u v s t r h i = turn_ends c n ps s t _ _ i (λ s t x y i.
       then_ends c n ps s t _ _ _ _ i (one.hold_form_goes l u s) (one.hold_form_goes m v t) (λ f s. one.form_goes rec gl l f _ s) (λ f s. one.form_goes rec' gr m f _ s) (held_form_ends n ps l m u v s t r h i)
       (λ k f g s t w e i. form_ends k ps l m f g _ _ s t r e.linked (function_now k ps f g s t e.linked i) i))
 
-  list_ends : (n : Names) (ps : List EntryPlace) (l m : Levels) (f g : ℕ) (x y : Function) (xs ys : List Value) (s t : State) → Roomier bounds l m → Linked n.functions f g → SameFunction n x y → Values n xs ys → BelowSides bounds c n ps s t → Alike bounds SameValue n ps (list_applied rec l f x xs s) (list_applied rec' m g y ys t)
+  list_ends : (n : Names) (ps : List EntryPlace) (l m : Levels) (f g : ℕ) (x y : Function) (xs ys : List Value) (s t : State) → Roomier bounds l m → Linked n.functions f g → SameFunction n x y → Values n xs ys → BelowSides bounds c n ps s t → EndTogether bounds SameValue n ps (list_applied rec l f x xs s) (list_applied rec' m g y ys t)
   list_ends n ps l m f g _ _ xs ys s t r i (same_held_function _ _ (same_held kind parameters kept a b h)) k e =
       counted_ends n ps _ _ _ _ s t _ _ (ap (λ j. length parameters == j) (each_length (SameValue n) xs ys k)) (pointer_value_same n _ _ (whole_pointer n f g i)) e
       (λ y. held_ends n ps None l m f g None None _ _ xs ys s t r i nothing (same_held kind parameters kept a b h) k e tt)
@@ -218,10 +219,10 @@ module _ {bounds : Bounds} {compiler : Compiler} (c : Comparison) (cr : Compiler
   pair_read_sides : (n : Names) (ps : List EntryPlace) (v w : Value) (s t : State) → BelowSides bounds c n ps s t → BelowSides bounds c n ps (reading_pair v s) (reading_pair w t)
   pair_read_sides n ps v w s t i = record { like = pair_read_like n ps v w s t i.like; places = i.places; ready = c.stay s t _ _ (one.reading_goes _ s) (one.reading_goes _ t) i.ready }
 
-  lambda_ends : (n : Names) (ps : List EntryPlace) (l m : Levels) (o p : Option (Value × Value)) (s t : State) → Roomier bounds l m → Maybe (SameParts n) o p → BelowSides bounds c n ps s t → Alike bounds SameNumber n ps (hold_lambda Expr l o s) (hold_lambda Expr m p t)
+  lambda_ends : (n : Names) (ps : List EntryPlace) (l m : Levels) (o p : Option (Value × Value)) (s t : State) → Roomier bounds l m → Maybe (SameParts n) o p → BelowSides bounds c n ps s t → EndTogether bounds SameNumber n ps (hold_lambda Expr l o s) (hold_lambda Expr m p t)
   lambda_ends n ps l m o p s t r h i = quiet_ends n ps s t _ _ i.like (two.hold_lambda_quiet Expr l o s) (two.hold_lambda_quiet Expr m p t) (two.hold_lambda_ n ps Expr l m o p s t r h i.like)
 
-  applied_to_ends : (n : Names) (ps : List EntryPlace) (l m : Levels) (x y : Target) (xs ys : List Value) (s t : State) → Roomier bounds l m → SameTarget n x y → Values n xs ys → BelowSides bounds c n ps s t → Alike bounds SameValue n ps (applied_to rec l x xs s) (applied_to rec' m y ys t)
+  applied_to_ends : (n : Names) (ps : List EntryPlace) (l m : Levels) (x y : Target) (xs ys : List Value) (s t : State) → Roomier bounds l m → SameTarget n x y → Values n xs ys → BelowSides bounds c n ps s t → EndTogether bounds SameValue n ps (applied_to rec l x xs s) (applied_to rec' m y ys t)
   applied_to_ends n ps l m _ _ xs ys s t r (same_function name p q h) k e = respects n ps (Call_ name l p xs) s (Call_ name m q ys) t (starts c n ps _ _ s t (same_call name l m p q xs ys r h k) e e.places tt)
   applied_to_ends n ps l m _ _ xs ys s t r (same_lambda v w h) k e =
       let i : BelowSides bounds c n ps (reading_object v s) (reading_object w t) = reading_sides n ps v w s t e in
@@ -243,7 +244,7 @@ module _ {bounds : Bounds} {compiler : Compiler} (c : Comparison) (cr : Compiler
       arguments_goes c one (proper w.end (Some w.result)) u s (λ vs s. deeper (length vs / 8) l s (λ levels. applied_to rec levels x vs s))
       (λ vs. deeper_goes (length vs / 8) l s (λ levels. applied_to rec levels x vs s) (λ l. one.applied_to_goes rec g l x vs s))
 
-  list_target_ends : (n : Names) (ps : List EntryPlace) (l m : Levels) (x y : Target) (u v : Value) (s t : State) → Roomier bounds l m → SameTarget n x y → SameValue n u v → BelowSides bounds c n ps s t → Alike bounds SameValue n ps (with_list rec l x u s) (with_list rec' m y v t)
+  list_target_ends : (n : Names) (ps : List EntryPlace) (l m : Levels) (x y : Target) (u v : Value) (s t : State) → Roomier bounds l m → SameTarget n x y → SameValue n u v → BelowSides bounds c n ps s t → EndTogether bounds SameValue n ps (with_list rec l x u s) (with_list rec' m y v t)
   list_target_ends n ps l m x y u v s t r a k e =
       then_ends c n ps s t _ _ _ _ e (one.elements_goes u s) (one.elements_goes v t)
       (λ walked s. with_list_goes rec gl l x u walked s) (λ walked s. with_list_goes rec' gr m y v walked s)
@@ -251,24 +252,24 @@ module _ {bounds : Bounds} {compiler : Compiler} (c : Comparison) (cr : Compiler
       (λ k' w z s t g h i. at k' w z s t g h i)
     where
       at : (k' : Names) (w z : Walked (List Value)) (s t : State) → Grows n k' → SameList k' w z → BelowSides bounds c k' ps s t
-          → Alike bounds SameValue k' ps (with_arguments (proper w.end (Some w.result)) u s (λ vs s. deeper (length vs / 8) l s (λ levels. applied_to rec levels x vs s)))
+          → EndTogether bounds SameValue k' ps (with_arguments (proper w.end (Some w.result)) u s (λ vs s. deeper (length vs / 8) l s (λ levels. applied_to rec levels x vs s)))
           (with_arguments (proper z.end (Some z.result)) v t (λ vs s. deeper (length vs / 8) m s (λ levels. applied_to rec' levels y vs s)))
       at k' _ _ s t g (same_walked xs ys f h vv xx) i = proper_ends c one k' ps f h xs ys u v s t _ _ xx (value_grows n k' u v k g) i
           (rw (← each_length (SameValue k') xs ys vv) (deeper_ends c k' ps s t _ _ i (λ l. one.applied_to_goes rec gl l x xs s) (λ l. one.applied_to_goes rec' gr l y ys t)
           (λ l m r. applied_to_ends k' ps l m x y xs ys s t r (target_grows n k' x y a g) vv i) (length xs / 8) l m r))
 
-  target_ends : (n : Names) (ps : List EntryPlace) (l m : Levels) (x y : Target) (f g u v : Value) (s t : State) → Roomier bounds l m → SameTarget n x y → SameValue n f g → SameValue n u v → BelowSides bounds c n ps s t → Alike bounds SameValue n ps (apply_target rec l x f u s) (apply_target rec' m y g v t)
+  target_ends : (n : Names) (ps : List EntryPlace) (l m : Levels) (x y : Target) (f g u v : Value) (s t : State) → Roomier bounds l m → SameTarget n x y → SameValue n f g → SameValue n u v → BelowSides bounds c n ps s t → EndTogether bounds SameValue n ps (apply_target rec l x f u s) (apply_target rec' m y g v t)
   target_ends n ps l m _ _ f g u v s t r same_undefined h k e = fail_ends c n ps undefined f g s t e h
   target_ends n ps l m _ _ f g u v s t r same_wrong h k e = fail_ends c n ps wrong_type f g s t e h
   target_ends n ps l m _ _ f g u v s t r (same_function name p q a) h k e = list_target_ends n ps l m _ _ u v s t r (same_function name p q a) k e
   target_ends n ps l m _ _ f g u v s t r (same_lambda x y a) h k e = list_target_ends n ps l m _ _ u v s t r (same_lambda x y a) k e
 
-  apply_ends : (n : Names) (ps : List EntryPlace) (l m : Levels) (f g u v : Value) (s t : State) → Roomier bounds l m → SameValue n f g → SameValue n u v → BelowSides bounds c n ps s t → Alike bounds SameValue n ps (apply rec l f u s) (apply rec' m g v t)
+  apply_ends : (n : Names) (ps : List EntryPlace) (l m : Levels) (f g u v : Value) (s t : State) → Roomier bounds l m → SameValue n f g → SameValue n u v → BelowSides bounds c n ps s t → EndTogether bounds SameValue n ps (apply rec l f u s) (apply rec' m g v t)
   apply_ends n ps l m f g u v s t r h k e = turn_ends c n ps s t _ _ e (λ s t x y i. target_ends n ps l m _ _ f g u v _ _ r (target_same n ps f g s t i.like h) h k (pair_read_sides n ps f g s t i))
 
   -- ---- ERRORSET
 
-  unless_nil_ends : (n : Names) (ps : List EntryPlace) (l m : Levels) (u v x y : Value) (s t : State) → Roomier bounds l m → SameValue n u v → SameValue n x y → BelowSides bounds c n ps s t → Alike bounds {A = Unit {0}} Is n ps (print_unless_nil l u x s) (print_unless_nil m v y t)
+  unless_nil_ends : (n : Names) (ps : List EntryPlace) (l m : Levels) (u v x y : Value) (s t : State) → Roomier bounds l m → SameValue n u v → SameValue n x y → BelowSides bounds c n ps s t → EndTogether bounds {A = Unit {0}} Is n ps (print_unless_nil l u x s) (print_unless_nil m v y t)
   unless_nil_ends n ps l m u v x y s t q h k i = choose_ends c n ps _ _ s t _ _ _ _ (nil_same n u v h) (done_here c n ps _ _ s t (is _) i) (two.print_error_ n ps l m x y s t q k i.like)
 
   unless_nil_goes : (l : Levels) (u x : Value) (s : State) → GoesOn s (print_unless_nil l u x s)
@@ -290,7 +291,7 @@ module _ {bounds : Bounds} {compiler : Compiler} (c : Comparison) (cr : Compiler
       goes (Returned v s) = goes_refl s
       goes (Stopped why s) = goes_refl s
 
-  caught_ends : (n : Names) (ps : List EntryPlace) (l m : Levels) (u v : Value) (s t : State) (o p : Outcome Value) → Roomier bounds l m → SameValue n u v → BelowSides bounds c n ps s t → GoesOn s o → GoesOn t p → Alike bounds SameValue n ps o p → Alike bounds SameValue n ps (caught l u o) (caught m v p)
+  caught_ends : (n : Names) (ps : List EntryPlace) (l m : Levels) (u v : Value) (s t : State) (o p : Outcome Value) → Roomier bounds l m → SameValue n u v → BelowSides bounds c n ps s t → GoesOn s o → GoesOn t p → EndTogether bounds SameValue n ps o p → EndTogether bounds SameValue n ps (caught l u o) (caught m v p)
   caught_ends n ps l m u v s t o p q h i y w (done k a b s' t' g r e) =
       let j : BelowSides bounds c k ps s' t' = sides_on c n k ps s t s' t' i y.goes w.goes e in
       further_ends n k ps _ _ g (then_ends c k ps s' t' _ _ _ _ j (one.pair_goes a nil_value_of_state s') (one.pair_goes b nil_value_of_state t') (λ list s. record { goes = value_noted s }) (λ list s. record { goes = value_noted s }) (pair_ends c one k ps a b nil_value_of_state nil_value_of_state s' t' r (same_id 0) j)
@@ -307,7 +308,7 @@ module _ {bounds : Bounds} {compiler : Compiler} (c : Comparison) (cr : Compiler
   caught_goes : (rec : Rec) → RecGoes rec → (l : Levels) (x : Value) (f : ℕ) (s : State) → GoesOn s (caught l x (form_evaluated rec l f (function_at s (pointer_to f)) s))
   caught_goes rec g l x f s = let o : Outcome Value = form_evaluated rec l f (function_at s (pointer_to f)) s in goes_to s o (caught l x o) (one.form_goes rec g l f (function_at s (pointer_to f)) s) ((caught_context l x).goes o)
 
-  errorset_ends : (n : Names) (ps : List EntryPlace) (l m : Levels) (u v x y : Value) (s t : State) → Roomier bounds l m → SameValue n u v → SameValue n x y → BelowSides bounds c n ps s t → Alike bounds SameValue n ps (errorset rec l u x s) (errorset rec' m v y t)
+  errorset_ends : (n : Names) (ps : List EntryPlace) (l m : Levels) (u v x y : Value) (s t : State) → Roomier bounds l m → SameValue n u v → SameValue n x y → BelowSides bounds c n ps s t → EndTogether bounds SameValue n ps (errorset rec l u x s) (errorset rec' m v y t)
   errorset_ends n ps l m u v x y s t r h k i = turn_ends c n ps s t _ _ i (λ s t a b i.
       then_ends c n ps s t _ _ _ _ i (one.hold_form_goes l u s) (one.hold_form_goes m v t)
       (λ f s. caught_goes rec gl l x f s) (λ f s. caught_goes rec' gr m y f s)
@@ -316,17 +317,17 @@ module _ {bounds : Bounds} {compiler : Compiler} (c : Comparison) (cr : Compiler
 
   -- ---- natives and names
 
-  native_ends : (n : Names) (ps : List EntryPlace) (o : Native) (l m : Levels) (xs ys : List Value) (s t : State) → Roomier bounds l m → Values n xs ys → BelowSides bounds c n ps s t → Alike bounds SameValue n ps (native o l xs s) (native o m ys t)
+  native_ends : (n : Names) (ps : List EntryPlace) (o : Native) (l m : Levels) (xs ys : List Value) (s t : State) → Roomier bounds l m → Values n xs ys → BelowSides bounds c n ps s t → EndTogether bounds SameValue n ps (native o l xs s) (native o m ys t)
   native_ends n ps o l m xs ys s t r h i = at (may_part o) refl
     where
-      at : (b : Bool) → may_part o ≡ b → Alike bounds SameValue n ps (native o l xs s) (native o m ys t)
+      at : (b : Bool) → may_part o ≡ b → EndTogether bounds SameValue n ps (native o l xs s) (native o m ys t)
       at true e = two.native_parts n ps o l m xs ys s t e r h i.like
       at false e = quiet_ends n ps s t _ _ i.like (two.native_quiet o l xs s e) (two.native_quiet o m ys t e) (two.native_ n ps o l m xs ys s t e r h i.like)
 
   defined_sides : (n : Names) (ps : List EntryPlace) (v w : Value) (s t : State) → SameValue n v w → BelowSides bounds c n ps s t → BelowSides bounds c n ps (compiler.defined v s) (compiler.defined w t)
   defined_sides n ps v w s t r i = record { like = cr.defined n ps v w s t r i.like; places = i.places; ready = c.stay s t _ _ (cr.defined_goes v s) (cr.defined_goes w t) i.ready }
 
-  native_applied_ends : (n : Names) (ps : List EntryPlace) (o : Native) (l m : Levels) (xs ys : List Value) (s t : State) → Roomier bounds l m → Values n xs ys → BelowSides bounds c n ps s t → Alike bounds SameValue n ps (native_applied rec o l xs s) (native_applied rec' o m ys t)
+  native_applied_ends : (n : Names) (ps : List EntryPlace) (o : Native) (l m : Levels) (xs ys : List Value) (s t : State) → Roomier bounds l m → Values n xs ys → BelowSides bounds c n ps s t → EndTogether bounds SameValue n ps (native_applied rec o l xs s) (native_applied rec' o m ys t)
   native_applied_ends n ps Eval l m xs ys s t r h e = evaluated_ends n ps l m _ _ s t r (argument_same n xs ys 0 h) e
   native_applied_ends n ps Errorset l m xs ys s t r h e = errorset_ends n ps l m _ _ _ _ s t r (argument_same n xs ys 0 h) (argument_same n xs ys 1 h) e
   native_applied_ends n ps Apply l m xs ys s t r h e = apply_ends n ps l m _ _ _ _ s t r (argument_same n xs ys 0 h) (argument_same n xs ys 1 h) e
@@ -345,34 +346,34 @@ module _ {bounds : Bounds} {compiler : Compiler} (c : Comparison) (cr : Compiler
   length_is : (i j k : ℕ) → j ≡ k → (i == j) ≡ true → j ≡ i
   length_is i j k e x = grind (arith, nat_tests, x)
 
-  function_ends : (n : Names) (ps : List EntryPlace) (name : Option ℕ) (l m : Levels) (p q : Pointer) (x y : Function) (xs ys : List Value) (s t : State) → function_at t q ≡ y → Roomier bounds l m → SamePointer n p q → SameFunction n x y → Values n xs ys → BelowSides bounds c n ps s t → Alike bounds SameValue n ps (function_applied rec name l p x xs s) (function_applied rec' name m q y ys t)
+  function_ends : (n : Names) (ps : List EntryPlace) (name : Option ℕ) (l m : Levels) (p q : Pointer) (x y : Function) (xs ys : List Value) (s t : State) → function_at t q ≡ y → Roomier bounds l m → SamePointer n p q → SameFunction n x y → Values n xs ys → BelowSides bounds c n ps s t → EndTogether bounds SameValue n ps (function_applied rec name l p x xs s) (function_applied rec' name m q y ys t)
   function_ends n ps name l m p q _ _ xs ys s t e r i (same_special form) k side = fail_ends c n ps wrong_type _ _ s t side (called_as_same n name p q i)
   function_ends n ps name l m p q _ _ xs ys s t e r i (same_native o) k side = counted_ends n ps _ _ _ _ s t _ _ (ap (λ j. arguments_of o == j) (each_length (SameValue n) xs ys k)) (called_as_same n name p q i) side (λ y. native_applied_ends n ps o l m xs ys s t r k side)
   function_ends n ps name l m p q _ _ xs ys s t e r i (same_held_function _ _ (same_held kind parameters kept a b h)) k side =
       counted_ends n ps _ _ _ _ s t _ _ (ap (λ j. length parameters == j) (each_length (SameValue n) xs ys k)) (called_as_same n name p q i) side
       (λ y. held_ends n ps name l m p.function q.function (Some p) (Some q) _ _ xs ys s t r (pointer_linked n p q i) (just p q i) (same_held kind parameters kept a b h) k side (e, refl, length_is (length parameters) (length ys) (length ys) refl y))
 
-  pub applied_ends : (n : Names) (ps : List EntryPlace) (name : Option ℕ) (l m : Levels) (p q : Pointer) (xs ys : List Value) (s t : State) → Roomier bounds l m → SamePointer n p q → Values n xs ys → BelowSides bounds c n ps s t → Alike bounds SameValue n ps (applied rec name l p xs s) (applied rec' name m q ys t)
+  pub applied_ends : (n : Names) (ps : List EntryPlace) (name : Option ℕ) (l m : Levels) (p q : Pointer) (xs ys : List Value) (s t : State) → Roomier bounds l m → SamePointer n p q → Values n xs ys → BelowSides bounds c n ps s t → EndTogether bounds SameValue n ps (applied rec name l p xs s) (applied rec' name m q ys t)
   applied_ends n ps name l m p q xs ys s t r i k side = function_ends n ps name l m p q _ _ xs ys s t refl r i (function_same n ps s t p q side.like i) k side
 
-  name_ends : (n : Names) (ps : List EntryPlace) (i : ℕ) (l m : Levels) (o p : Option Definition) (xs ys : List Value) (s t : State) → Roomier bounds l m → Maybe (SameDefinition n) o p → Values n xs ys → BelowSides bounds c n ps s t → Alike bounds SameValue n ps (name_applied rec i l o xs s) (name_applied rec' i m p ys t)
+  name_ends : (n : Names) (ps : List EntryPlace) (i : ℕ) (l m : Levels) (o p : Option Definition) (xs ys : List Value) (s t : State) → Roomier bounds l m → Maybe (SameDefinition n) o p → Values n xs ys → BelowSides bounds c n ps s t → EndTogether bounds SameValue n ps (name_applied rec i l o xs s) (name_applied rec' i m p ys t)
   name_ends n ps i l m _ _ xs ys s t r nothing k e = fail_ends c n ps undefined _ _ s t e (same_id i)
   name_ends n ps i l m _ _ xs ys s t r (just _ _ (same_definition kind p q h)) k e = applied_ends n ps (Some i) l m p q xs ys s t r h k e
 
-  pub called_ends : (n : Names) (ps : List EntryPlace) (i : ℕ) (l m : Levels) (xs ys : List Value) (s t : State) → Roomier bounds l m → Values n xs ys → BelowSides bounds c n ps s t → Alike bounds SameValue n ps (called rec i l xs s) (called rec' i m ys t)
+  pub called_ends : (n : Names) (ps : List EntryPlace) (i : ℕ) (l m : Levels) (xs ys : List Value) (s t : State) → Roomier bounds l m → Values n xs ys → BelowSides bounds c n ps s t → EndTogether bounds SameValue n ps (called rec i l xs s) (called rec' i m ys t)
   called_ends n ps i l m xs ys s t r k e = name_ends n ps i l m _ _ xs ys s t r (definition_same n _ _ (symbol_same n ps s t i e.like)) k e
 
   -- ---- FEXPRs and macros
 
-  pub copied_ends : (n : Names) (ps : List EntryPlace) (l m : Levels) (a b : Tree) (s t : State) → Roomier bounds l m → SameTree n a b → BelowSides bounds c n ps s t → Alike bounds SameValue n ps (copied l a s) (copied m b t)
+  pub copied_ends : (n : Names) (ps : List EntryPlace) (l m : Levels) (a b : Tree) (s t : State) → Roomier bounds l m → SameTree n a b → BelowSides bounds c n ps s t → EndTogether bounds SameValue n ps (copied l a s) (copied m b t)
   copied_ends n ps l m a b s t r h i = quiet_ends n ps s t _ _ i.like (two.copied_quiet l a s) (two.copied_quiet m b t) (two.copied_ n ps l m a b s t r h i.like)
 
-  pub fexpr_ends : (n : Names) (ps : List EntryPlace) (i : ℕ) (here : Here) (m : Levels) (h : ℕ) (a b : Tree) (s t : State) → Roomier bounds here.levels m → SameTree n a b → BelowSides bounds c n ps s t → Alike bounds SameValue n ps (fexpr_called rec i here a s) (fexpr_called rec' i (record here { levels = m; holder = h }) b t)
+  pub fexpr_ends : (n : Names) (ps : List EntryPlace) (i : ℕ) (here : Here) (m : Levels) (h : ℕ) (a b : Tree) (s t : State) → Roomier bounds here.levels m → SameTree n a b → BelowSides bounds c n ps s t → EndTogether bounds SameValue n ps (fexpr_called rec i here a s) (fexpr_called rec' i (record here { levels = m; holder = h }) b t)
   fexpr_ends n ps i here m h a b s t r x e =
       then_ends c n ps s t _ _ _ _ e (one.copied_goes here.levels a s) (one.copied_goes m b t) (λ list s. one.called_goes rec gl i here.levels (list ∷ []) s) (λ list s. one.called_goes rec' gr i m (list ∷ []) s) (copied_ends n ps here.levels m a b s t r x e)
       (λ k v w s t g r' i'. called_ends k ps i here.levels m _ _ s t r (more v w [] [] r' end) i')
 
-  expansion_ends : (n : Names) (ps : List EntryPlace) (i : ℕ) (here : Here) (m : Levels) (h : ℕ) (a b : Tree) (s t : State) → Roomier bounds here.levels m → SameTree n a b → BelowSides bounds c n ps s t → Alike bounds SameNumber n ps (expansion_of rec i here a s) (expansion_of rec' i (record here { levels = m; holder = h }) b t)
+  expansion_ends : (n : Names) (ps : List EntryPlace) (i : ℕ) (here : Here) (m : Levels) (h : ℕ) (a b : Tree) (s t : State) → Roomier bounds here.levels m → SameTree n a b → BelowSides bounds c n ps s t → EndTogether bounds SameNumber n ps (expansion_of rec i here a s) (expansion_of rec' i (record here { levels = m; holder = h }) b t)
   expansion_ends n ps i here m h a b s t r x side =
       let j : BelowSides bounds c n ps (with_expansion i s) (with_expansion i t) = opened_sides c n ps i s t side in
       closed_ends c n ps _ _ (λ k u v l. closed_like k ps u v l) ((inner m b (with_expansion i t)).goes.within (c.event _ _ j.ready))
@@ -386,24 +387,24 @@ module _ {bounds : Bounds} {compiler : Compiler} (c : Comparison) (cr : Compiler
       inner : (l : Levels) (b : Tree) (s : State) → GoesOn s (then_do (copied l b s) (λ list s. then_do (called rec' i l (list ∷ []) s) (λ v s. hold_expansion l here.kept v s)))
       inner l b s = then_goes s _ _ (one.copied_goes l b s) (λ list s. rest rec' gr l list s)
 
-  expanded_ends : (n : Names) (ps : List EntryPlace) (here : Here) (m : Levels) (position : Position) (f g : ℕ) (x y : Function) (s t : State) → Roomier bounds here.levels m → Linked n.functions f g → SameFunction n x y → CleanSides bounds c n ps s t → (h : ℕ) → Alike bounds SameValue n ps (expanded_body rec here position f x s) (expanded_body rec' (record here { levels = m; holder = h }) position g y t)
+  expanded_ends : (n : Names) (ps : List EntryPlace) (here : Here) (m : Levels) (position : Position) (f g : ℕ) (x y : Function) (s t : State) → Roomier bounds here.levels m → Linked n.functions f g → SameFunction n x y → CleanSides bounds c n ps s t → (h : ℕ) → EndTogether bounds SameValue n ps (expanded_body rec here position f x s) (expanded_body rec' (record here { levels = m; holder = h }) position g y t)
   expanded_ends n ps here m position f g _ _ s t r x (same_held_function _ _ (same_held kind parameters kept a b y)) i h =
       respects n ps (In (record here { holder = f }) position a) s (In (record here { levels = m; holder = g }) position b) t (starts c n ps _ _ s t (same_in (record here { holder = f }) (record here { levels = m; holder = g }) position a b (same_here here.chain here.kept here.levels m f g r x) y) i i.places tt)
   expanded_ends n ps here m position f g _ _ s t r x (same_special form) i h = done_here c n ps nil_value_of_state nil_value_of_state s t (same_id 0) i
   expanded_ends n ps here m position f g _ _ s t r x (same_native native) i h = done_here c n ps nil_value_of_state nil_value_of_state s t (same_id 0) i
 
-  pub macro_ends : (n : Names) (ps : List EntryPlace) (i : ℕ) (here : Here) (m : Levels) (h : ℕ) (position : Position) (a b : Tree) (s t : State) → Roomier bounds here.levels m → SameTree n a b → CleanSides bounds c n ps s t → Alike bounds SameValue n ps (macro_called rec i here position a s) (macro_called rec' i (record here { levels = m; holder = h }) position b t)
+  pub macro_ends : (n : Names) (ps : List EntryPlace) (i : ℕ) (here : Here) (m : Levels) (h : ℕ) (position : Position) (a b : Tree) (s t : State) → Roomier bounds here.levels m → SameTree n a b → CleanSides bounds c n ps s t → EndTogether bounds SameValue n ps (macro_called rec i here position a s) (macro_called rec' i (record here { levels = m; holder = h }) position b t)
   macro_ends n ps i here m h position a b s t r x side =
       then_ends c n ps s t _ _ _ _ side (one.expansion_goes rec gl i here a s) (one.expansion_goes rec' gr i (record here { levels = m; holder = h }) b t) (λ f s. one.expanded_goes rec gl here position f _ s) (λ f s. one.expanded_goes rec' gr (record here { levels = m; holder = h }) position f _ s) (expansion_ends n ps i here m h a b s t r x (begun_sides c n ps s t side))
       (λ k f g s t w e i'. expanded_ends k ps here m position f g _ _ s t r e.linked (function_now k ps f g s t e.linked i') i' h)
 
-  pub chain_ends : (n : Names) (ps : List EntryPlace) (chain i : ℕ) (s t : State) (f g : ℕ → State → Outcome Value) → CleanSides bounds c n ps s t → ((c : ℕ) → Alike bounds SameValue n ps (f c s) (g c t)) → Alike bounds SameValue n ps (in_chain rec chain i s f) (in_chain rec' chain i t g)
+  pub chain_ends : (n : Names) (ps : List EntryPlace) (chain i : ℕ) (s t : State) (f g : ℕ → State → Outcome Value) → CleanSides bounds c n ps s t → ((c : ℕ) → EndTogether bounds SameValue n ps (f c s) (g c t)) → EndTogether bounds SameValue n ps (in_chain rec chain i s f) (in_chain rec' chain i t g)
   chain_ends n ps zero i s t f g e h = stopped_here c n ps (Expands i) s t tt e
   chain_ends n ps (suc j) i s t f g e h = h j
 
   -- ---- PROG
 
-  jumped_ends : (n : Names) (ps : List EntryPlace) (here : Here) (m : Levels) (h : ℕ) (a b : Tree) (x : ℕ) (o p : Option Tree) (s t : State) → Roomier bounds here.levels m → Linked n.functions here.holder h → SameTree n a b → Maybe (SameTree n) o p → CleanSides bounds c n ps s t → Alike bounds SameValue n ps (jumped rec here a x o s) (jumped rec' (record here { levels = m; holder = h }) b x p t)
+  jumped_ends : (n : Names) (ps : List EntryPlace) (here : Here) (m : Levels) (h : ℕ) (a b : Tree) (x : ℕ) (o p : Option Tree) (s t : State) → Roomier bounds here.levels m → Linked n.functions here.holder h → SameTree n a b → Maybe (SameTree n) o p → CleanSides bounds c n ps s t → EndTogether bounds SameValue n ps (jumped rec here a x o s) (jumped rec' (record here { levels = m; holder = h }) b x p t)
   jumped_ends n ps here m h a b x _ _ s t r z y (just u v k) i = turn_ends c n ps s t _ _ i (λ s t p q i. respects n ps (From here a u) s (From (record here { levels = m; holder = h }) b v) t (starts c n ps _ _ s t (same_from here (record here { levels = m; holder = h }) a b u v (same_here here.chain here.kept here.levels m here.holder h r z) y k) i i.places tt))
   jumped_ends n ps here m h a b x _ _ s t r z y nothing i = fail_ends c n ps misplaced _ _ s t i (same_id x)
 
@@ -417,8 +418,8 @@ module _ {bounds : Bounds} {compiler : Compiler} (c : Comparison) (cr : Compiler
       goes (Returned v s) = goes_refl s
       goes (Stopped why s) = goes_refl s
 
-  pub in_prog_ends : (n : Names) (ps : List EntryPlace) (here : Here) (m : Levels) (h : ℕ) (a b : Tree) (f g : State → Outcome Value) (s t : State) (o p : Outcome Value) → Roomier bounds here.levels m → Linked n.functions here.holder h → SameTree n a b → CleanSides bounds c n ps s t → GoesOn s o → GoesOn t p → ((s : State) → GoesOn s (f s)) → ((s : State) → GoesOn s (g s)) → Alike bounds SameValue n ps o p
-      → ((k : Names) (s t : State) → Grows n k → CleanSides bounds c k ps s t → Alike bounds SameValue k ps (f s) (g t)) → Alike bounds SameValue n ps (in_prog rec here a f o) (in_prog rec' (record here { levels = m; holder = h }) b g p)
+  pub in_prog_ends : (n : Names) (ps : List EntryPlace) (here : Here) (m : Levels) (h : ℕ) (a b : Tree) (f g : State → Outcome Value) (s t : State) (o p : Outcome Value) → Roomier bounds here.levels m → Linked n.functions here.holder h → SameTree n a b → CleanSides bounds c n ps s t → GoesOn s o → GoesOn t p → ((s : State) → GoesOn s (f s)) → ((s : State) → GoesOn s (g s)) → EndTogether bounds SameValue n ps o p
+      → ((k : Names) (s t : State) → Grows n k → CleanSides bounds c k ps s t → EndTogether bounds SameValue k ps (f s) (g t)) → EndTogether bounds SameValue n ps (in_prog rec here a f o) (in_prog rec' (record here { levels = m; holder = h }) b g p)
   in_prog_ends n ps here m h a b f g s t _ _ r z y i d w fx gx (done k u v s' t' j x e) next = further_ends n k ps _ _ j (next k s' t' j (sides_on c n k ps s t s' t' i d.goes w.goes e))
   in_prog_ends n ps here m h a b f g s t _ _ r z y i d w fx gx (failed k q u v s' t' j x e) next = failed k q u v s' t' j x e
   in_prog_ends n ps here m h a b f g s t _ _ r z y i d w fx gx (went k x s' t' j e) next = further_ends n k ps _ _ j (jumped_ends k ps here m h a b x _ _ s' t' r (j.functions _ _ z) (tree_grows n k a b y j) (label_same k x a b (tree_grows n k a b y j)) (sides_on c n k ps s t s' t' i d.goes w.goes e))
@@ -429,19 +430,19 @@ module _ {bounds : Bounds} {compiler : Compiler} (c : Comparison) (cr : Compiler
 
   -- ---- definitions
 
-  pub own_ends : {P : List EntryPlace → Type 0} (n : Names) (ps : List EntryPlace) (i : ℕ) (s t : State) (f g : State → Outcome Value) → Sides bounds c P n ps s t → Alike bounds SameValue n ps (f s) (g t) → Alike bounds SameValue n ps (own_name i s f) (own_name i t g)
-  own_ends n ps i s t f g e h = choose_ends c n ps _ _ s t _ _ _ _ refl (fail_ends c n ps system_name _ _ s t e (same_id i)) h
+  pub own_ends : {P : List EntryPlace → Type 0} (n : Names) (ps : List EntryPlace) (i : ℕ) (s t : State) (f g : State → Outcome Value) → Sides bounds c P n ps s t → EndTogether bounds SameValue n ps (f s) (g t) → EndTogether bounds SameValue n ps (own_name i s f) (own_name i t g)
+  own_ends n ps i s t f g e h = choose_ends c n ps (is_system i) (is_system i) s t _ _ _ _ refl (fail_ends c n ps system_name _ _ s t e (same_id i)) h
 
   define_then : (v : Value) (i : ℕ) (kind : Kind) (p : Pointer) (s : State) → Goes s (compiler.defined v (define i kind p s))
   define_then v i kind p s = goes_trans s (define i kind p s) _ (one.define_goes i kind p s) (cr.defined_goes v (define i kind p s))
 
-  pub defined_ends : {P : List EntryPlace → Type 0} (n : Names) (ps : List EntryPlace) (form : Special) (i : ℕ) (s t : State) (o p : Outcome ℕ) → Sides bounds c P n ps s t → GoesOn s o → GoesOn t p → Alike bounds SameNumber n ps o p → Alike bounds SameValue n ps (function_defined rec form i o) (function_defined rec' form i p)
+  pub defined_ends : {P : List EntryPlace → Type 0} (n : Names) (ps : List EntryPlace) (form : Special) (i : ℕ) (s t : State) (o p : Outcome ℕ) → Sides bounds c P n ps s t → GoesOn s o → GoesOn t p → EndTogether bounds SameNumber n ps o p → EndTogether bounds SameValue n ps (function_defined rec form i o) (function_defined rec' form i p)
   defined_ends n ps form i s t o p side d w h =
       then_ends c n ps s t o p (λ f s. Done (Id i) (compiler.defined (Id i) (define i (kind_of_definition form) (pointer_to f) s))) (λ f s. Done (Id i) (compiler.defined (Id i) (define i (kind_of_definition form) (pointer_to f) s))) side d w
       (λ f s. record { goes = define_then (Id i) i (kind_of_definition form) (pointer_to f) s }) (λ f s. record { goes = define_then (Id i) i (kind_of_definition form) (pointer_to f) s }) h
       (λ k f g s t j e i'. done k (Id i) (Id i) _ _ (grows_refl k) (same_id i) (cr.defined k ps (Id i) (Id i) _ _ (same_id i) (two.define_ k ps i (kind_of_definition form) _ _ s t (whole_pointer k f g e.linked) i'.like)))
 
-  pub define_ends : {P : List EntryPlace → Type 0} (form : Special) (n : Names) (x y : Tree) → SameTree n x y → (ps : List EntryPlace) (l m : Levels) (s t : State) → Roomier bounds l m → Sides bounds c P n ps s t → Alike bounds SameValue n ps (define_function rec form l x s) (define_function rec' form m y t)
+  pub define_ends : {P : List EntryPlace → Type 0} (form : Special) (n : Names) (x y : Tree) → SameTree n x y → (ps : List EntryPlace) (l m : Levels) (s t : State) → Roomier bounds l m → Sides bounds c P n ps s t → EndTogether bounds SameValue n ps (define_function rec form l x s) (define_function rec' form m y t)
   define_ends form n _ _ (same_node _ _ _ _ (same_atom _ _ (same_id i)) (same_node a f b g h k)) ps l m s t r e =
       own_ends n ps i s t _ _ e (defined_ends n ps form i s t _ _ e (one.hold_part_goes (kind_of_definition form) l a f s) (one.hold_part_goes (kind_of_definition form) m b g t)
       (quiet_ends n ps s t _ _ e.like (two.hold_part_quiet (kind_of_definition form) l a f s) (two.hold_part_quiet (kind_of_definition form) m b g t) (two.hold_part_ n ps (kind_of_definition form) l m a b f g s t r h k e.like)))

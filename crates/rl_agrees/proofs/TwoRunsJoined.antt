@@ -315,8 +315,8 @@ shown_at x y p o e h = subst (λ w. HasShown x y w) e h
 -- ---- ends
 
 -- the second and the third from one state
-abbrev pub Follows : Bounds → Names → List EntryPlace → Outcome Value → Outcome Value → Type 0
-Follows bounds known qs = Related bounds (Leaves bounds) SameValue known qs
+abbrev pub BeginTogether : Bounds → Names → List EntryPlace → Outcome Value → Outcome Value → Type 0
+BeginTogether bounds known qs = Related bounds (Leaves bounds) SameValue known qs
 
 -- what was printed and noted by an event
 abbrev Front : Recorded → State → Outside → Type 0
@@ -328,13 +328,13 @@ module _ {bounds : Bounds} where
   seen_by_right o p q e (at_bound _ why t x h) = right_short o why t x (shown_at _ _ _ _ e h)
 
   -- what the third had printed and noted by its event, the second has
-  second_shows : (known : Names) (qs : List EntryPlace) (p q : Outcome Value) (w : Recorded) → (state_of q).watched.event ≡ Some w → Follows bounds known qs p q → Front w (state_of q) (state_of p).outside
+  second_shows : (known : Names) (qs : List EntryPlace) (p q : Outcome Value) (w : Recorded) → (state_of q).watched.event ≡ Some w → BeginTogether bounds known qs p q → Front w (state_of q) (state_of p).outside
   second_shows known qs p q w e g = at p q w e g
     where
       same : (s t : State) (w : Recorded) → s.outside ≡ t.outside → Front w t s.outside
       same s t w e = shown_at _ _ _ _ (sym e) (record { output = take_begins w.printed t.outside.output; notes = take_begins w.noted t.outside.notes })
 
-      at : (p q : Outcome Value) (w : Recorded) → (state_of q).watched.event ≡ Some w → Follows bounds known qs p q → Front w (state_of q) (state_of p).outside
+      at : (p q : Outcome Value) (w : Recorded) → (state_of q).watched.event ≡ Some w → BeginTogether bounds known qs p q → Front w (state_of q) (state_of p).outside
       at p q w e (done k a b s t x r l) = same s t w l.outside
       at p q w e (failed k z a b s t x r l) = same s t w l.outside
       at p q w e (went k x s t y l) = same s t w l.outside
@@ -368,7 +368,7 @@ module _ (known : Names) (qs : List EntryPlace) where
     past_event : (r : Recorded) → t.watched.event ≡ Some r → IsBegunBy (take r.printed t.outside.output) (take c.printed (state_of p).outside.output) → IsBegunBy (take r.noted t.outside.notes) (take c.noted (state_of p).outside.notes) → Past bounds why c p t
 
   module _ {bounds : Bounds} where
-    past : (c : Recorded) (p : Outcome Value) (why : Stop) (t : State) → IsShort why → length t.outside.output ≤ c.printed → length t.outside.notes ≤ c.noted → EventWithin t → Follows bounds known qs p (Stopped why t) → Past bounds why c p t
+    past : (c : Recorded) (p : Outcome Value) (why : Stop) (t : State) → IsShort why → length t.outside.output ≤ c.printed → length t.outside.notes ≤ c.noted → EventWithin t → BeginTogether bounds known qs p (Stopped why t) → Past bounds why c p t
     past c p why t short a b w (stopped _ s _ x) =
         let h : HasShown t.outside.output t.outside.notes s.outside = shown_at _ _ _ _ (sym x.outside) (shown_refl t.outside) in
         past_all (meeting why short x.may) (begins_cut c.printed _ _ h.output a) (begins_cut c.noted _ _ h.notes b)
@@ -382,19 +382,19 @@ module _ (known : Names) (qs : List EntryPlace) where
     join_past o p c why t h (past_all x a b) = right_short o why t x (record { output = begins_trans _ _ _ a h.output; notes = begins_trans _ _ _ b h.notes })
     join_past o p c why t h (past_event r e a b) = by_event o (Stopped why t) r e (record { output = begins_trans _ _ _ a h.output; notes = begins_trans _ _ _ b h.notes })
 
-    join_event : (o p q : Outcome Value) (c : Recorded) → EventWithin (state_of q) → Front c (state_of p) (state_of o).outside → IsForeseen c q → Follows bounds known qs p q → Parted bounds o q
+    join_event : (o p q : Outcome Value) (c : Recorded) → EventWithin (state_of q) → Front c (state_of p) (state_of o).outside → IsForeseen c q → BeginTogether bounds known qs p q → Parted bounds o q
     join_event o p q c v h (as_event _ w e a b) g =
         let f : IsBegunBy (take w.printed (state_of q).outside.output) (take c.printed (state_of p).outside.output) × IsBegunBy (take w.noted (state_of q).outside.notes) (take c.noted (state_of p).outside.notes) =
         front_of_front c w p q a b (second_shows known qs p q w e g) in
         by_event o q w e (record { output = begins_trans _ _ _ f.0 h.output; notes = begins_trans _ _ _ f.1 h.notes })
     join_event o p q c v h (past_bound why t x a b) g = join_past o p c why t h (past c p why t x a b v g)
 
-    join_right_short : (o q : Outcome Value) (why : Stop) (t : State) → IsMeeting bounds why → HasShown t.outside.output t.outside.notes (state_of o).outside → Follows bounds known qs (Stopped why t) q → Parted bounds o q
+    join_right_short : (o q : Outcome Value) (why : Stop) (t : State) → IsMeeting bounds why → HasShown t.outside.output t.outside.notes (state_of o).outside → BeginTogether bounds known qs (Stopped why t) q → Parted bounds o q
     join_right_short o q why t x h (stopped _ _ u f) = right_short o why u x (subst (λ (w : Outside). HasShown w.output w.notes (state_of o).outside) f.outside h)
     join_right_short o q why t x h (parted _ _ (at_event _ _ r y g)) = by_event o q r y (shown_trans _ _ t.outside _ g h)
     join_right_short o q why t x h (parted _ _ (at_bound _ other u y g)) = right_short o other u y (shown_trans _ _ t.outside _ g h)
 
-    join_left_short : (why : Stop) (s : State) (p q : Outcome Value) → IsLackingBound bounds why → HasShown s.outside.output s.outside.notes (state_of p).outside → Follows bounds known qs p q → Parted bounds (Stopped why s) q
+    join_left_short : (why : Stop) (s : State) (p q : Outcome Value) → IsLackingBound bounds why → HasShown s.outside.output s.outside.notes (state_of p).outside → BeginTogether bounds known qs p q → Parted bounds (Stopped why s) q
     join_left_short why s p q x h (done k a b t u y r l) = left_short why s q x (shown_at _ _ _ _ l.outside h)
     join_left_short why s p q x h (failed k z a b t u y r l) = left_short why s q x (shown_at _ _ _ _ l.outside h)
     join_left_short why s p q x h (went k y t u z l) = left_short why s q x (shown_at _ _ _ _ l.outside h)
@@ -409,19 +409,19 @@ module _ (known : Names) (qs : List EntryPlace) where
     short_past why s p c other t x a b (past_event r e f g) = short_by_event why s (Stopped other t) r x e (either_front _ _ _ f a) (either_front _ _ _ g b)
 
     join_short_event : (why : Stop) (s : State) (p q : Outcome Value) (c : Recorded) → IsLackingBound bounds why → EventWithin (state_of q)
-        → OneBegins (take c.printed (state_of p).outside.output) s.outside.output → OneBegins (take c.noted (state_of p).outside.notes) s.outside.notes → IsForeseen c q → Follows bounds known qs p q → Parted bounds (Stopped why s) q
+        → OneBegins (take c.printed (state_of p).outside.output) s.outside.output → OneBegins (take c.noted (state_of p).outside.notes) s.outside.notes → IsForeseen c q → BeginTogether bounds known qs p q → Parted bounds (Stopped why s) q
     join_short_event why s p q c x v a b (as_event _ w e i j) g =
         let f : IsBegunBy (take w.printed (state_of q).outside.output) (take c.printed (state_of p).outside.output) × IsBegunBy (take w.noted (state_of q).outside.notes) (take c.noted (state_of p).outside.notes) =
         front_of_front c w p q i j (second_shows known qs p q w e g) in
         short_by_event why s q w x e (either_front _ _ _ f.0 a) (either_front _ _ _ f.1 b)
     join_short_event why s p q c x v a b (past_bound other t y i j) g = short_past why s p c other t x a b (past c p other t y i j v g)
 
-    join_both_short : (why other : Stop) (s t : State) (q : Outcome Value) → IsLackingBound bounds why → IsMeeting bounds other → OneBegins t.outside.output s.outside.output → OneBegins t.outside.notes s.outside.notes → Follows bounds known qs (Stopped other t) q → Parted bounds (Stopped why s) q
+    join_both_short : (why other : Stop) (s t : State) (q : Outcome Value) → IsLackingBound bounds why → IsMeeting bounds other → OneBegins t.outside.output s.outside.output → OneBegins t.outside.notes s.outside.notes → BeginTogether bounds known qs (Stopped other t) q → Parted bounds (Stopped why s) q
     join_both_short why other s t q x y a b (stopped _ _ u f) = both_short why other s u x y (subst (λ (w : Outside). OneBegins w.output s.outside.output) f.outside a) (subst (λ (w : Outside). OneBegins w.notes s.outside.notes) f.outside b)
     join_both_short why other s t q x y a b (parted _ _ (at_event _ _ r z g)) = short_by_event why s q r x z (either_front _ _ _ g.output a) (either_front _ _ _ g.notes b)
     join_both_short why other s t q x y a b (parted _ _ (at_bound _ last u z g)) = both_short why last s u x z (either_front _ _ _ g.output a) (either_front _ _ _ g.notes b)
 
-    join_parted : (o p q : Outcome Value) → EventWithin (state_of q) → ((c : Recorded) → (state_of p).watched.event ≡ Some c → IsForeseen c q) → Parted bounds o p → Follows bounds known qs p q → Parted bounds o q
+    join_parted : (o p q : Outcome Value) → EventWithin (state_of q) → ((c : Recorded) → (state_of p).watched.event ≡ Some c → IsForeseen c q) → Parted bounds o p → BeginTogether bounds known qs p q → Parted bounds o q
     join_parted o p q v foreseen (by_event _ _ c e h) g = join_event o p q c v h (foreseen c e) g
     join_parted o p q v foreseen (right_short _ why t x h) g = join_right_short o q why t x h g
     join_parted o p q v foreseen (left_short why s _ x h) g = join_left_short why s p q x h g
@@ -443,32 +443,32 @@ module _ (n known : Names) (covers : Covers n known) where
   }
 
   module _ {bounds : Bounds} (ps qs : List EntryPlace) (w : IsWhole ps) (v : IsWhole qs) where
-    join_done : (m : Names) (a b : Value) (s t : State) (q : Outcome Value) → is_some t.counts.cells ≡ is_some (state_of q).counts.cells → Grows n m → SameValue m a b → Like bounds m ps s t → Follows bounds known qs (Done b t) q → EndsAgree bounds n qs (Done a s) q
+    join_done : (m : Names) (a b : Value) (s t : State) (q : Outcome Value) → is_some t.counts.cells ≡ is_some (state_of q).counts.cells → Grows n m → SameValue m a b → Like bounds m ps s t → BeginTogether bounds known qs (Done b t) q → EndsAgree bounds n qs (Done a s) q
     join_done m a b s t q e g r l (done k _ c _ u h r' l') = let once : Once k = record { objects = l'.store.once; functions = l'.functions.once } in
         done (names_through m k) a c s u (grows_through m k once g h) (value_joined m k once a b c r r') (like_joined m k ps qs s t u e w v l l')
     join_done m a b s t q e g r l (parted _ _ x) = parted _ _ (seen_by_right (Done a s) (Done b t) q (sym l.outside) x)
 
-    join_failed : (m : Names) (z : ℤ) (a b : Value) (s t : State) (q : Outcome Value) → is_some t.counts.cells ≡ is_some (state_of q).counts.cells → Grows n m → SameValue m a b → Like bounds m ps s t → Follows bounds known qs (Failed z b t) q → EndsAgree bounds n qs (Failed z a s) q
+    join_failed : (m : Names) (z : ℤ) (a b : Value) (s t : State) (q : Outcome Value) → is_some t.counts.cells ≡ is_some (state_of q).counts.cells → Grows n m → SameValue m a b → Like bounds m ps s t → BeginTogether bounds known qs (Failed z b t) q → EndsAgree bounds n qs (Failed z a s) q
     join_failed m z a b s t q e g r l (failed k _ _ c _ u h r' l') = let once : Once k = record { objects = l'.store.once; functions = l'.functions.once } in
         failed (names_through m k) z a c s u (grows_through m k once g h) (value_joined m k once a b c r r') (like_joined m k ps qs s t u e w v l l')
     join_failed m z a b s t q e g r l (parted _ _ x) = parted _ _ (seen_by_right (Failed z a s) (Failed z b t) q (sym l.outside) x)
 
-    join_went : (m : Names) (x : ℕ) (s t : State) (q : Outcome Value) → is_some t.counts.cells ≡ is_some (state_of q).counts.cells → Grows n m → Like bounds m ps s t → Follows bounds known qs (Went x t) q → EndsAgree bounds n qs (Went x s) q
+    join_went : (m : Names) (x : ℕ) (s t : State) (q : Outcome Value) → is_some t.counts.cells ≡ is_some (state_of q).counts.cells → Grows n m → Like bounds m ps s t → BeginTogether bounds known qs (Went x t) q → EndsAgree bounds n qs (Went x s) q
     join_went m x s t q e g l (went k _ _ u h l') = let once : Once k = record { objects = l'.store.once; functions = l'.functions.once } in
         went (names_through m k) x s u (grows_through m k once g h) (like_joined m k ps qs s t u e w v l l')
     join_went m x s t q e g l (parted _ _ y) = parted _ _ (seen_by_right (Went x s) (Went x t) q (sym l.outside) y)
 
-    join_returned : (m : Names) (a b : Value) (s t : State) (q : Outcome Value) → is_some t.counts.cells ≡ is_some (state_of q).counts.cells → Grows n m → SameValue m a b → Like bounds m ps s t → Follows bounds known qs (Returned b t) q → EndsAgree bounds n qs (Returned a s) q
+    join_returned : (m : Names) (a b : Value) (s t : State) (q : Outcome Value) → is_some t.counts.cells ≡ is_some (state_of q).counts.cells → Grows n m → SameValue m a b → Like bounds m ps s t → BeginTogether bounds known qs (Returned b t) q → EndsAgree bounds n qs (Returned a s) q
     join_returned m a b s t q e g r l (returned k _ c _ u h r' l') = let once : Once k = record { objects = l'.store.once; functions = l'.functions.once } in
         returned (names_through m k) a c s u (grows_through m k once g h) (value_joined m k once a b c r r') (like_joined m k ps qs s t u e w v l l')
     join_returned m a b s t q e g r l (parted _ _ x) = parted _ _ (seen_by_right (Returned a s) (Returned b t) q (sym l.outside) x)
 
-    join_stopped : (why : Stop) (s t : State) (q : Outcome Value) → SameStop bounds why s t → Follows bounds known qs (Stopped why t) q → EndsAgree bounds n qs (Stopped why s) q
+    join_stopped : (why : Stop) (s t : State) (q : Outcome Value) → SameStop bounds why s t → BeginTogether bounds known qs (Stopped why t) q → EndsAgree bounds n qs (Stopped why s) q
     join_stopped why s t q e (stopped _ _ u f) = stopped why s u (record { outside = e.outside ∙ f.outside; turns = e.turns ∙ f.turns; may = f.may })
     join_stopped why s t q e (parted _ _ x) = parted _ _ (seen_by_right (Stopped why s) (Stopped why t) q (sym e.outside) x)
 
     -- one run beside a second, and the second, from one state, beside a third
-    pub joined : (o p q : Outcome Value) → EventWithin (state_of q) → ((c : Recorded) → (state_of p).watched.event ≡ Some c → IsForeseen c q) → is_some (state_of p).counts.cells ≡ is_some (state_of q).counts.cells → EndsAgree bounds n ps o p → Follows bounds known qs p q → EndsAgree bounds n qs o q
+    pub joined : (o p q : Outcome Value) → EventWithin (state_of q) → ((c : Recorded) → (state_of p).watched.event ≡ Some c → IsForeseen c q) → is_some (state_of p).counts.cells ≡ is_some (state_of q).counts.cells → EndsAgree bounds n ps o p → BeginTogether bounds known qs p q → EndsAgree bounds n qs o q
     joined o p q inside foreseen e (done m a b s t g r l) h = join_done m a b s t q e g r l h
     joined o p q inside foreseen e (failed m z a b s t g r l) h = join_failed m z a b s t q e g r l h
     joined o p q inside foreseen e (went m x s t g l) h = join_went m x s t q e g l h

@@ -14,7 +14,7 @@ use Rattle.rl_meaning.specs.TwoRunsStates.{Bounds, EntryPlace, Like, Roomier}
 use Rattle.rl_meaning.specs.TwoRunsEnds.{EndsAgree, done}
 use Rattle.rl_agrees.specs.Laws.{CodeAgrees, WalksAgree}
 use Rattle.rl_agrees.proofs.TwoRunsKept.{Goes}
-use Rattle.rl_agrees.proofs.OneRun.{Follows, follows_same, LeadsAt, Leads}
+use Rattle.rl_agrees.proofs.OneRun.{IsBehind, follows_same, LeadsAt, Leads}
 use Rattle.rl_agrees.proofs.OneRunQuiet as quiet
 use Rattle.rl_agrees.proofs.OneRunQuiet.{quiet_steps}
 use Rattle.rl_agrees.proofs.OneRunGoes.{goes_steps, goes_prints}
@@ -48,7 +48,7 @@ use Rattle.rl_agrees.proofs.TwoRunsLoop as loop
 
 -- ---- one run
 
-here : (s : State) → Follows Goes s s
+here : (s : State) → IsBehind Goes s s
 here s = follows_same goes_steps s
 
 on : {A : Type 0} {s : State} {o : Outcome A} → Leads Goes s o → GoesOn s o
@@ -136,7 +136,7 @@ one = record {
 
 -- ---- two runs
 
-silent : (s : State) → Follows quiet.Quiet s s
+silent : (s : State) → IsBehind quiet.Quiet s s
 silent s = follows_same quiet_steps s
 
 still : {A : Type 0} {s : State} {o : Outcome A} → Leads quiet.Quiet s o → Quiet s o

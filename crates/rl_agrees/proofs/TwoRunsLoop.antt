@@ -11,7 +11,7 @@ use Rattle.rl_tree.specs.ErrorTexts.{error_text}
 use Rattle.rl_meaning.specs.Errors.{unreadable}
 use Rattle.rl_meaning.specs.Symbols.{symbol_at}
 use Rattle.rl_meaning.specs.Reach.{same_definition}
-use Rattle.rl_meaning.specs.Standing.{stands, all_stand}
+use Rattle.rl_meaning.specs.CodeInForce.{stands, all_stand}
 use Rattle.rl_meaning.specs.Holding.{pointer_to, function_at}
 use Rattle.rl_meaning.specs.Printing.{print_error}
 use Rattle.rl_meaning.specs.Input.{FormReading, Form, End, Unreadable, read_bytes}

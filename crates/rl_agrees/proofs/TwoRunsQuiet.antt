@@ -1,7 +1,7 @@
 -- Where neither of two runs side by side prints, they end alike or with what a stop asks for: so an error does.
 use Rattle.std.proofs.Common.{◌≡◌, ◌≤◌, ◌-◌, ◌∙◌, nat_le, ℕ, Bool, true, false, List, [], drop, take, Option, Some, None, refl, sym, subst, arith}
 use Rattle.std.proofs.lemmas.Bool.Decides.{nat_tests}
-use Rattle.std.proofs.lemmas.List.{append-nil_value_of_state, take-append-drop}
+use Rattle.std.proofs.lemmas.List.{append-nil, take-append-drop}
 use Rattle.rl_tree.specs.Value.{Value}
 use Rattle.rl_meaning.specs.State.{State, Outside, Expansion}
 use Rattle.rl_meaning.specs.Outcome.{Outcome, Done, Failed, Went, Returned, Stopped, Depth, then_do, Levels, in_levels, deeper, run_room, expansion_room, cells_within, expansion_within, room, made_pair}
@@ -27,7 +27,7 @@ abbrev pub Shows : {A : Type 0} → Outside → Outcome A → Type 0
 Shows x o = HasShown x.output x.notes (state_of o).outside
 
 begins_same : (xs : List ℕ) → IsBegunBy xs xs
-begins_same xs = record { rest = []; is = sym (append-nil_value_of_state xs) }
+begins_same xs = record { rest = []; is = sym (append-nil xs) }
 
 pub begins_taken : (i : ℕ) (xs : List ℕ) → IsBegunBy (take i xs) xs
 begins_taken i xs = record { rest = drop i xs; is = sym (take-append-drop i xs) }

@@ -6,7 +6,7 @@ use Rattle.rl_tree.specs.Value.{Object, Store}
 use Rattle.rl_meaning.specs.State.{State, Coded, Held, Pointer, Function, HeldFunction}
 use Rattle.rl_meaning.specs.Constants.{last_change_of}
 use Rattle.rl_meaning.specs.Holding.{no_function, function_in, function_at}
-use Rattle.rl_meaning.specs.Standing.{all_stand}
+use Rattle.rl_meaning.specs.CodeInForce.{all_stand}
 use Rattle.rl_meaning.specs.Compiling.{Compiler}
 use Rattle.rl_meaning.specs.Right.{Stood, is_later, AsItStood, AllAsTheyStood}
 use Rattle.rl_agrees.specs.Later.{IsMore, IsNoted, StaysOrNoted, NotedBefore, IsMemberOf, first, further, Later}

@@ -1,5 +1,5 @@
 -- A function with code that is right, the identity, and a state that has it: so what is asked of codes can be met (this project's).
-use Rattle.std.specs.Prelude.{◌≡◌, ℕ, true, false, List, [], ◌∷◌, ◌++◌, length, codes, Option, Some}
+use Rattle.std.specs.Prelude.{◌≡◌, ℕ, true, false, List, [], ◌∷◌, ◌++◌, length, codes, Option, Some, None}
 use Rattle.rl_tree.specs.Value.{Id}
 use Rattle.rl_tree.specs.declared.held.Kind.TheVariants.{Expr}
 use Rattle.rl_tree.specs.declared.held.VarKind.TheVariants.{Plain}
@@ -41,7 +41,7 @@ pub record IsPlainVariable (kept : List Kept) (x : ℕ) : Type 0 where
   pub constant : is_constant x ≡ false
   pub plain : kept_kind kept x ≡ Plain
 
--- before the prelude, with one more function, (LAMBDA (X) X), the definition of one more name, and with its code
+-- before the prelude, with one more function, (LAMBDA (X) X), the definition of one more name, and with its code; its cells have no bound
 abbrev pub identity_pointer : Pointer
 identity_pointer = pointer_to (length bare_state.functions)
 
@@ -55,7 +55,7 @@ abbrev pub identity_symbol : Symbol
 identity_symbol = record (new_symbol (codes "IDENTITY") true) { definition = Some (record { kind = Expr; function = identity_pointer }) }
 
 abbrev pub identity_state : ℕ → State
-identity_state x = with_coded (identity_coded identity_name identity_pointer) (record (with_function (HeldFunction (identity_of x (identity_kept x))) bare_state) { symbols = bare_state.symbols ++ identity_symbol ∷ [] })
+identity_state x = with_coded (identity_coded identity_name identity_pointer) (record (with_function (HeldFunction (identity_of x (identity_kept x))) bare_state) { symbols = bare_state.symbols ++ identity_symbol ∷ []; counts = record bare_state.counts { cells = None } })
 
 pub record ACodeIsRight : Type 0 where
   -- the code of the identity is right, whatever its name and its variable, which may be bound

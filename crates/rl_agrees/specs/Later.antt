@@ -2,7 +2,7 @@
 use Rattle.std.specs.Prelude.{◌≡◌, ◌⊎◌, ◌≤◌, ◌<◌, ℕ, true, List, ◌∷◌, ◌++◌, length, slice_get, Some}
 use Rattle.rl_meaning.specs.State.{State, Coded, Recorded}
 use Rattle.rl_meaning.specs.Constants.{last_change_of}
-use Rattle.rl_meaning.specs.Standing.{all_stand}
+use Rattle.rl_meaning.specs.CodeInForce.{all_stand}
 
 -- one list begins with another
 pub record IsMore {A : Type 0} (old new : List A) : Type 0 where

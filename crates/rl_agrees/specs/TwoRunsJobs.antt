@@ -4,7 +4,7 @@ use Rattle.rl_tree.specs.Value.{Value}
 use Rattle.rl_meaning.specs.State.{State, Code, Coded, Kept, Held, Pointer, Tree, HeldFunction, Recorded}
 use Rattle.rl_meaning.specs.Outcome.{Levels}
 use Rattle.rl_meaning.specs.Holding.{function_at}
-use Rattle.rl_meaning.specs.Standing.{all_stand}
+use Rattle.rl_meaning.specs.CodeInForce.{all_stand}
 use Rattle.rl_meaning.specs.Evaluation.{Position, Here, Bound, Machine, Frame, Job, Run, Onward, Call_, From, In}
 use Rattle.rl_meaning.specs.Compiling.{Compiler}
 use Rattle.rl_meaning.specs.TwoRunsLinks.{Linked}

@@ -3,6 +3,7 @@ mod RowsForms
 mod RowsConstants
 mod RowsCounts
 mod RowsPrinting
+mod RowsOpening
 mod RowsPrelude
 mod RowsExamples
 mod RowsCode

@@ -16,7 +16,7 @@ use Rattle.rl_meaning.specs.Evaluation.{with_expansion, walked}
 use Rattle.rl_meaning.specs.Machine.{run_code}
 use Rattle.rl_meaning.specs.Jobs.{job, jobs, the_compiler}
 use Rattle.rl_meaning.specs.Opening.{bare_state, state_of}
-use Rattle.rl_meaning.specs.Seen.{run_from, lines, of_name, pointer_of_name, WrittenCode, with_code, rests_on_nothing, state_behind, after_with_code, printed_from}
+use Rattle.rl_meaning.specs.ExampleRuns.{run_from, lines, of_name, pointer_of_name, WrittenCode, with_code, rests_on_nothing, state_behind, after_with_code, printed_from}
 
 abbrev eight_code : WrittenCode
 eight_code s i = Entry i 0 ∷ Load 1 (Constant (Int (pos 8))) ∷ Exit ∷ []

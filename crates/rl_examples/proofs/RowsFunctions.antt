@@ -14,7 +14,7 @@ use Rattle.rl_meaning.specs.Holding.{pointer_value}
 use Rattle.rl_meaning.specs.Jobs.{job}
 use Rattle.rl_meaning.specs.Opening.{bare_state}
 use Rattle.rl_meaning.specs.Run.{RunEnding, Finished, Stops}
-use Rattle.rl_meaning.specs.Seen.{run_of, printed_text, bounds_of_levels, lines, of_name, pointer_of_name, part_of_object, state_behind, printed_from, both_ways, twice, finished}
+use Rattle.rl_meaning.specs.ExampleRuns.{run_of, printed_text, bounds_of_levels, lines, of_name, pointer_of_name, part_of_object, state_behind, printed_from, both_ways, twice, finished}
 
 -- ---- one function pointer for each place in a held body
 

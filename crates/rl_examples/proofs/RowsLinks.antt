@@ -13,7 +13,7 @@ use Rattle.rl_meaning.specs.Symbols.{nil_value_of_state}
 use Rattle.rl_meaning.specs.Jobs.{job}
 use Rattle.rl_meaning.specs.Opening.{bare_state}
 use Rattle.rl_meaning.specs.Run.{Stops}
-use Rattle.rl_meaning.specs.Seen.{Seen, run_from, lines, of_name, part_of_object, WrittenCode, state_behind, after_with_code, seen_from, printed_from, both_ways, twice, finished}
+use Rattle.rl_meaning.specs.ExampleRuns.{SeenOfRun, run_from, lines, of_name, part_of_object, WrittenCode, state_behind, after_with_code, seen_from, printed_from, both_ways, twice, finished}
 
 -- ---- copies
 
@@ -120,7 +120,7 @@ unfolding bare_state opening_rows byte_names special_rows native_rows digits err
 a_definition_by_a_made_list = refl
 
 -- the argument list is the value of V, beside the form that has it
-abbrev by_list : List ℕ → List ℕ → Seen × Seen
+abbrev by_list : List ℕ → List ℕ → SeenOfRun × SeenOfRun
 by_list args forms = let define_it = codes "(SETQ V '" ++ (args ++ (codes ") (DE F NIL (DE . " ++ (args ++ codes "))"))) in
     both_ways define_it (codes "F") (λ s i. Entry i 0 ∷ Load 1 (Variable (of_name s (codes "V"))) ∷ Link (of_name s (codes "DE")) 1 ∷ Exit ∷ []) forms
 

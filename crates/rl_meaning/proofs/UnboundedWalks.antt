@@ -7,19 +7,19 @@ use Rattle.rl_meaning.specs.Symbols.{same, pair_at, vector_at}
 use Rattle.rl_meaning.specs.Constants.{reading_object}
 use Rattle.rl_meaning.specs.Walks.{Further, Goes, Ends, Walked, walk_on, walk_pair, walk_within, walk, Comparison, both, reading_both, places_equal, vectors_equal, objects_equal, equal_at, equal_within, equal}
 use Rattle.rl_meaning.specs.WalkLaws.{LeavesAtMost, GivesNoTurnsBack, no_turn, AreWalksUnbounded, equal_parts, IsEqualUnbounded}
-use Rattle.rl_meaning.proofs.Spending.{InnerFalls, Falls, Spends}
-use Rattle.rl_meaning.proofs.SpendingWalks.{equal_within_spends, equal_spends}
+use Rattle.rl_meaning.proofs.CountsFall.{IsNoMoreInside, AreNoMore, LeavesNoMore}
+use Rattle.rl_meaning.proofs.CountsFallInWalks.{equal_within_spends, equal_spends}
 
 -- ---- what takes from the counts gives no turns back
 
-left_falls : (d c : Option Expansion) (m n : ℕ) → InnerFalls d c → m ≤ n → turns_of d m ≤ turns_of c n
+left_falls : (d c : Option Expansion) (m n : ℕ) → IsNoMoreInside d c → m ≤ n → turns_of d m ≤ turns_of c n
 left_falls None None m n h le = le
 left_falls (Some d) (Some c) m n h le = h.0
 left_falls None (Some c) m n h le = absurd h
 left_falls (Some d) None m n h le = absurd h
 
-leaves_at_most : {A : Type 0} (s : State) (o : Outcome A) → Spends s.counts o → LeavesAtMost (turns_left s) o
-leaves_at_most s (Done a t) h = let f : Falls t.counts s.counts = h.leaves in left_falls t.counts.expansion s.counts.expansion t.counts.turns s.counts.turns f.inner f.run
+leaves_at_most : {A : Type 0} (s : State) (o : Outcome A) → LeavesNoMore s.counts o → LeavesAtMost (turns_left s) o
+leaves_at_most s (Done a t) h = let f : AreNoMore t.counts s.counts = h.leaves in left_falls t.counts.expansion s.counts.expansion t.counts.turns s.counts.turns f.inner f.run
 leaves_at_most s (Failed n m t) h = tt
 leaves_at_most s (Went l t) h = tt
 leaves_at_most s (Returned v t) h = tt

@@ -15,7 +15,7 @@ use Rattle.rl_meaning.specs.Holding.{hold_function, fits_kind, pointer_value, po
 use Rattle.rl_meaning.specs.Properties.{of_identifier, for_identifier, for_each}
 use Rattle.rl_meaning.specs.Variables.{assigned_by_name}
 use Rattle.rl_meaning.specs.Reach.{with_change}
-use Rattle.rl_meaning.specs.Standing.{with_standing_codes}
+use Rattle.rl_meaning.specs.CodeInForce.{with_standing_codes}
 
 -- EXPR, FEXPR and MACRO, by their numbers among the identifiers of opening
 abbrev pub kind_named : ℕ → Option Kind

@@ -12,7 +12,7 @@ pub mod Walks
 pub mod Holding
 pub mod Copying
 pub mod Reach
-pub mod Standing
+pub mod CodeInForce
 pub mod Compiling
 pub mod Variables
 pub mod Numbers
@@ -40,4 +40,4 @@ pub mod Tidy
 pub mod Run
 pub mod Laws
 pub mod WalkLaws
-pub mod Seen
+pub mod ExampleRuns

@@ -1,6 +1,7 @@
 -- The state at opening: the system's identifiers and functions, and the prelude, whose texts are read and held.
-use Rattle.std.specs.Prelude.{ℕ, suc, ◌==◌, true, false, if◌then◌else◌, List, [], ◌∷◌, ◌++◌, codes, filter_map, Option, Some, None}
-use Rattle.rl_tags.specs.Opening.{byte_names, opening_names}
+use Rattle.std.specs.Prelude.{ℕ, suc, ◌+◌, ◌-◌, ◌==◌, true, false, if◌then◌else◌, List, [], ◌∷◌, ◌++◌, codes, filter_map, sum_by, Option, Some, None}
+use Rattle.rl_tags.specs.Opening.{byte_names, opening_names, names_at_opening}
+use Rattle.rl_tree.specs.ErrorTexts.{error_texts}
 use Rattle.rl_tree.specs.Value.{Value, Id}
 use Rattle.rl_tree.specs.Name.{Name}
 use Rattle.rl_tree.specs.declared.held.Kind.{Kind}
@@ -9,7 +10,7 @@ use Rattle.rl_tree.specs.declared.held.VarKind.{VarKind}
 use Rattle.rl_tree.specs.declared.held.VarKind.TheVariants.{Plain, Global}
 use Rattle.rl_meaning.specs.Names.{Special, special_named, native_named}
 use Rattle.rl_meaning.specs.State.{State, Symbol, Definition, Function, SpecialForm, NativeFunction}
-use Rattle.rl_meaning.specs.Outcome.{Outcome, Done, Failed, Went, Returned, Stopped, then_do}
+use Rattle.rl_meaning.specs.Outcome.{Outcome, Done, Failed, Went, Returned, Stopped, then_do, string_cost}
 use Rattle.rl_meaning.specs.Symbols.{nil_value_of_state, message_id, is_constant, new_symbol, car_at, cdr_at}
 use Rattle.rl_meaning.specs.Holding.{hold_function, pointer_to}
 use Rattle.rl_meaning.specs.Definitions.{define}
@@ -62,6 +63,13 @@ byte_symbols (name ∷ names) = new_symbol name true ∷ byte_symbols names
 abbrev pub opening_turns : ℕ
 opening_turns = 1000000
 
+-- the cells that opening has, and those that its names and the texts of errors take
+abbrev pub opening_cells : ℕ
+opening_cells = 65536
+
+abbrev pub cells_before_prelude : ℕ
+cells_before_prelude = sum_by (λ name. 3 + string_cost name) names_at_opening + sum_by string_cost error_texts
+
 -- before the prelude
 unfoldable pub bare_state : State
 bare_state = record {
@@ -69,7 +77,7 @@ bare_state = record {
   symbols = symbols_from 0 0 opening_names ++ byte_symbols byte_names;
   functions = filter_map system_function opening_names;
   bindings = [];
-  counts = record { given = opening_turns; turns = opening_turns; cells = None; expansion = None };
+  counts = record { given = opening_turns; turns = opening_turns; cells = Some (opening_cells - cells_before_prelude); expansion = None };
   outside = record { files = λ name. None; input = []; taken = 0; output = []; column = 0; line_length = 80; notes = [] };
   gensyms = 0;
   watched = record { changes = []; event = None };

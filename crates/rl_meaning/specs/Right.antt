@@ -10,7 +10,7 @@ use Rattle.rl_meaning.specs.Symbols.{same, is_constant}
 use Rattle.rl_meaning.specs.Constants.{is_among, objects_of, constants_in, constants_of, last_change_of}
 use Rattle.rl_meaning.specs.Holding.{kept_kind, function_at, form_at}
 use Rattle.rl_meaning.specs.Reach.{Reached, reach_of}
-use Rattle.rl_meaning.specs.Standing.{all_stand}
+use Rattle.rl_meaning.specs.CodeInForce.{all_stand}
 use Rattle.rl_meaning.specs.Evaluation.{walked}
 use Rattle.rl_meaning.specs.Machine.{run_code}
 use Rattle.rl_meaning.specs.Compiling.{Compiler}
