@@ -15,7 +15,7 @@ abbrev cells_left : Outcome (Unit {0}) → Option ℕ
 cells_left (Done a s) = s.counts.cells
 cells_left other = None
 
-cells_of_opening : cells_left (define_texts prelude_texts bare_state) ≡ Some 60000
+cells_of_opening : cells_left (define_texts prelude_texts bare_state) ≡ Some 61544
 unfolding prelude_texts bare_state opening_rows byte_names special_rows native_rows digits error_texts job
 cells_of_opening = refl
 
