@@ -14,5 +14,4 @@ pub fn unbuilt_files_spell_no_built_forms()
 /// Where all of a text was appended to a sink, or nothing, a front of it was.
 pub fn all_and_nothing_are_fronts()
     ensures { AllAndNothingAreFronts }
-{
-}
+{}

@@ -281,7 +281,7 @@ pub entered_calls : (law : AreCellLaws) (w r : World) (name : Name) (some : 1 �
     → (record r { cells = cs; syms = names } ≡ entered_world law w name some short i free) × (v ≡ new_id w.cells name)
 entered_calls law w r name some short i free cs names v e =
     subst (λ (y : World). (Finds y.cells cs y.syms.head names.head name v) ⊎ (Enters y.cells cs y.syms.head names.head name v) → names.made ≡ y.syms.made
-        → (record y { cells = cs; syms = names } ≡ entered_world law w name some short i free) × (v ≡ new_id w.cells name)) (sym e)
+    → (record y { cells = cs; syms = names } ≡ entered_world law w name some short i free) × (v ≡ new_id w.cells name)) (sym e)
     (λ both made. let enters = enters_alone w.cells cs w.syms.head names.head name v free both in (entered_final law w name some short i free cs names v enters made, enters.place))
 
 pub entered_ends : (law : AreCellLaws) (w r : World) (name : Name) (some : 1 ≤ length name) (short : length name ≤ 255) (i : IsWorld w) (free : IsFree w.cells.cells w.syms.head name) (cs : cell.CellStore) (names : Syms) (v : Tagged)

@@ -107,16 +107,16 @@ found_name law ids w name id t named s shown =
     let z : 0 + ids_before cells k ≡ ids_before cells k = omega arith in
     named_first 0 name s.symbols (ids_before cells k) (new_symbol [] false) within (named_here w name k is named.interned.1 named.name_is s shown)
     (λ j l. false_unless (matches name (symbol_at s j)) (λ h.
-        let other = has_this_name law w name j s shown (omega (arith, within)) h in
-        let same : other.place ≡ k = t.chained.distinct other.place k other.among named.interned.1 (other.named ∙ sym named.name_is) in
-        let number : j ≡ ids_before cells k = sym other.number ∙ ap (ids_before cells) same in
-        absurd (omega (arith, number))))
+    let other = has_this_name law w name j s shown (omega (arith, within)) h in
+    let same : other.place ≡ k = t.chained.distinct other.place k other.among named.interned.1 (other.named ∙ sym named.name_is) in
+    let number : j ≡ ids_before cells k = sym other.number ∙ ap (ids_before cells) same in
+    absurd (omega (arith, number))))
     ∙ ap Some z
 
 pub free_name : (law : IdentifiersAreNumbered) (w : World) (name : Name) → IsFree w.cells.cells w.syms.head name → (s : State) → ShowsState w s → named_from 0 name s.symbols ≡ None
 free_name law w name free s shown =
     named_nowhere 0 name s.symbols (new_symbol [] false) (λ j l. false_unless (matches name (symbol_at s j)) (λ h.
-        let other = has_this_name law w name j s shown l h in free.other other.place other.among other.named))
+    let other = has_this_name law w name j s shown l h in free.other other.place other.among other.named))
 
 -- what an interned identifier means
 pub named_means : (cells : List Cell) (head : Option Tagged) (name : Name) (id : Tagged) → IsNamed cells head name id → value_of cells id ≡ Id (number_in cells id)

@@ -236,18 +236,20 @@ pub turn_means : (w x : World) → x ≡ record w { counts = ticked w.counts } �
 turn_means w x e i h s shown = subst (λ y. MeansDone s (turn s (λ t. Done tt t)) (Ok tt) y) (sym e) (record {
   state = record s { counts = counts_in w.cells (ticked w.counts) };
   is = turn_done w.cells w.counts s (λ t. Done tt t) i.running shown.counts h;
-  good = record { shows = record {
-    store = shown.store;
-    symbols = record { many = shown.symbols.many; symbols = shown.symbols.symbols; values = shown.symbols.values };
-    counts = refl;
-    gensyms = shown.gensyms;
-    column = shown.column;
-    line_length = shown.line_length;
-    taken = shown.taken;
-    free = shown.free;
-    bound = shown.bound;
+  good = record {
+    shows = record {
+      store = shown.store;
+      symbols = record { many = shown.symbols.many; symbols = shown.symbols.symbols; values = shown.symbols.values };
+      counts = refl;
+      gensyms = shown.gensyms;
+      column = shown.column;
+      line_length = shown.line_length;
+      taken = shown.taken;
+      free = shown.free;
+      bound = shown.bound;
+    };
+    stays = record { functions = record { functions = refl; compilation = refl }; bindings = record { entries = refl; hidden = λ i b h. refl }; outside = refl };
   };
-  stays = record { functions = record { functions = refl; compilation = refl }; bindings = record { entries = refl; hidden = λ i b h. refl }; outside = refl } };
 })
 
 expanding_ticked : (cells : List Cell) (k : counted.WorldCounts) → k.opening ≡ None → ForSome k.outermost (λ e. is_id cells e.name ≡ true) → ForSome (ticked k).outermost (λ e. is_id cells e.name ≡ true)

@@ -187,7 +187,7 @@ cell_shown law w new id o i h sets s t shown r =
     set_shown w new s t sets.rest i shown
     (symbols_set law old new head t sets.rest (r.many ∙ shown.symbols.many)
     (λ j is. r.symbols (ids_before old j) ∙ ap (λ (y : meaning.Symbol). record y { top = (symbols.symbol_at t (ids_before old j)).top }) (shown.symbols.symbols j is)
-        ∙ sym (symbol_like old new head head j (symbols.symbol_at t (ids_before old j)).top (value_symbol old new head k j o here)))
+    ∙ sym (symbol_like old new head head j (symbols.symbol_at t (ids_before old j)).top (value_symbol old new head k j o here)))
     (λ j is. value j is (j == k) refl here))
     r.store r.counts r.gensyms r.outside r.free r.bound
   where

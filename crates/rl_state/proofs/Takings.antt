@@ -17,13 +17,13 @@ takes_then a b c R P g h = record {
       (λ before now. (a.world.input.ended ≡ true → before ≡ []) → c.world.input.ended ≡ true → now ≡ [])
       (λ x y z p q. λ f. q (p f)) g.dry h.dry;
   ended = λ t.
-    let first = g.ended t in
-    let second = h.ended first.1 in
-    (ap (λ (l : List ℕ). l ++ h.bytes) first.0 ∙ second.0, second.1);
+      let first = g.ended t in
+      let second = h.ended first.1 in
+      (ap (λ (l : List ℕ). l ++ h.bytes) first.0 ∙ second.0, second.1);
   means = λ at rest s t only.
-    let r = g.means at (h.bytes ++ rest) s (subst (λ (l : List ℕ). Ties at a l s) (append_assoc g.bytes h.bytes rest) t)
-        (λ e. let second = h.ended e in ap (λ (l : List ℕ). l ++ rest) second.0 ∙ only second.1) in
-    record { mid = r.0; first = r.1; second = h.means at rest r.0 r.2 only };
+      let r = g.means at (h.bytes ++ rest) s (subst (λ (l : List ℕ). Ties at a l s) (append_assoc g.bytes h.bytes rest) t)
+      (λ e. let second = h.ended e in ap (λ (l : List ℕ). l ++ rest) second.0 ∙ only second.1) in
+      record { mid = r.0; first = r.1; second = h.means at rest r.0 r.2 only };
 }
 
 pub takes_kept : (a b c : WorldAndTold) (P Q : ToldAtStart → List ℕ → State → Type 0) → TakesInput a b P → TakesNothing b c → ((at : ToldAtStart) (rest : List ℕ) (s : State) → P at rest s → Q at rest s) → TakesInput a c Q

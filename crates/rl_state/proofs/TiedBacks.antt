@@ -52,6 +52,6 @@ sees a c x o i n b e h is world back = record {
   dry = subst (λ (y : World). WhereTold a.source c.source (λ before now. (a.world.input.ended ≡ true → before ≡ []) → y.input.ended ≡ true → now ≡ [])) (sym world) h.dry;
   ended = λ t. let r = h.ended t in (r.0, ap (λ (y : World). y.input.ended) world ∙ r.1);
   means = λ at rest s t only.
-    let r = subst (λ (n : Option ℕ). EndsTied (GivesNext n) c at rest s) e (h.means at rest s t (λ f. only (ap (λ (y : World). y.input.ended) world ∙ f))) in
-    (s, (r.1.0, refl), subst (λ (y : State). Ties at (and_told x o i) rest y) (ap (given_back b) r.1.1 ∙ back_same s b r.1.0.0 r.1.0.1) (back at rest r.0 r.2));
+      let r = subst (λ (n : Option ℕ). EndsTied (GivesNext n) c at rest s) e (h.means at rest s t (λ f. only (ap (λ (y : World). y.input.ended) world ∙ f))) in
+      (s, (r.1.0, refl), subst (λ (y : State). Ties at (and_told x o i) rest y) (ap (given_back b) r.1.1 ∙ back_same s b r.1.0.0 r.1.0.1) (back at rest r.0 r.2));
 }

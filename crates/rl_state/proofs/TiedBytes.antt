@@ -85,7 +85,7 @@ came_told : (back b : Option ℕ) (ended : Bool) (i j : Option (List ℕ)) → (
 came_told (Some c) b ended i j gives none unread unended = subst (λ (t : Option (List ℕ)). WhereTold i t (λ before now. before ≡ now)) (sym unread) (told_first i (λ before now. before ≡ now) (λ x. refl))
 came_told None b true i j gives none unread unended =
     subst (λ (b : Option ℕ). WhereTold i j (λ before now. before ≡ came None b ++ now)) (sym (none refl refl))
-        (subst (λ (t : Option (List ℕ)). WhereTold i t (λ before now. before ≡ now)) (sym (unended refl)) (told_first i (λ before now. before ≡ now) (λ x. refl)))
+    (subst (λ (t : Option (List ℕ)). WhereTold i t (λ before now. before ≡ now)) (sym (unended refl)) (told_first i (λ before now. before ≡ now) (λ x. refl)))
 came_told None None false i j gives none unread unended = told_mapped i j (λ before now. Gives before now None) (λ before now. before ≡ now) (λ before now g. g.0 ∙ sym g.1) (gives refl refl)
 came_told None (Some b) false i j gives none unread unended = gives refl refl
 
@@ -192,15 +192,18 @@ next w x b o p i j e place gives none back unread unended f =
       dry = subst (λ (n : Input). WhereTold i j (λ before now. (w.input.ended ≡ true → before ≡ []) → n.ended ≡ true → now ≡ [])) (sym place) (came_dry w.input.back b w.input.ended i j back gives unread unended);
       ended = λ t. let r = came_ended w.input.back b w.input.ended none t in (r.0, end ∙ r.1);
       means = λ at rest s h only.
-        let fits = came_fits w.input.back b w.input.ended s.outside.input rest back (λ t. only (end ∙ t)) h.input in
-        (after_byte b s, (fits, refl), record {
-          shows = shows_taken w x b s e (count_next b s w.input.given fits h.few h.shows.taken ∙ sym (ap (λ (n : Input). n.given) place)) h.shows;
-          output = subst (λ (l : List ℕ). IsPrintedBefore at.out p x.output.waiting l) (sym (output_stays b s)) (out_flushed at.out o p w.output.waiting x.output.waiting s.outside.output h.output f (ap (λ (y : World). y.output.waiting) e));
-          input = rest_is b s ∙ came_rest w.input.back b s.outside.input rest back h.input ∙ ap (λ (n : Input). with_back n.back rest) (sym place);
-          left = told_through at.source i j (λ before left. left ≡ came w.input.back b ++ rest) (λ before now. before ≡ came w.input.back b ++ now) (λ before left. left ≡ rest) (λ x y z p q. came_left w.input.back b z rest (sym q ∙ p)) h.left told;
-          ended = only;
-          few = few_next b s fits h.few;
-        });
+          let fits = came_fits w.input.back b w.input.ended s.outside.input rest back (λ t. only (end ∙ t)) h.input in (
+            after_byte b s,
+            (fits, refl),
+            record {
+              shows = shows_taken w x b s e (count_next b s w.input.given fits h.few h.shows.taken ∙ sym (ap (λ (n : Input). n.given) place)) h.shows;
+              output = subst (λ (l : List ℕ). IsPrintedBefore at.out p x.output.waiting l) (sym (output_stays b s)) (out_flushed at.out o p w.output.waiting x.output.waiting s.outside.output h.output f (ap (λ (y : World). y.output.waiting) e));
+              input = rest_is b s ∙ came_rest w.input.back b s.outside.input rest back h.input ∙ ap (λ (n : Input). with_back n.back rest) (sym place);
+              left = told_through at.source i j (λ before left. left ≡ came w.input.back b ++ rest) (λ before now. before ≡ came w.input.back b ++ now) (λ before left. left ≡ rest) (λ x y z p q. came_left w.input.back b z rest (sym q ∙ p)) h.left told;
+              ended = only;
+              few = few_next b s fits h.few;
+            },
+          );
     }
 
 -- ---- a state for each world
@@ -220,21 +223,25 @@ coming_shows shown w coming = let h = shown w in record {
 
 pub is_tied : WorldIsShown → EachWorldTies
 unfolding state_in
-is_tied shown w coming ended few o = (with_coming w coming, record {
-  shows = coming_shows shown w coming;
-  output = tt;
-  input = refl;
-  left = tt;
-  ended = ended;
-  few = few;
-}, record {
-  shows = coming_shows shown w coming;
-  output = tt;
-  input = refl;
-  left = refl;
-  ended = ended;
-  few = few;
-})
+is_tied shown w coming ended few o = (
+  with_coming w coming,
+  record {
+    shows = coming_shows shown w coming;
+    output = tt;
+    input = refl;
+    left = tt;
+    ended = ended;
+    few = few;
+  },
+  record {
+    shows = coming_shows shown w coming;
+    output = tt;
+    input = refl;
+    left = refl;
+    ended = ended;
+    few = few;
+  },
+)
 
 pub unread_as : {A B : Type 0} (back : Option ℕ) (x y : A) (f : A → B) → IfSome back (λ c. x ≡ y) → IfSome back (λ c. f x ≡ f y)
 unread_as None x y f e = tt

@@ -32,8 +32,11 @@ whole_run law R w x o p i j empty new done h = record {
   bytes = h.bytes;
   taken = h.told;
   printed = λ few.
-    let r = h.means (record { out = o; source = None }) [] (with_coming w (h.bytes ++ [])) (tie_start law w o i None (h.bytes ++ []) empty new tt (subst (λ (l : List ℕ). length l < 2 ^ 64) (sym (append-nil h.bytes)) few)) (λ t. refl) in
-    let first : R (with_coming w h.bytes) r.0 = subst (λ (l : List ℕ). R (with_coming w l) r.0) (append-nil h.bytes) r.1 in
-    (r.0, first, told_mapped o p (λ before held. before ++ r.0.outside.output ≡ held ++ x.output.waiting) (λ before now. now ≡ before ++ r.0.outside.output)
-        (λ before held e. sym (append-nil held) ∙ ap (λ (l : List ℕ). held ++ l) (sym done) ∙ sym e) r.2.output);
+      let r = h.means (record { out = o; source = None }) [] (with_coming w (h.bytes ++ [])) (tie_start law w o i None (h.bytes ++ []) empty new tt (subst (λ (l : List ℕ). length l < 2 ^ 64) (sym (append-nil h.bytes)) few)) (λ t. refl) in
+      let first : R (with_coming w h.bytes) r.0 = subst (λ (l : List ℕ). R (with_coming w l) r.0) (append-nil h.bytes) r.1 in (
+        r.0,
+        first,
+        told_mapped o p (λ before held. before ++ r.0.outside.output ≡ held ++ x.output.waiting) (λ before now. now ≡ before ++ r.0.outside.output)
+            (λ before held e. sym (append-nil held) ∙ ap (λ (l : List ℕ). held ++ l) (sym done) ∙ sym e) r.2.output,
+      );
 }

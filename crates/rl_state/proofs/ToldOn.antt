@@ -31,9 +31,9 @@ told_mapped (Some x) (Some y) P R f p = f x y p
 pub out_follows : (start old new : Option (List ℕ)) (waited waiting output bytes : List ℕ) → IsPrintedBefore start old waited output → Follows old waited new waiting bytes → IsPrintedBefore start new waiting (output ++ bytes)
 out_follows start old new waited waiting output bytes h f =
     told_through start old new (λ before held. before ++ output ≡ held ++ waited)
-        (λ before now. (n : ℕ) × (now ≡ before ++ take n (waited ++ bytes)) × (waiting ≡ drop n (waited ++ bytes)))
-        (λ before held. before ++ (output ++ bytes) ≡ held ++ waiting)
-        (λ x y z p q. moved x output y waited z waiting bytes q.0 p q.1 ∙ ap (λ l. z ++ l) (sym q.2)) h f
+    (λ before now. (n : ℕ) × (now ≡ before ++ take n (waited ++ bytes)) × (waiting ≡ drop n (waited ++ bytes)))
+    (λ before held. before ++ (output ++ bytes) ≡ held ++ waiting)
+    (λ x y z p q. moved x output y waited z waiting bytes q.0 p q.1 ∙ ap (λ l. z ++ l) (sym q.2)) h f
 
 pub out_flushed : (start old new : Option (List ℕ)) (waited waiting output : List ℕ) → IsPrintedBefore start old waited output → Follows old waited new [] [] → waiting ≡ [] → IsPrintedBefore start new waiting output
 out_flushed start old new waited waiting output h f e =
@@ -42,9 +42,9 @@ out_flushed start old new waited waiting output h f e =
 pub out_cut : (start old new : Option (List ℕ)) (waited output bytes : List ℕ) → IsPrintedBefore start old waited output → IsCutOff old new (waited ++ bytes) → IsPrintedInPart start new (output ++ bytes)
 out_cut start old new waited output bytes h f =
     told_through start old new (λ before held. before ++ output ≡ held ++ waited)
-        (λ before now. (n : ℕ) × (now ≡ before ++ take n (waited ++ bytes)))
-        (λ before held. (lost : List ℕ) × (before ++ (output ++ bytes) ≡ held ++ lost))
-        (λ x y z p q. (drop q.0 (waited ++ bytes), moved x output y waited z [] bytes q.0 p q.1)) h f
+    (λ before now. (n : ℕ) × (now ≡ before ++ take n (waited ++ bytes)))
+    (λ before held. (lost : List ℕ) × (before ++ (output ++ bytes) ≡ held ++ lost))
+    (λ x y z p q. (drop q.0 (waited ++ bytes), moved x output y waited z [] bytes q.0 p q.1)) h f
 
 pub out_cut_flushed : (start old new : Option (List ℕ)) (waited output : List ℕ) → IsPrintedBefore start old waited output → IsCutOff old new waited → IsPrintedInPart start new output
 out_cut_flushed start old new waited output h f =

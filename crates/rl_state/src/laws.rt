@@ -4,9 +4,10 @@ ghost use Rattle.rl_state.specs.StateOfWorld.{WorldIsShown};
 ghost use Rattle.rl_state.specs.Ties.{EachWorldTies};
 ghost use Rattle.rl_state.specs.CellLaws.{AreCellLaws};
 
-use rl_syms::laws::{identifiers_are_numbered, meaning_of_change, meaning_of_making};
-use rl_syms::laws::{meaning_of_naming, meaning_of_reading, names_enter};
-use rl_syms::laws::{others_leave_blocks, table_is_kept};
+use rl_syms::laws::{
+    identifiers_are_numbered, meaning_of_change, meaning_of_making, meaning_of_naming,
+    meaning_of_reading, names_enter, others_leave_blocks, table_is_kept,
+};
 
 /// What is known of cells.
 pub(crate) fn cells_are_known()

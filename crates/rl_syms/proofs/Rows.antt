@@ -91,6 +91,6 @@ unfolding ids_before
 second_id = refl
 
 -- a place in the second of two functions
-pub part_of_second : value_of (placed (BlockCell tag.Fun (0 ∷ 0 ∷ [])) ++ placed (BlockCell tag.Id (0 ∷ 0 ∷ [])) ++ placed (BlockCell tag.Fun (0 ∷ [])) ) (FunAt (2 + 5 * 2 ^ 32)) ≡ Fun 1 5
+pub part_of_second : value_of (placed (BlockCell tag.Fun (0 ∷ 0 ∷ [])) ++ placed (BlockCell tag.Id (0 ∷ 0 ∷ [])) ++ placed (BlockCell tag.Fun (0 ∷ []))) (FunAt (2 + 5 * 2 ^ 32)) ≡ Fun 1 5
 unfolding funs_before
 part_of_second = refl

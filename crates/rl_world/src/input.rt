@@ -55,13 +55,7 @@ impl Input {
     {
         let next = match self.back {
             Some(b) => Some(b),
-            None => {
-                if self.ended {
-                    None
-                } else {
-                    first_of(source)?
-                }
-            }
+            None => { if self.ended { None } else { first_of(source)? } }
         };
         self.back = None;
         match next {

@@ -11,8 +11,16 @@ type Pieces = &'static [(&'static str, usize)];
 const ROWS: [(&str, &str, u8); 18] = [
     ("", "", 0),
     (" \t\r\n%x", "", 0),
-    ("(PRINT '(a (b . 2) -3)) (print (cons nil t))(PRINT '()) (PRINT (PRINT 'x_1)) (PRINT (CONS (PRINT 1) (PRINT 2))) (PRINT ''a) (PRINT (QUOTE (1 . (2 . (3 . 4))))) (PRINT '(-0 007 1a)) (PRINT 576460752303423487) (PRINT -576460752303423488) (PRINT +1) (PRINT (TERPRI))", "(A (B . 2) -3)\n(NIL . T)\nNIL\nX_1\nX_1\n1\n2\n(1 . 2)\n(QUOTE A)\n(1 2 3 . 4)\n(0 7 1 A)\n576460752303423487\n-576460752303423488\n1\n\nNIL\n", 0),
-    ("(PRINT '[1 \"a\"\"b\" (x . !y)]) (PRIN2 \"a\"\"b\") (TERPRI)\n(PRIN2 \"xxxxxxxxxxxxxxxxxxxxxxxxxxxxxxxxxxxxxxxxxxxxxxxxxxxxxxxxxxxxxxxxxxxxxxxxxxxxxxx\")\n(PRIN2 \"yy\") (TERPRI)\n[a (FOO) \"x\"] (PRINT [(FOO)])\n(PRINT '(QUOTE . a)) (PRINT '(a . [b]))\n(PRIN1 'a)(PRIN1 \"b\")(PRIN2 'c)(TERPRI)(PRINT 1) % to the end\n% (FOO)\n(PRINT '!1!a) (PRIN2 '!1!a)", "[1 \"a\"\"b\" (X . !y)]\na\"b\nxxxxxxxxxxxxxxxxxxxxxxxxxxxxxxxxxxxxxxxxxxxxxxxxxxxxxxxxxxxxxxxxxxxxxxxxxxxxxxx\nyy\n[(FOO)]\n(QUOTE . A)\n(A . [B])\nA\"b\"C\n1\n!1!a\n1a", 0),
+    (
+        "(PRINT '(a (b . 2) -3)) (print (cons nil t))(PRINT '()) (PRINT (PRINT 'x_1)) (PRINT (CONS (PRINT 1) (PRINT 2))) (PRINT ''a) (PRINT (QUOTE (1 . (2 . (3 . 4))))) (PRINT '(-0 007 1a)) (PRINT 576460752303423487) (PRINT -576460752303423488) (PRINT +1) (PRINT (TERPRI))",
+        "(A (B . 2) -3)\n(NIL . T)\nNIL\nX_1\nX_1\n1\n2\n(1 . 2)\n(QUOTE A)\n(1 2 3 . 4)\n(0 7 1 A)\n576460752303423487\n-576460752303423488\n1\n\nNIL\n",
+        0,
+    ),
+    (
+        "(PRINT '[1 \"a\"\"b\" (x . !y)]) (PRIN2 \"a\"\"b\") (TERPRI)\n(PRIN2 \"xxxxxxxxxxxxxxxxxxxxxxxxxxxxxxxxxxxxxxxxxxxxxxxxxxxxxxxxxxxxxxxxxxxxxxxxxxxxxxx\")\n(PRIN2 \"yy\") (TERPRI)\n[a (FOO) \"x\"] (PRINT [(FOO)])\n(PRINT '(QUOTE . a)) (PRINT '(a . [b]))\n(PRIN1 'a)(PRIN1 \"b\")(PRIN2 'c)(TERPRI)(PRINT 1) % to the end\n% (FOO)\n(PRINT '!1!a) (PRIN2 '!1!a)",
+        "[1 \"a\"\"b\" (X . !y)]\na\"b\nxxxxxxxxxxxxxxxxxxxxxxxxxxxxxxxxxxxxxxxxxxxxxxxxxxxxxxxxxxxxxxxxxxxxxxxxxxxxxxx\nyy\n[(FOO)]\n(QUOTE . A)\n(A . [B])\nA\"b\"C\n1\n!1!a\n1a",
+        0,
+    ),
     ("(PRINT 1) (FOO)", "", 13),
     ("(PRINT 576460752303423488)", "", 13),
     ("(PRINT -576460752303423489)", "", 13),
@@ -30,7 +38,8 @@ const ROWS: [(&str, &str, u8); 18] = [
 ];
 
 /// Forty numbers of a list, which fill a line.
-const LINE: &str = "1 1 1 1 1 1 1 1 1 1 1 1 1 1 1 1 1 1 1 1 1 1 1 1 1 1 1 1 1 1 1 1 1 1 1 1 1 1 1 1 \n";
+const LINE: &str =
+    "1 1 1 1 1 1 1 1 1 1 1 1 1 1 1 1 1 1 1 1 1 1 1 1 1 1 1 1 1 1 1 1 1 1 1 1 1 1 1 1 \n";
 
 /// A file and what it prints, in pieces; the calls of the output and of the files that fail; and the number.
 const LONG_ROWS: [(Pieces, Pieces, &[u64], &[u64], u8); 13] = [
@@ -50,7 +59,13 @@ const LONG_ROWS: [(Pieces, Pieces, &[u64], &[u64], u8); 13] = [
     ),
     (&[("(PRINT 1)", 1), (" ", 4087)], &[("1\n", 1)], &[], &[], 0),
     (&[("(PRINT 1)", 1), (" ", 4088)], &[], &[], &[], 13),
-    (&[("(PRINT '", 1), ("n", 255), (")", 1)], &[("N", 255), ("\n", 1)], &[], &[], 0),
+    (
+        &[("(PRINT '", 1), ("n", 255), (")", 1)],
+        &[("N", 255), ("\n", 1)],
+        &[],
+        &[],
+        0,
+    ),
     (&[("(PRINT '", 1), ("n", 256), (")", 1)], &[], &[], &[], 13),
     (
         &[("(PRINT '(1 ", 1), ("a", 78), ("))", 1)],
@@ -61,22 +76,49 @@ const LONG_ROWS: [(Pieces, Pieces, &[u64], &[u64], u8); 13] = [
     ),
     (
         &[("(PRINT (PRINT '(", 1), ("1 ", 1240), (")))", 1)],
-        &[("(", 1), (LINE, 30), ("1 ", 39), ("1)\n(", 1), (LINE, 30), ("1 ", 39), ("1)\n", 1)],
+        &[
+            ("(", 1),
+            (LINE, 30),
+            ("1 ", 39),
+            ("1)\n(", 1),
+            (LINE, 30),
+            ("1 ", 39),
+            ("1)\n", 1),
+        ],
         &[],
         &[],
         0,
     ),
-    (&[("(PRINT (PRINT '(", 1), ("1 ", 1240), (")))", 1)], &[], &[1], &[], 5),
     (
         &[("(PRINT (PRINT '(", 1), ("1 ", 1240), (")))", 1)],
-        &[("(", 1), (LINE, 30), ("1 ", 39), ("1)\n(", 1), (LINE, 19), ("1 ", 22)],
+        &[],
+        &[1],
+        &[],
+        5,
+    ),
+    (
+        &[("(PRINT (PRINT '(", 1), ("1 ", 1240), (")))", 1)],
+        &[
+            ("(", 1),
+            (LINE, 30),
+            ("1 ", 39),
+            ("1)\n(", 1),
+            (LINE, 19),
+            ("1 ", 22),
+        ],
         &[2],
         &[],
         5,
     ),
     (&[("(PRINT 1)", 1), (" ", 1291)], &[], &[], &[1], 6),
     (&[("(PRINT 1)", 1), (" ", 1291)], &[], &[], &[3], 6),
-    (&[("(PRINT 1)", 1), (" ", 1291)], &[("1\n", 1)], &[], &[5], 0),
+    (
+        &[("(PRINT 1)", 1), (" ", 1291)],
+        &[("1\n", 1)],
+        &[],
+        &[5],
+        0,
+    ),
 ];
 
 /// Words beside an empty file `a.sl`, the number, and its report.

@@ -14,9 +14,9 @@ ghost use Rattle.rlisp.specs.EndsAsStatus.{EndsAsStatus};
 use crate::source::{Loaded, load};
 use crate::status::{FileName, Status};
 use crate::words::path_of;
-use rl_io::{Files, Io, NullSink, Sink, Source};
 use rl_forms::laws::{all_and_nothing_are_fronts, unbuilt_files_spell_no_built_forms};
 use rl_forms::{Ending, run_forms};
+use rl_io::{Files, Io, NullSink, Sink, Source};
 use std::alloc::Global;
 
 /// Runs the command that the words are: `sl PATH` evaluates the forms of a file of Standard Lisp in turn.
