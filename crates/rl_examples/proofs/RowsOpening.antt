@@ -1,23 +1,13 @@
--- The state at opening: its cells are enough for the prelude, and its names that have a function are the system's.
-use Rattle.std.proofs.Common.{◌≡◌, ℕ, suc, Bool, true, ◌&&◌, not, is_some, if◌then◌else◌, List, [], ◌∷◌, Option, Some, None, refl}
+-- The state at opening: its names that have a function are the system's.
+use Rattle.std.proofs.Common.{◌≡◌, ℕ, suc, Bool, true, ◌&&◌, not, is_some, if◌then◌else◌, List, [], ◌∷◌, refl}
 use Rattle.std.specs.Fmt.{digits}
 use Rattle.rl_tags.specs.Opening.{opening_rows, byte_names}
 use Rattle.rl_tree.specs.ErrorTexts.{error_texts}
 use Rattle.rl_meaning.specs.Names.{special_rows, native_rows}
 use Rattle.rl_meaning.specs.State.{Symbol}
-use Rattle.rl_meaning.specs.Outcome.{Outcome, Done, Failed, Went, Returned, Stopped}
 use Rattle.rl_meaning.specs.System.{is_system}
 use Rattle.rl_meaning.specs.Jobs.{job}
-use Rattle.rl_meaning.specs.Opening.{bare_state, opened_state, prelude_texts, define_texts}
-
--- the cells that are left where it comes to its end
-abbrev cells_left : Outcome (Unit {0}) → Option ℕ
-cells_left (Done a s) = s.counts.cells
-cells_left other = None
-
-cells_of_opening : cells_left (define_texts prelude_texts bare_state) ≡ Some 61544
-unfolding prelude_texts bare_state opening_rows byte_names special_rows native_rows digits error_texts job
-cells_of_opening = refl
+use Rattle.rl_meaning.specs.Opening.{bare_state, opened_state, prelude_texts}
 
 -- the symbols from this number on
 abbrev are_system_names : ℕ → List Symbol → Bool
