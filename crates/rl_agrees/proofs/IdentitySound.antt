@@ -45,9 +45,9 @@ module _ (n : Names) where
   top_same i = top_by i (is_constant i) (i == message_id)
 
   opening_same : (i : ℕ) (name : Name) (d : Option Definition) → Maybe (λ a b. Linked n.functions a.function.function b.function.function) d d → SameSymbol n (symbol_at_opening i name d) (symbol_at_opening i name d)
-  opening_same i name None h = same_symbol name true false (kind_at_opening i) (top_at_opening i) (top_at_opening i) nil_value_of_state nil_value_of_state None None (top_same i) (same_id nil_number) nothing
+  opening_same i name None h = same_symbol name true (kind_at_opening i) (top_at_opening i) (top_at_opening i) nil_value_of_state nil_value_of_state None None (top_same i) (same_id nil_number) nothing
   opening_same i name (Some d) (just _ _ h) =
-      same_symbol name true true (kind_at_opening i) (top_at_opening i) (top_at_opening i) nil_value_of_state nil_value_of_state (Some d) (Some d) (top_same i) (same_id nil_number)
+      same_symbol name true (kind_at_opening i) (top_at_opening i) (top_at_opening i) nil_value_of_state nil_value_of_state (Some d) (Some d) (top_same i) (same_id nil_number)
       (just d d (same_definition d.kind d.function d.function (same_pointer d.function.function d.function.function d.function.place h)))
 
   -- so many functions are linked, each to itself
@@ -70,7 +70,7 @@ module _ (n : Names) where
 
   bytes_same : (names : List Name) → Each (SameSymbol n) (byte_symbols names) (byte_symbols names)
   bytes_same [] = end
-  bytes_same (name ∷ names) = more _ _ _ _ (same_symbol name true false Plain None None nil_value_of_state nil_value_of_state None None nothing (same_id nil_number) nothing) (bytes_same names)
+  bytes_same (name ∷ names) = more _ _ _ _ (same_symbol name true Plain None None nil_value_of_state nil_value_of_state None None nothing (same_id nil_number) nothing) (bytes_same names)
 
   -- ---- the functions of opening
 
@@ -129,7 +129,7 @@ before_sound x =
     }
   where
     named : SameSymbol (names_of (before x)) identity_symbol identity_symbol
-    named = same_symbol _ true false Plain None None nil_value_of_state nil_value_of_state _ _ nothing (same_id nil_number) (just _ _ (same_definition _ identity_pointer identity_pointer (same_pointer _ _ 0 (linked_itself _ _ (omega (arith, length-append (filter_map system_function opening_names) (HeldFunction (identity_of x (identity_kept x)) ∷ [])))))))
+    named = same_symbol _ true Plain None None nil_value_of_state nil_value_of_state _ _ nothing (same_id nil_number) (just _ _ (same_definition _ identity_pointer identity_pointer (same_pointer _ _ 0 (linked_itself _ _ (omega (arith, length-append (filter_map system_function opening_names) (HeldFunction (identity_of x (identity_kept x)) ∷ [])))))))
 
 pub ready_state : (c : Compiler) (x : ℕ) → is_constant x ≡ false → Ready c (identity_state x)
 unfolding before

@@ -158,7 +158,7 @@ definition_ranged n s t x y h (just _ _ (same_definition kind _ _ (same_pointer 
 
 symbols_ranged : (n : Names) (s t : List Function) (xs ys : List Symbol) → SameFunctions n s t → Each (SameSymbol n) xs ys → (i : ℕ) → Ranged t (slice_index_or ys i (new_symbol [] false)).definition
 symbols_ranged n s t xs ys h end i = tt
-symbols_ranged n s t xs ys h (more _ _ as' bs (same_symbol name interned system kind x y p q d e a c l) r) zero = definition_ranged n s t d e h l
+symbols_ranged n s t xs ys h (more _ _ as' bs (same_symbol name interned kind x y p q d e a c l) r) zero = definition_ranged n s t d e h l
 symbols_ranged n s t xs ys h (more _ _ as' bs g r) (suc i) = symbols_ranged n s t as' bs h r i
 
 module _ {bounds : Bounds} where

@@ -9,6 +9,7 @@ use Rattle.rl_meaning.specs.Names as names
 use Rattle.rl_meaning.specs.State.{State, Entry, Mark, Tree, Atom, Quoted, Pair, Literal, Held, Pointer, Definition, Function, SpecialForm, NativeFunction, HeldFunction}
 use Rattle.rl_meaning.specs.Outcome.{Outcome, Done, Failed, Went, Returned, Stopped, Levels, choose}
 use Rattle.rl_meaning.specs.Symbols.{nil_value_of_state, is_nil, truth, return_number, symbol_at}
+use Rattle.rl_meaning.specs.System.{is_system}
 use Rattle.rl_meaning.specs.Errors.{wrong_count, misplaced, badly_formed}
 use Rattle.rl_meaning.specs.Constants.{is_among}
 use Rattle.rl_meaning.specs.Holding.{is_list, function_at}
@@ -78,9 +79,9 @@ among_plain b plain kind (x ∷ xs) i h a = at (i == x) refl a (λ a. among_plai
 call_target : (b : State) (plain : List ℕ) (i : ℕ) → have_plain b plain Expr plain ≡ true → is_plain_call b plain Expr i ≡ true → names_target b plain (symbol_at b i).definition ≡ true
 call_target b plain i h c = at (is_among i plain) refl c
   where
-    at : (x : Bool) → is_among i plain ≡ x → (x || calls_pure b (symbol_at b i).system (symbol_at b i).definition) ≡ true → names_target b plain (symbol_at b i).definition ≡ true
+    at : (x : Bool) → is_among i plain ≡ x → (x || calls_pure b (is_system i) (symbol_at b i).definition) ≡ true → names_target b plain (symbol_at b i).definition ≡ true
     at true e c = definition_target b plain Expr (symbol_at b i).definition (among_plain b plain Expr plain i h e)
-    at false e c = pure_names b plain (symbol_at b i).system (symbol_at b i).definition c
+    at false e c = pure_names b plain (is_system i) (symbol_at b i).definition c
 
 -- ---- what is asked for
 

@@ -27,14 +27,14 @@ use Rattle.rl_agrees.proofs.TwoRunsNumbers.{or_nil_same}
 -- ---- what a symbol has
 
 name_of : (n : Names) (x y : Symbol) → SameSymbol n x y → x.name ≡ y.name
-name_of n _ _ (same_symbol name interned system kind a b p q d e h k l) = refl
+name_of n _ _ (same_symbol name interned kind a b p q d e h k l) = refl
 
 module _ {bounds : Bounds} where
   pub name_same : (n : Names) (ps : List EntryPlace) (s t : State) (i : ℕ) → Like bounds n ps s t → name_of_number s i ≡ name_of_number t i
   name_same n ps s t i l = name_of n _ _ (symbol_same n ps s t i l)
 
 kind_of : (n : Names) (x y : Symbol) → SameSymbol n x y → x.kind ≡ y.kind
-kind_of n _ _ (same_symbol name interned system kind a b p q d e h k l) = refl
+kind_of n _ _ (same_symbol name interned kind a b p q d e h k l) = refl
 
 module _ {bounds : Bounds} where
   pub kind_same : (n : Names) (ps : List EntryPlace) (s t : State) (i : ℕ) → Like bounds n ps s t → (symbol_at s i).kind ≡ (symbol_at t i).kind

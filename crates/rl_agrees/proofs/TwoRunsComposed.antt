@@ -11,7 +11,8 @@ use Rattle.rl_meaning.specs.Variables.{with_mark, restored}
 use Rattle.rl_meaning.specs.Evaluation.{Job, Run, Onward, Call_, From, In, Here, Rec, Frame, walked, eval, statements, applied, longest_chain}
 use Rattle.rl_meaning.specs.Machine.{run, run_code, one_more, at_entry}
 use Rattle.rl_meaning.specs.Jobs.{names_function, code_among, code_outside, code_of, run_held, job_done, job_rank, rank, chain_of_job, job, jobs, the_compiler}
-use Rattle.rl_meaning.specs.Laws.{below_by, below, IsFuelEnough}
+use Rattle.rl_meaning.specs.LesserJobs.{below_by, below}
+use Rattle.rl_meaning.specs.Laws.{IsFuelEnough}
 use Rattle.rl_meaning.specs.TwoRunsLinks.{OneToOne}
 use Rattle.rl_meaning.specs.TwoRunsValues.{Names, Maybe, nothing, just, Each, end, more, SameValue, SameHeld, SamePointer, same_pointer, SameCode, SameCoded, same_coded}
 use Rattle.rl_meaning.specs.TwoRunsStates.{Bounds, EntryPlace, all_both, SameExpansion, same_none, same_open, Like, Roomier}

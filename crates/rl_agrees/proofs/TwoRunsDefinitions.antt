@@ -125,7 +125,7 @@ module _ {bounds : Bounds} where
       at false false = l
 
 definition_set : (n : Names) (x y : Symbol) (o p : Option Definition) → SameSymbol n x y → Maybe (SameDefinition n) o p → SameSymbol n (record x { definition = o }) (record y { definition = p })
-definition_set n _ _ o p (same_symbol name interned system kind a b c d e f h k l) r = same_symbol name interned system kind a b c d o p h k r
+definition_set n _ _ o p (same_symbol name interned kind a b c d e f h k l) r = same_symbol name interned kind a b c d o p h k r
 
 module _ {bounds : Bounds} where
   pub with_definition_like : (n : Names) (ps : List EntryPlace) (i : ℕ) (o p : Option Definition) (s t : State) → Maybe (SameDefinition n) o p → Like bounds n ps s t → Like bounds n ps (with_definition i o s) (with_definition i p t)
@@ -136,15 +136,9 @@ module _ {bounds : Bounds} where
 
 -- ---- GETD, REMD and PUTD
 
-system_of : (n : Names) (x y : Symbol) → SameSymbol n x y → x.system ≡ y.system
-system_of n _ _ (same_symbol name interned system kind a b p q d e h k l) = refl
-
 module _ {bounds : Bounds} where
-  pub system_same : (n : Names) (ps : List EntryPlace) (i : ℕ) (s t : State) → Like bounds n ps s t → (symbol_at s i).system ≡ (symbol_at t i).system
-  system_same n ps i s t l = system_of n _ _ (symbol_same n ps s t i l)
-
   pub own_name_related : {A : Type 0} {R : Names → A → A → Type 0} (n : Names) (ps : List EntryPlace) (i : ℕ) (s t : State) (f g : State → Outcome A) → Like bounds n ps s t → Beside bounds R n ps (f s) (g t) → Beside bounds R n ps (own_name i s f) (own_name i t g)
-  own_name_related n ps i s t f g l h = choose_same n ps _ _ s t _ _ _ _ (system_same n ps i s t l) (search (fail_related, same_id)) h
+  own_name_related n ps i s t f g l h = choose_same n ps _ _ s t _ _ _ _ refl (search (fail_related, same_id)) h
 
   definition_pair_related : (n : Names) (ps : List EntryPlace) (o p : Option Definition) (s t : State) → Maybe (SameDefinition n) o p → Like bounds n ps s t → Beside bounds SameValue n ps (definition_pair o s) (definition_pair p t)
   definition_pair_related n ps _ _ s t nothing l = done_now n ps nil_value_of_state nil_value_of_state s t (same_id nil_number) l
@@ -240,14 +234,14 @@ module _ {bounds : Bounds} where
 -- ---- declarations
 
 declared_same : (n : Names) (kind : VarKind) (x y : Symbol) → SameSymbol n x y → SameSymbol n (record x { kind = kind; top = or_given_nil x.top }) (record y { kind = kind; top = or_given_nil y.top })
-declared_same n kind _ _ (same_symbol name interned system old _ _ p q d e nothing k l) = same_symbol name interned system kind _ _ p q d e (just nil_value_of_state nil_value_of_state (same_id nil_number)) k l
-declared_same n kind _ _ (same_symbol name interned system old _ _ p q d e (just v w h) k l) = same_symbol name interned system kind _ _ p q d e (just v w h) k l
+declared_same n kind _ _ (same_symbol name interned old _ _ p q d e nothing k l) = same_symbol name interned kind _ _ p q d e (just nil_value_of_state nil_value_of_state (same_id nil_number)) k l
+declared_same n kind _ _ (same_symbol name interned old _ _ p q d e (just v w h) k l) = same_symbol name interned kind _ _ p q d e (just v w h) k l
 
 kind_set : (n : Names) (kind : VarKind) (x y : Symbol) → SameSymbol n x y → SameSymbol n (record x { kind = kind }) (record y { kind = kind })
-kind_set n kind _ _ (same_symbol name interned system old a b p q d e h k l) = same_symbol name interned system kind a b p q d e h k l
+kind_set n kind _ _ (same_symbol name interned old a b p q d e h k l) = same_symbol name interned kind a b p q d e h k l
 
 is_kind_same : (n : Names) (kind : VarKind) (x y : Symbol) → SameSymbol n x y → is_kind kind x.kind ≡ is_kind kind y.kind
-is_kind_same n kind _ _ (same_symbol name interned system old a b p q d e h k l) = refl
+is_kind_same n kind _ _ (same_symbol name interned old a b p q d e h k l) = refl
 
 module _ {bounds : Bounds} where
   declare_related : (n : Names) (ps : List EntryPlace) (kind other : VarKind) (i : ℕ) (s t : State) → Like bounds n ps s t → Beside bounds {A = Unit {0}} Is n ps (declare kind other i s) (declare kind other i t)

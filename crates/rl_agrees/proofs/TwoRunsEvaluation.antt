@@ -118,9 +118,6 @@ module _ {bounds : Bounds} where
 pub argument_same : (n : Names) (xs ys : List Value) (i : ℕ) → Values n xs ys → SameValue n (argument xs i) (argument ys i)
 argument_same n xs ys i h = each_at (SameValue n) xs ys nil_value_of_state nil_value_of_state i h (same_id 0)
 
-system_is : (n : Names) (x y : Symbol) → SameSymbol n x y → x.system ≡ y.system
-system_is n _ _ (same_symbol name interned system kind a b p q d e h k l) = refl
-
 module _ {bounds : Bounds} where
   note_like : (n : Names) (ps : List EntryPlace) (line : List ℕ) (s t : State) → Like bounds n ps s t → Like bounds n ps (note line s) (note line t)
   note_like n ps line s t l = record { store = l.store; functions = l.functions; symbols = l.symbols; bindings = l.bindings; counts = l.counts; outside = λ i. record (l.outside i) { notes = (l.outside i).notes ++ (line ++ 10 ∷ []) }; gensyms = l.gensyms; compilation = l.compilation }
@@ -433,7 +430,7 @@ module _ {bounds : Bounds} {compiler : Compiler} (c : Comparison) (cr : Compiler
   -- ---- definitions
 
   pub own_ends : {P : List EntryPlace → Type 0} (n : Names) (ps : List EntryPlace) (i : ℕ) (s t : State) (f g : State → Outcome Value) → Sides bounds c P n ps s t → Alike bounds SameValue n ps (f s) (g t) → Alike bounds SameValue n ps (own_name i s f) (own_name i t g)
-  own_ends n ps i s t f g e h = choose_ends c n ps _ _ s t _ _ _ _ (system_is n _ _ (symbol_same n ps s t i e.like)) (fail_ends c n ps system_name _ _ s t e (same_id i)) h
+  own_ends n ps i s t f g e h = choose_ends c n ps _ _ s t _ _ _ _ refl (fail_ends c n ps system_name _ _ s t e (same_id i)) h
 
   define_then : (v : Value) (i : ℕ) (kind : Kind) (p : Pointer) (s : State) → Goes s (compiler.defined v (define i kind p s))
   define_then v i kind p s = goes_trans s (define i kind p s) _ (one.define_goes i kind p s) (cr.defined_goes v (define i kind p s))

@@ -284,7 +284,7 @@ module _ {bounds : Bounds} where
 -- ---- heads
 
 pub definition_same : (n : Names) (x y : Symbol) → SameSymbol n x y → Maybe (SameDefinition n) x.definition y.definition
-definition_same n _ _ (same_symbol name interned system kind a b p q d e h k l) = l
+definition_same n _ _ (same_symbol name interned kind a b p q d e h k l) = l
 
 pub data SameHead (n : Names) : Head → Head → Type 0 where
   same_form : (form : Special) → SameHead n (Form form) (Form form)

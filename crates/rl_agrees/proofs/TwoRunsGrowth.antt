@@ -57,8 +57,8 @@ definition_grows : (n m : Names) (x y : Definition) → SameDefinition n x y →
 definition_grows n m x y (same_definition kind p q h) g = same_definition kind p q (pointer_grows n m p q h g)
 
 pub symbol_grows : (n m : Names) (x y : Symbol) → SameSymbol n x y → Grows n m → SameSymbol m x y
-symbol_grows n m x y (same_symbol name interned system kind a b p q d e h k l) g =
-    same_symbol name interned system kind a b p q d e (maybe_grows (SameValue n) (SameValue m) (λ a b r. value_grows n m a b r g) a b h) (value_grows n m p q k g) (maybe_grows (SameDefinition n) (SameDefinition m) (λ a b r. definition_grows n m a b r g) d e l)
+symbol_grows n m x y (same_symbol name interned kind a b p q d e h k l) g =
+    same_symbol name interned kind a b p q d e (maybe_grows (SameValue n) (SameValue m) (λ a b r. value_grows n m a b r g) a b h) (value_grows n m p q k g) (maybe_grows (SameDefinition n) (SameDefinition m) (λ a b r. definition_grows n m a b r g) d e l)
 
 number_grows : (n m : Names) (x y : ℕ) → SameNumber n x y → Grows n m → SameNumber m x y
 number_grows n m x y h g = record { linked = g.functions x y h.linked }

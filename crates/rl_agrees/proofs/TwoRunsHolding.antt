@@ -154,7 +154,7 @@ module _ {bounds : Bounds} where
 -- ---- what is kept
 
 kind_same : (n : Names) (x y : Symbol) → SameSymbol n x y → x.kind ≡ y.kind
-kind_same n _ _ (same_symbol name interned system kind a b p q d e h k l) = refl
+kind_same n _ _ (same_symbol name interned kind a b p q d e h k l) = refl
 
 module _ {bounds : Bounds} where
   kept_same : (n : Names) (ps : List EntryPlace) (s t : State) (xs : List ℕ) → Like bounds n ps s t → map (kept_now s) xs ≡ map (kept_now t) xs

@@ -6,7 +6,8 @@ use Rattle.rl_meaning.specs.Outcome.{Levels}
 use Rattle.rl_meaning.specs.Evaluation.{Job, From, In, Here, Position, Frame, Machine, Run, Onward, Call_, called}
 use Rattle.rl_meaning.specs.Machine.{run}
 use Rattle.rl_meaning.specs.Jobs.{rank, job, jobs, the_compiler}
-use Rattle.rl_meaning.specs.Laws.{below_by, below, IsFuelEnough}
+use Rattle.rl_meaning.specs.LesserJobs.{below_by, below}
+use Rattle.rl_meaning.specs.Laws.{IsFuelEnough}
 use Rattle.rl_meaning.specs.TwoRunsValues.{Names, SameTree, SameCode, Each, SameValue}
 use Rattle.rl_meaning.specs.TwoRunsStates.{Bounds, EntryPlace, Like, Roomier}
 use Rattle.rl_meaning.specs.TwoRunsEnds.{EndsAgree}

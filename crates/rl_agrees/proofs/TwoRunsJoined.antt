@@ -164,8 +164,8 @@ module _ (m k : Names) (once : Once k) where
   definition_joined a b c (same_definition kind p q r) (same_definition _ _ o s) = same_definition kind p o (pointer_joined p q o r s)
 
   symbol_joined : (a b c : Symbol) → SameSymbol m a b → SameSymbol k b c → SameSymbol J a c
-  symbol_joined a b c (same_symbol name interned system kind x y p q d e r s t) (same_symbol _ _ _ _ _ y' _ q' _ e' r' s' t') =
-      same_symbol name interned system kind x y' p q' d e' (maybe_joined _ _ _ value_joined x y y' r r') (value_joined p q q' s s') (maybe_joined _ _ _ definition_joined d e e' t t')
+  symbol_joined a b c (same_symbol name interned kind x y p q d e r s t) (same_symbol _ _ _ _ y' _ q' _ e' r' s' t') =
+      same_symbol name interned kind x y' p q' d e' (maybe_joined _ _ _ value_joined x y y' r r') (value_joined p q q' s s') (maybe_joined _ _ _ definition_joined d e e' t t')
 
   operand_joined : (a b c : Operand) → SameOperand m a b → SameOperand k b c → SameOperand J a c
   operand_joined a b c (same_slot i) (same_slot _) = same_slot i

@@ -93,8 +93,8 @@ module _ (n : Names) where
   definition_right a b (same_definition kind p q r) = same_definition kind q q (pointer_right p q r)
 
   symbol_right : (a b : Symbol) → SameSymbol n a b → SameSymbol K b b
-  symbol_right a b (same_symbol name interned system kind x y p q d e r s t) =
-      same_symbol name interned system kind y y q q e e (maybe_right _ _ value_right x y r) (value_right p q s) (maybe_right _ _ definition_right d e t)
+  symbol_right a b (same_symbol name interned kind x y p q d e r s t) =
+      same_symbol name interned kind y y q q e e (maybe_right _ _ value_right x y r) (value_right p q s) (maybe_right _ _ definition_right d e t)
 
   operand_right : (a b : Operand) → SameOperand n a b → SameOperand K b b
   operand_right a b (same_slot i) = same_slot i

@@ -10,6 +10,7 @@ use Rattle.rl_meaning.specs.CMacros.{Operand, CMacro, Alloc, Dealloc, Load, Stor
 use Rattle.rl_meaning.specs.CMacros as macros
 use Rattle.rl_meaning.specs.Outcome.{Outcome, Done, Stopped, Stop, Turns, Depth, Expands, then_do, choose, run_turn, expansion_turn, turn_of, turn, Levels, in_levels, deeper}
 use Rattle.rl_meaning.specs.Symbols.{nil_value_of_state, nil_number, same, is_constant, symbol_at}
+use Rattle.rl_meaning.specs.System.{is_system}
 use Rattle.rl_meaning.specs.Errors.{fail, wrong_count, wrong_type, badly_formed, not_bindable, system_name}
 use Rattle.rl_meaning.specs.Holding.{function_number, kept_kind, hold_function, form_at}
 use Rattle.rl_meaning.specs.Copying.{copied}
@@ -44,7 +45,6 @@ use Rattle.rl_agrees.proofs.TwoRunsCopying.{copied_related}
 use Rattle.rl_agrees.proofs.TwoRunsQuiet.{later_shows, fail_ends}
 use Rattle.rl_agrees.proofs.TwoRunsVariables.{bindings_like, variable_related, assigned_related}
 use Rattle.rl_agrees.proofs.TwoRunsBinding.{restored_parted, mark_like}
-use Rattle.rl_agrees.proofs.TwoRunsDefinitions.{system_same}
 use Rattle.rl_agrees.proofs.TwoRunsCompared.{whole_shown, code_and_walk, CleanSides}
 
 -- ---- what is taken from evaluation
@@ -467,7 +467,7 @@ module _ {bounds : Bounds} (one : OneRunFacts) (two : TwoRunsFacts bounds) (ask 
   called_somewhere n i l j vs ws s t r e x = record { places = x.places; whole = x.whole; ends = evaluation.called_ n x.places i l j vs ws s t r e x.like x.whole x.ready }
 
   own_name_somewhere : (n : Names) (i : ℕ) (s t : State) (f g : State → Outcome Value) → Abreast bounds n s t → Somewhere bounds SameValue n (f s) (g t) → Somewhere bounds SameValue n (own_name i s f) (own_name i t g)
-  own_name_somewhere n i s t f g x h = choose_somewhere n (symbol_at s i).system (symbol_at t i).system s t _ _ _ _ (system_same n x.places i s t x.like) (fail_somewhere n system_name (Id i) (Id i) s t (same_id i) x) h
+  own_name_somewhere n i s t f g x h = choose_somewhere n (is_system i) (is_system i) s t _ _ _ _ refl (fail_somewhere n system_name (Id i) (Id i) s t (same_id i) x) h
 
   define_function_somewhere : (n : Names) (form : Special) (l j : Levels) (a b : Tree) (s t : State) → Roomier bounds l j → SameTree n a b → Abreast bounds n s t → Somewhere bounds SameValue n (define_function rec form l a s) (define_function rec' form j b t)
   define_function_somewhere n form l j a b s t r h x = record { places = x.places; whole = x.whole; ends = evaluation.define_function_ n x.places form l j a b s t r h x.like x.whole x.ready }

@@ -206,7 +206,7 @@ module _ {bounds : Bounds} where
 -- ---- identifiers
 
 pub new_symbol_same : (n : Names) (name : Name) (b : Bool) → SameSymbol n (new_symbol name b) (new_symbol name b)
-new_symbol_same n name b = same_symbol name b _ _ _ _ _ _ _ _ nothing (same_id nil_number) nothing
+new_symbol_same n name b = same_symbol name b _ _ _ _ _ _ _ nothing (same_id nil_number) nothing
 
 module _ {bounds : Bounds} where
   pub symbol_same : (n : Names) (ps : List EntryPlace) (s t : State) (i : ℕ) → Like bounds n ps s t → SameSymbol n (symbol_at s i) (symbol_at t i)
@@ -219,7 +219,7 @@ module _ {bounds : Bounds} where
   with_symbol_like n ps i x y s t l h = symbols_like n ps s t _ _ l (each_set (SameSymbol n) s.symbols t.symbols i x y l.symbols h)
 
 top_same : (n : Names) (x y : Symbol) (v w : Value) → SameSymbol n x y → SameValue n v w → SameSymbol n (record x { top = Some v }) (record y { top = Some w })
-top_same n x y v w (same_symbol name interned system kind a b p q d e h k l) r = same_symbol name interned system kind _ _ p q d e (just v w r) k l
+top_same n x y v w (same_symbol name interned kind a b p q d e h k l) r = same_symbol name interned kind _ _ p q d e (just v w r) k l
 
 module _ {bounds : Bounds} where
   pub with_top_like : (n : Names) (ps : List EntryPlace) (i : ℕ) (v w : Value) (s t : State) → Like bounds n ps s t → SameValue n v w → Like bounds n ps (with_top i v s) (with_top i w t)
@@ -234,7 +234,7 @@ module _ {bounds : Bounds} where
 
 pub named_same : (n : Names) (i : ℕ) (name : Name) (xs ys : List Symbol) → Each (SameSymbol n) xs ys → named_from i name xs ≡ named_from i name ys
 named_same n i name xs ys end = refl
-named_same n i name xs ys (more _ _ as' bs (same_symbol x interned system kind a b p q d e h k l) r) = ap (λ o. if interned && bytes_eq x name then Some i else o) (named_same n (suc i) name as' bs r)
+named_same n i name xs ys (more _ _ as' bs (same_symbol x interned kind a b p q d e h k l) r) = ap (λ o. if interned && bytes_eq x name then Some i else o) (named_same n (suc i) name as' bs r)
 
 module _ {bounds : Bounds} where
   interned_at_related : (n : Names) (ps : List EntryPlace) (o : Option ℕ) (name : Name) (s t : State) → Like bounds n ps s t → Beside bounds SameValue n ps (interned_at o name s) (interned_at o name t)

@@ -42,7 +42,7 @@ module _ {bounds : Bounds} where
       at _ _ (just _ _ (same_parts a d b c i j)) = same_same n a b p q e.store.once e.functions.once i h
 
 properties_same : (n : Names) (x y : Symbol) → SameSymbol n x y → SameValue n x.properties y.properties
-properties_same n _ _ (same_symbol name interned system kind a b p q d e h k l) = k
+properties_same n _ _ (same_symbol name interned kind a b p q d e h k l) = k
 
 module _ {bounds : Bounds} where
   property_related : (n : Names) (ps : List EntryPlace) (i : ℕ) (p q : Value) (s t : State) → SameValue n p q → Like bounds n ps s t → Beside bounds SameSpot n ps (look_for (is_property p) (properties s i) s) (look_for (is_property q) (properties t i) t)
@@ -82,7 +82,7 @@ module _ {bounds : Bounds} where
       then_related n ps _ _ _ _ (property_related n ps i p q s t k e) (λ m x y s t g j e. got_related m ps x y s t j e))
 
 listed_set : (n : Names) (x y : Symbol) (p q : Value) → SameSymbol n x y → SameValue n p q → SameSymbol n (record x { properties = p }) (record y { properties = q })
-listed_set n _ _ p q (same_symbol name interned system kind a b c d e f h k l) r = same_symbol name interned system kind a b p q e f h r l
+listed_set n _ _ p q (same_symbol name interned kind a b c d e f h k l) r = same_symbol name interned kind a b p q e f h r l
 
 module _ {bounds : Bounds} where
   properties_like : (n : Names) (ps : List EntryPlace) (i : ℕ) (v w : Value) (s t : State) → SameValue n v w → Like bounds n ps s t → Like bounds n ps (with_properties i v s) (with_properties i w t)

@@ -127,7 +127,7 @@ module _ (test : Nearest → Bool) (deep : Deep test) (n : Names) (x : ℕ) wher
 -- ---- use
 
 top_same : (n : Names) (x y : Symbol) → SameSymbol n x y → Maybe (SameValue n) x.top y.top
-top_same n _ _ (same_symbol name interned system kind a b p q d e h k l) = h
+top_same n _ _ (same_symbol name interned kind a b p q d e h k l) = h
 
 module _ {bounds : Bounds} where
   top_ends : (n : Names) (ps : List EntryPlace) (o p : Option Value) (x : ℕ) (s t : State) → Maybe (SameValue n) o p → Like bounds n ps s t → EndsAgree bounds n ps (top_value o x s) (top_value p x t)

@@ -8,3 +8,5 @@ mod RowsExamples
 mod RowsCode
 mod RowsLinks
 mod RowsFunctions
+mod RowsRuns
+mod RowsCoded

@@ -52,5 +52,5 @@ some_among (suc n) (row ∷ rows) name kind some = elim (cases_Bool (same_name n
     the_same other e = cc
 
 pub is_none : (o : Option TokenKind) → ((kind : TokenKind) → o ≡ Some kind → ⊥) → o ≡ None
-is_none None no = refl
-is_none (Some kind) no = absurd (no kind refl)
+is_none None never = refl
+is_none (Some kind) never = absurd (never kind refl)

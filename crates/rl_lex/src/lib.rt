@@ -1,6 +1,7 @@
 //! The tokens of RLISP over bytes: `next_token` and `recognize`.
 #![tactic(auto)]
 
+mod atom;
 mod bytes;
 mod gap;
 mod kind;

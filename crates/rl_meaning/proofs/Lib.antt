@@ -1,5 +1,3 @@
-mod Rows
-mod RowsCoded
 mod Spending
 mod SpendingObjects
 mod SpendingWalks

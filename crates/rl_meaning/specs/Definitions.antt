@@ -8,6 +8,7 @@ use Rattle.rl_tree.specs.declared.held.VarKind.TheVariants.{Plain, Fluid, Global
 use Rattle.rl_meaning.specs.State.{State, Pointer, Definition, Function, SpecialForm, NativeFunction, HeldFunction}
 use Rattle.rl_meaning.specs.Outcome.{Outcome, Done, then_do, choose, Levels, made_pair}
 use Rattle.rl_meaning.specs.Symbols.{nil_value_of_state, lambda_number, is_constant, symbol_at, with_symbol, pair_at}
+use Rattle.rl_meaning.specs.System.{is_system}
 use Rattle.rl_meaning.specs.Errors.{fail, wrong_type, badly_formed, not_bindable, system_name}
 use Rattle.rl_meaning.specs.Constants.{reading_object, reading_pair}
 use Rattle.rl_meaning.specs.Holding.{hold_function, fits_kind, pointer_value, pointer_to, function_at}
@@ -77,7 +78,7 @@ with_body None b s next = fail wrong_type b s
 
 -- a name that the system does not have
 abbrev pub own_name : {A : Type 0} → ℕ → State → (State → Outcome A) → Outcome A
-own_name i s next = choose (symbol_at s i).system s (λ s. fail system_name (Id i) s) next
+own_name i s next = choose (is_system i) s (λ s. fail system_name (Id i) s) next
 
 abbrev pub fits_function : Kind → Function → Bool
 fits_function kind (HeldFunction held) = fits_kind kind held.parameters

@@ -2,7 +2,9 @@ pub mod Names
 pub mod CMacros
 pub mod State
 pub mod Outcome
+pub mod WiderBounds
 pub mod Symbols
+pub mod System
 pub mod Errors
 pub mod Events
 pub mod Constants
@@ -26,6 +28,7 @@ pub mod Evaluation
 pub mod Machine
 pub mod HeadCases
 pub mod Jobs
+pub mod LesserJobs
 pub mod Opening
 pub mod TwoRunsLinks
 pub mod TwoRunsValues

@@ -1,5 +1,5 @@
 -- The state at opening: the system's identifiers and functions, and the prelude, whose texts are read and held.
-use Rattle.std.specs.Prelude.{ℕ, suc, ◌==◌, true, false, is_some, if◌then◌else◌, List, [], ◌∷◌, ◌++◌, codes, filter_map, Option, Some, None}
+use Rattle.std.specs.Prelude.{ℕ, suc, ◌==◌, true, false, if◌then◌else◌, List, [], ◌∷◌, ◌++◌, codes, filter_map, Option, Some, None}
 use Rattle.rl_tags.specs.Opening.{byte_names, opening_names}
 use Rattle.rl_tree.specs.Value.{Value, Id}
 use Rattle.rl_tree.specs.Name.{Name}
@@ -10,7 +10,7 @@ use Rattle.rl_tree.specs.declared.held.VarKind.TheVariants.{Plain, Global}
 use Rattle.rl_meaning.specs.Names.{Special, special_named, native_named}
 use Rattle.rl_meaning.specs.State.{State, Symbol, Definition, Function, SpecialForm, NativeFunction}
 use Rattle.rl_meaning.specs.Outcome.{Outcome, Done, Failed, Went, Returned, Stopped, then_do}
-use Rattle.rl_meaning.specs.Symbols.{nil_value_of_state, message_id, is_constant, symbol_at, with_symbol, new_symbol, car_at, cdr_at}
+use Rattle.rl_meaning.specs.Symbols.{nil_value_of_state, message_id, is_constant, new_symbol, car_at, cdr_at}
 use Rattle.rl_meaning.specs.Holding.{hold_function, pointer_to}
 use Rattle.rl_meaning.specs.Definitions.{define}
 use Rattle.rl_meaning.specs.Input.{FormReading, Form, read_bytes}
@@ -40,7 +40,6 @@ abbrev pub symbol_at_opening : ℕ → Name → Option Definition → Symbol
 symbol_at_opening i name definition = record {
   name = name;
   interned = true;
-  system = is_some definition;
   top = top_at_opening i;
   properties = nil_value_of_state;
   definition = definition;
@@ -98,12 +97,8 @@ prelude_texts =
     codes "(DE EVLIS (!$U) (COND ((ATOM !$U) NIL) (T (CONS (EVAL (CAR !$U)) (EVLIS (CDR !$U))))))" ∷
     codes "(DE PROG2 (!$A !$B) !$B)" ∷ []
 
--- the system has the name of this definition
-abbrev pub with_system : ℕ → State → State
-with_system i s = with_symbol i (record (symbol_at s i) { system = true }) s
-
 abbrev pub define_named : Value → ℕ → State → State
-define_named (Id i) f s = with_system i (define i Expr (pointer_to f) s)
+define_named (Id i) f s = define i Expr (pointer_to f) s
 define_named v f s = s
 
 -- a list (DE name parameters form ..) is held, and its name defined

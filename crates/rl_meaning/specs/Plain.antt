@@ -7,6 +7,7 @@ use Rattle.rl_meaning.specs.Names.{Test, Digit, Liter, Fluidp, Globalp, Special,
 use Rattle.rl_meaning.specs.Names as names
 use Rattle.rl_meaning.specs.State.{State, Tree, Atom, Quoted, Pair, Literal, Held, Definition, Function, NativeFunction, HeldFunction}
 use Rattle.rl_meaning.specs.Symbols.{is_constant, symbol_at}
+use Rattle.rl_meaning.specs.System.{is_system}
 use Rattle.rl_meaning.specs.Constants.{is_among}
 use Rattle.rl_meaning.specs.Holding.{is_list, tree_identifiers, function_at}
 use Rattle.rl_meaning.specs.Reach.{same_kind}
@@ -61,7 +62,7 @@ variables_of t = elim (tree_identifiers t) [ None ↦ [] | Some xs ↦ xs ]
 module _ (s : State) (plain : List ℕ) where
   -- a pure native, or one of the EXPRs; no FEXPR and no macro
   abbrev pub is_plain_call : Kind → ℕ → Bool
-  is_plain_call Expr i = is_among i plain || calls_pure s (symbol_at s i).system (symbol_at s i).definition
+  is_plain_call Expr i = is_among i plain || calls_pure s (is_system i) (symbol_at s i).definition
   is_plain_call Fexpr i = false
   is_plain_call Macro i = false
 

@@ -45,11 +45,10 @@ pub record Definition : Type 0 where
   pub kind : Kind
   pub function : Pointer
 
--- an identifier: its name, whether texts find it by its name, whether its definition is the system's, the value below all bindings, and the rest of what it has
+-- an identifier: its name, whether texts find it by its name, the value below all bindings, and the rest of what it has
 pub record Symbol : Type 0 where
   pub name : Name
   pub interned : Bool
-  pub system : Bool
   pub top : Option Value
   pub properties : Value
   pub definition : Option Definition

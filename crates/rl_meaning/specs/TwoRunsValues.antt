@@ -78,8 +78,8 @@ pub data SameDefinition (n : Names) : Definition → Definition → Type 0 where
   same_definition : (kind : Kind) (p q : Pointer) → SamePointer n p q → SameDefinition n (record { kind = kind; function = p }) (record { kind = kind; function = q })
 
 pub data SameSymbol (n : Names) : Symbol → Symbol → Type 0 where
-  same_symbol : (name : Name) (interned system : Bool) (kind : VarKind) (x y : Option Value) (p q : Value) (d e : Option Definition) → Maybe (SameValue n) x y → SameValue n p q → Maybe (SameDefinition n) d e
-      → SameSymbol n (record { name = name; interned = interned; system = system; top = x; properties = p; definition = d; kind = kind }) (record { name = name; interned = interned; system = system; top = y; properties = q; definition = e; kind = kind })
+  same_symbol : (name : Name) (interned : Bool) (kind : VarKind) (x y : Option Value) (p q : Value) (d e : Option Definition) → Maybe (SameValue n) x y → SameValue n p q → Maybe (SameDefinition n) d e
+      → SameSymbol n (record { name = name; interned = interned; top = x; properties = p; definition = d; kind = kind }) (record { name = name; interned = interned; top = y; properties = q; definition = e; kind = kind })
 
 -- ---- codes
 

@@ -1,12 +1,15 @@
 -- A new object that is no block: the world is one of a run, what was there stays, and the new state is shown.
-use Rattle.std.proofs.Common.{◌≡◌, ℕ, ◌+◌, ◌-◌, true, List, [], ◌∷◌, ◌++◌, length, map, Option, Some, None, Ok, Err, refl, sym, ap, subst, ◌∙◌, arith}
-use Rattle.std.specs.Prelude.{slice_index_or}
+use Rattle.std.proofs.Common.{◌≡◌, ℕ, zero, suc, ◌+◌, ◌-◌, ◌/◌, ◌<◌, Bool, true, false, List, [], ◌∷◌, ◌++◌, length, map, Option, Some, None, Result, Ok, Err, refl, sym, ap, subst, ◌∙◌, arith}
+use Rattle.std.specs.Prelude.{replicate, slice_index_or}
+use Rattle.std.specs.List.{list_all}
+use Rattle.std.specs.Result.{IsOk, is_ok}
 use Rattle.std.proofs.lemmas.List.{map-append, length-map}
 use Rattle.rl_tags.specs.Tagged.{Tagged, Number, IdAt, StrAt, PairAt, VectorAt, BigAt, FunAt, index_of}
-use Rattle.rl_tree.specs.Value.{Ref, Pair, Store, cons_store, new_value}
+use Rattle.rl_tags.specs.Ids.{nil_id}
+use Rattle.rl_tree.specs.Value.{Value, Id, Str, Ref, Pair, Vector, Store, cons_store, new_value}
 use Rattle.rl_cells.specs.Cell as cell
-use Rattle.rl_cells.specs.Cell.{Cell, PairCell, IsClosed, cost_of, grown, placed, is_live, is_str, used_of}
-use Rattle.rl_syms.specs.Contents.{value_of, store_of}
+use Rattle.rl_cells.specs.Cell.{Cell, PairCell, StrCell, VectorCell, IsClosed, cost_of, grown, has_room, placed, is_live, is_str, used_of}
+use Rattle.rl_syms.specs.Contents.{object_count, value_of, store_of}
 use Rattle.rl_syms.specs.Frame.{KeepsBlocks, block_in}
 use Rattle.rl_syms.specs.Laws.{IsKept, MakesMeaning, LeaveBlocks}
 use Rattle.rl_world.specs.Counts as counted
@@ -16,13 +19,15 @@ use Rattle.rl_world.specs.declared.counts.Expansion.{Expansion}
 use Rattle.rl_world.specs.declared.stop.Stop as stops
 use Rattle.rl_world.specs.declared.world.World.{World}
 use Rattle.rl_meaning.specs.State.{State}
-use Rattle.rl_meaning.specs.Outcome.{Done, made_pair}
+use Rattle.rl_meaning.specs.Outcome.{Outcome, Done, room, made_pair, made_string}
+use Rattle.rl_meaning.specs.Atoms.{made_places}
+use Rattle.rl_meaning.specs.Symbols.{nil_value_of_state}
 use Rattle.rl_state.specs.Numbered.{ids_before, object_renumbered, renumbered, value_in, store_in}
 use Rattle.rl_state.specs.ShownState.{ShowsState, counts_in, expansion_in}
-use Rattle.rl_state.specs.Worlds.{IsWorld, AreRunCounts, HasNumber, WorldGrows}
+use Rattle.rl_state.specs.Worlds.{IsWorld, AreRunCounts, HasNumber, ObjectsAlone, WorldGrows}
 use Rattle.rl_state.specs.Ending.{MeansValue}
 use Rattle.rl_state.proofs.Kept.{id_same, ids_same, numbers_same, objects_same, symbols_kept, value_same}
-use Rattle.rl_state.proofs.Room.{left, left_in, room_done, room_full, roomed_in}
+use Rattle.rl_state.proofs.Room.{left, left_in, room_done, room_fits, room_full, roomed_in}
 
 string_kept : (old new : List Cell) (v : Tagged) → KeepsBlocks old new → is_str old v ≡ true → is_str new v ≡ true
 string_kept old new (StrAt k) b h = b.live (StrAt k) h
@@ -53,6 +58,7 @@ world_kept law w c k b r i = record {
   message = numbered_kept law w.cells.cells c.cells _ 3 b i.message;
   texts = texts_kept w.cells.cells c.cells w.texts b i.texts;
   running = r;
+  levels = i.levels;
 }
 
 -- ---- a new object
@@ -82,8 +88,8 @@ counts_made s k c b r =
     let used = used_made s k c r in
     let after = left_in (grown s c) (roomed k (cost_of c)) (running_made s k c r) in
     let expands = expansion_kept s.cells (s.cells ++ placed c) k.open_count (with_cells (cost_of c) k.outermost) (λ j. ids_same s.cells (s.cells ++ placed c) j (λ k. id_same s.cells (s.cells ++ placed c) k b)) in
-    sym (after ∙ ap (λ n. left (k.bound - k.turns) (k.cells_bound - n) (expansion_in (s.cells ++ placed c) k.open_count (with_cells (cost_of c) k.outermost))) used
-    ∙ ap (λ e. left (k.bound - k.turns) (k.cells_bound - (used_of s + cost_of c)) e) expands)
+    sym (after ∙ ap (λ n. left k.bound (k.bound - k.turns) (k.cells_bound - n) (expansion_in (s.cells ++ placed c) k.open_count (with_cells (cost_of c) k.outermost))) used
+    ∙ ap (λ e. left k.bound (k.bound - k.turns) (k.cells_bound - (used_of s + cost_of c)) e) expands)
 
 pub made_grows : (law : IsKept) (blocks : LeaveBlocks) (made : MakesMeaning) (w : World) (c : Cell) → block_in c ≡ None → IsWorld w → WorldGrows w (with_made w c)
 made_grows law blocks made w c none i =
@@ -110,48 +116,48 @@ shows_made law blocks made w c s store none i closed shown e =
       free = shown.free;
     }
 
-pub pair_means : (law : IsKept) (blocks : LeaveBlocks) (made : MakesMeaning) (w : World) (a d : Tagged) → IsWorld w → IsClosed w.cells.cells → is_live w.cells.cells a ≡ true → is_live w.cells.cells d ≡ true → room_stop w.counts (used_of w.cells) 1 ≡ None
-    → (s : State) → ShowsState w s → MeansValue s (made_pair (value_in w.cells.cells a) (value_in w.cells.cells d) s) (Ok (PairAt (length w.cells.cells))) (with_made w (PairCell a d))
-unfolding store_in
-pair_means law blocks made w a d i closed la ld stop s shown =
-    let cells = w.cells.cells in
-    let new = cells ++ placed (PairCell a d) in
-    let b : KeepsBlocks cells new = blocks.made cells (PairCell a d) refl in
-    let va = value_in cells a in
-    let vd = value_in cells d in
-    let long : length s.store ≡ length (store_of cells) = ap length shown.store ∙ length-map (store_of cells) (object_renumbered cells) in
-    let named : value_in new (PairAt (length cells)) ≡ Ref (length s.store) = ap (renumbered new) (made.pair_named cells a d) ∙ ap Ref (sym long) in
-    let stored : store_in new ≡ cons_store s.store va vd =
-    ap (map (object_renumbered new)) (made.pair cells a d closed la ld)
-    ∙ objects_same cells new (store_of cells ++ Pair (value_of cells a) (value_of cells d) ∷ []) (numbers_same cells new b)
-    ∙ map-append (object_renumbered cells) (store_of cells) (Pair (value_of cells a) (value_of cells d) ∷ [])
-    ∙ ap (λ os. os ++ Pair va vd ∷ []) (sym shown.store) in
-    record {
-      state = record s { counts = roomed_in w.cells w.counts 1; store = cons_store s.store va vd };
-      is = room_done w.cells w.counts 1 s (λ s. Done (new_value s.store) (record s { store = cons_store s.store va vd })) i.running shown.counts stop ∙ ap (λ v. Done v (record s { counts = roomed_in w.cells w.counts 1; store = cons_store s.store va vd })) (sym named);
-      good = record { shows = shows_made law blocks made w (PairCell a d) s _ refl i closed shown (sym stored); stays = record { functions = record { functions = refl; compilation = refl }; bindings = record { entries = refl; hidden = λ i b h. refl }; outside = refl } };
-    }
+-- ---- a value that names the new object
 
-pub pair_stops : (w : World) (a d : Tagged) (why : stops.Stop) → IsWorld w → room_stop w.counts (used_of w.cells) 1 ≡ Some why
-    → (s : State) → ShowsState w s → MeansValue s (made_pair (value_in w.cells.cells a) (value_in w.cells.cells d) s) (Err why) w
-pair_stops w a d why i stop s shown = room_full w.cells w.counts 1 s _ why i.running shown.counts (omega arith) stop
+-- where there is room, what is made by the definition is what the cells hold
+pub value_made : (law : IsKept) (blocks : LeaveBlocks) (made : MakesMeaning) (w : World) (c : Cell) (at : Tagged) (s : State) (next : State → Outcome Value) (v : Value) (store : Store)
+    → block_in c ≡ None → IsWorld w → IsClosed w.cells.cells → room_stop w.counts (used_of w.cells) (cost_of c) ≡ None → ShowsState w s
+    → next (record s { counts = roomed_in w.cells w.counts (cost_of c) }) ≡ Done v (record s { counts = roomed_in w.cells w.counts (cost_of c); store = store })
+    → store ≡ store_in (w.cells.cells ++ placed c) → value_in (w.cells.cells ++ placed c) at ≡ v
+    → MeansValue s (room (cost_of c) s next) (Ok at) (with_made w c)
+value_made law blocks made w c at s next v store none i closed stop shown then_is stored named = record {
+  state = record s { counts = roomed_in w.cells w.counts (cost_of c); store = store };
+  is = room_done w.cells w.counts (cost_of c) s next i.running shown.counts stop ∙ then_is ∙ ap (λ x. Done x (record s { counts = roomed_in w.cells w.counts (cost_of c); store = store })) (sym named);
+  good = record {
+    shows = shows_made law blocks made w c s store none i closed shown stored;
+    stays = record { functions = record { functions = refl; compilation = refl }; bindings = record { entries = refl; hidden = λ i b h. refl }; outside = refl };
+  };
+}
 
--- room is counted, and then the pair made
+-- room is counted, and then the object made
 final_is : (w r : World) (cs : cell.CellStore) (c : Cell) → r ≡ record w { counts = roomed w.counts (cost_of c) } → cs ≡ grown r.cells c → record r { cells = cs } ≡ with_made w c
 final_is w r cs c e f = ap (λ x. record r { cells = x }) f ∙ ap (λ (x : World). record x { cells = grown x.cells c }) e
 
-pub pair_ends : (law : IsKept) (blocks : LeaveBlocks) (made : MakesMeaning) (w r : World) (cs : cell.CellStore) (a d v : Tagged)
-    → r ≡ record w { counts = roomed w.counts 1 } → cs ≡ grown r.cells (PairCell a d) → v ≡ PairAt (length r.cells.cells)
-    → IsWorld w → IsClosed r.cells.cells → is_live w.cells.cells a ≡ true → is_live w.cells.cells d ≡ true → room_stop w.counts (used_of w.cells) 1 ≡ None
-    → (s : State) → ShowsState w s → MeansValue s (made_pair (value_in w.cells.cells a) (value_in w.cells.cells d) s) (Ok v) (record r { cells = cs })
-pair_ends law blocks made w r cs a d v e f g i closed la ld stop s shown =
-    let cells : r.cells ≡ w.cells = ap (λ (x : World). x.cells) e in
-    let whole : IsClosed w.cells.cells = subst (λ (x : cell.CellStore). IsClosed x.cells) cells closed in
-    let named : v ≡ PairAt (length w.cells.cells) = g ∙ ap (λ (x : cell.CellStore). PairAt (length x.cells)) cells in
-    let outcome = made_pair (value_in w.cells.cells a) (value_in w.cells.cells d) s in
-    subst (λ x. MeansValue s (made_pair (value_in w.cells.cells a) (value_in w.cells.cells d) s) (Ok v) x) (sym (final_is w r cs (PairCell a d) e f))
-    (subst (λ x. MeansValue s (made_pair (value_in w.cells.cells a) (value_in w.cells.cells d) s) (Ok x) (with_made w (PairCell a d))) (sym named)
-    (pair_means law blocks made w a d i whole la ld stop s shown))
+-- the calls of a world one after the other: room, and the object at the next place
+pub record IsMadeIn (w r : World) (cs : cell.CellStore) (c : Cell) (tag : ℕ → Tagged) (v : Tagged) : Type 0 where
+  pub counted : r ≡ record w { counts = roomed w.counts (cost_of c) }
+  pub made : cs ≡ grown r.cells c
+  pub named : v ≡ tag (length r.cells.cells)
+  pub closed : IsClosed r.cells.cells
+  pub room : room_stop w.counts (used_of w.cells) (cost_of c) ≡ None
+
+pub closed_before : (w r : World) (cs : cell.CellStore) (c : Cell) (tag : ℕ → Tagged) (v : Tagged) → IsMadeIn w r cs c tag v → IsClosed w.cells.cells
+closed_before w r cs c tag v m = subst (λ (x : World). IsClosed x.cells.cells) m.counted m.closed
+
+pub ends_made : (law : IsKept) (blocks : LeaveBlocks) (made : MakesMeaning) (w r : World) (cs : cell.CellStore) (c : Cell) (tag : ℕ → Tagged) (v : Tagged) (s : State) (next : State → Outcome Value) (x : Value) (store : Store)
+    → IsMadeIn w r cs c tag v → block_in c ≡ None → IsWorld w → ShowsState w s
+    → next (record s { counts = roomed_in w.cells w.counts (cost_of c) }) ≡ Done x (record s { counts = roomed_in w.cells w.counts (cost_of c); store = store })
+    → store ≡ store_in (w.cells.cells ++ placed c) → value_in (w.cells.cells ++ placed c) (tag (length w.cells.cells)) ≡ x
+    → MeansValue s (room (cost_of c) s next) (Ok v) (record r { cells = cs })
+ends_made law blocks made w r cs c tag v s next x store m none i shown then_is stored named =
+    let at : v ≡ tag (length w.cells.cells) = m.named ∙ ap (λ (y : World). tag (length y.cells.cells)) m.counted in
+    subst (λ y. MeansValue s (room (cost_of c) s next) (Ok v) y) (sym (final_is w r cs c m.counted m.made))
+    (subst (λ y. MeansValue s (room (cost_of c) s next) (Ok y) (with_made w c)) (sym at)
+    (value_made law blocks made w c (tag (length w.cells.cells)) s next x store none i (closed_before w r cs c tag v m) m.room shown then_is stored named))
 
 pub made_ends : (law : IsKept) (blocks : LeaveBlocks) (made : MakesMeaning) (w r : World) (cs : cell.CellStore) (c : Cell)
     → r ≡ record w { counts = roomed w.counts (cost_of c) } → cs ≡ grown r.cells c → block_in c ≡ None → IsWorld w → WorldGrows w (record r { cells = cs })
@@ -160,6 +166,121 @@ made_ends law blocks made w r cs c e f none i = subst (λ x. WorldGrows w x) (sy
 pub grows_refl : (w x : World) → x ≡ w → IsWorld w → WorldGrows w x
 grows_refl w x e i = subst (λ y. WorldGrows w y) (sym e) (record { world = i; live = λ v h. h; values = λ v h. refl })
 
-pub pair_stopped : (w x : World) (a d : Tagged) (why : stops.Stop) → x ≡ w → IsWorld w → room_stop w.counts (used_of w.cells) 1 ≡ Some why
+-- there is no room
+pub made_stops : (w x : World) (cost : ℕ) (s : State) (next : State → Outcome Value) (why : stops.Stop) → x ≡ w → IsWorld w → 0 < cost → room_stop w.counts (used_of w.cells) cost ≡ Some why → ShowsState w s → MeansValue s (room cost s next) (Err why) x
+made_stops w x cost s next why e i p stop shown = subst (λ y. MeansValue s (room cost s next) (Err why) y) (sym e) (room_full w.cells w.counts cost s next why i.running shown.counts p stop)
+
+-- ---- pairs
+
+pub pair_stops : (w x : World) (a d : Tagged) (why : stops.Stop) → x ≡ w → IsWorld w → room_stop w.counts (used_of w.cells) 1 ≡ Some why
     → (s : State) → ShowsState w s → MeansValue s (made_pair (value_in w.cells.cells a) (value_in w.cells.cells d) s) (Err why) x
-pair_stopped w x a d why e i stop s shown = subst (λ y. MeansValue s (made_pair (value_in w.cells.cells a) (value_in w.cells.cells d) s) (Err why) y) (sym e) (pair_stops w a d why i stop s shown)
+pair_stops w x a d why e i stop s shown = made_stops w x 1 s (λ s. Done (new_value s.store) (record s { store = cons_store s.store (value_in w.cells.cells a) (value_in w.cells.cells d) })) why e i (omega arith) stop shown
+
+pub pair_ends : (law : IsKept) (blocks : LeaveBlocks) (made : MakesMeaning) (w r : World) (cs : cell.CellStore) (a d v : Tagged)
+    → IsMadeIn w r cs (PairCell a d) PairAt v → IsWorld w → is_live w.cells.cells a ≡ true → is_live w.cells.cells d ≡ true
+    → (s : State) → ShowsState w s → MeansValue s (made_pair (value_in w.cells.cells a) (value_in w.cells.cells d) s) (Ok v) (record r { cells = cs })
+unfolding store_in
+pair_ends law blocks made w r cs a d v m i la ld s shown =
+    let cells = w.cells.cells in
+    let closed = closed_before w r cs (PairCell a d) PairAt v m in
+    let new = cells ++ placed (PairCell a d) in
+    let b : KeepsBlocks cells new = blocks.made cells (PairCell a d) refl in
+    let va = value_in cells a in
+    let vd = value_in cells d in
+    let long : length s.store ≡ length (store_of cells) = ap length shown.store ∙ length-map (store_of cells) (object_renumbered cells) in
+    ends_made law blocks made w r cs (PairCell a d) PairAt v s (λ s. Done (new_value s.store) (record s { store = cons_store s.store va vd })) (new_value s.store) (cons_store s.store va vd) m refl i shown refl
+    (sym (ap (map (object_renumbered new)) (made.pair cells a d closed la ld)
+    ∙ objects_same cells new (store_of cells ++ Pair (value_of cells a) (value_of cells d) ∷ []) (numbers_same cells new b)
+    ∙ map-append (object_renumbered cells) (store_of cells) (Pair (value_of cells a) (value_of cells d) ∷ [])
+    ∙ ap (λ os. os ++ Pair va vd ∷ []) (sym shown.store)))
+    (ap (renumbered new) (made.pair_named cells a d) ∙ ap Ref (sym long))
+
+-- ---- strings
+
+store_kept : (law : IsKept) (blocks : LeaveBlocks) (made : MakesMeaning) (cells : List Cell) (c : Cell) → block_in c ≡ None → object_count c ≡ 0 → IsClosed cells → store_in (cells ++ placed c) ≡ store_in cells
+unfolding store_in
+store_kept law blocks made cells c none zero_objects closed =
+    ap (map (object_renumbered (cells ++ placed c))) (made.others cells c closed zero_objects)
+    ∙ objects_same cells (cells ++ placed c) (store_of cells) (numbers_same cells (cells ++ placed c) (blocks.made cells c none))
+
+pub string_ends : (law : IsKept) (blocks : LeaveBlocks) (made : MakesMeaning) (w r : World) (cs : cell.CellStore) (bytes : List ℕ) (v : Tagged)
+    → IsMadeIn w r cs (StrCell bytes) StrAt v → IsWorld w → (s : State) → ShowsState w s → MeansValue s (made_string bytes s) (Ok v) (record r { cells = cs })
+string_ends law blocks made w r cs bytes v m i s shown =
+    let cells = w.cells.cells in
+    let closed = closed_before w r cs (StrCell bytes) StrAt v m in
+    ends_made law blocks made w r cs (StrCell bytes) StrAt v s (λ s. Done (Str bytes) s) (Str bytes) s.store m refl i shown refl
+    (shown.store ∙ sym (store_kept law blocks made cells (StrCell bytes) refl refl closed))
+    (ap (renumbered (cells ++ placed (StrCell bytes))) (made.string_named cells bytes))
+
+pub string_stops : (w x : World) (bytes : List ℕ) (why : stops.Stop) → x ≡ w → IsWorld w → room_stop w.counts (used_of w.cells) (cost_of (StrCell bytes)) ≡ Some why
+    → (s : State) → ShowsState w s → MeansValue s (made_string bytes s) (Err why) x
+string_stops w x bytes why e i stop s shown = made_stops w x (cost_of (StrCell bytes)) s (λ s. Done (Str bytes) s) why e i (omega arith) stop shown
+
+-- ---- vectors
+
+all_copies : (p : Tagged → Bool) (x : Tagged) (n : ℕ) → p x ≡ true → list_all p (replicate n x) ≡ true
+all_copies p x zero h = refl
+all_copies p x (suc n) h = rw (h, all_copies p x n h) refl
+
+map_copies : {A B : Type 0} (f : A → B) (x : A) (n : ℕ) → map f (replicate n x) ≡ replicate n (f x)
+map_copies f x zero = refl
+map_copies f x (suc n) = ap (λ ys. f x ∷ ys) (map_copies f x n)
+
+long_copies : (x : Tagged) (n : ℕ) → length (replicate n x) ≡ n
+long_copies x zero = refl
+long_copies x (suc n) = ap suc (long_copies x n)
+
+pub vector_cost : (n : ℕ) → cost_of (VectorCell (replicate n nil_id)) ≡ 1 + (n + 1) / 2
+vector_cost n = ap (λ l. 1 + (l + 1) / 2) (long_copies nil_id n)
+
+pub vector_ends : (law : IsKept) (blocks : LeaveBlocks) (made : MakesMeaning) (w r : World) (cs : cell.CellStore) (n : ℕ) (v : Tagged)
+    → IsMadeIn w r cs (VectorCell (replicate n nil_id)) VectorAt v → IsWorld w → (s : State) → ShowsState w s → MeansValue s (made_places n s) (Ok v) (record r { cells = cs })
+unfolding store_in
+vector_ends law blocks made w r cs n v m i s shown =
+    let cells = w.cells.cells in
+    let xs = replicate n nil_id in
+    let c = VectorCell xs in
+    let closed = closed_before w r cs c VectorAt v m in
+    let new = cells ++ placed c in
+    let b : KeepsBlocks cells new = blocks.made cells c refl in
+    let nils = replicate n nil_value_of_state in
+    let next : State → Outcome Value = λ s. Done (Ref (length s.store)) (record s { store = s.store ++ Vector nils ∷ [] }) in
+    let long : length s.store ≡ length (store_of cells) = ap length shown.store ∙ length-map (store_of cells) (object_renumbered cells) in
+    let places : map (renumbered cells) (map (value_of cells) xs) ≡ nils =
+    ap (map (renumbered cells)) (map_copies (value_of cells) nil_id n) ∙ map_copies (renumbered cells) (value_of cells nil_id) n ∙ ap (λ k. replicate n (Id k)) i.nil.number in
+    subst (λ cost. MeansValue s (room cost s next) (Ok v) (record r { cells = cs })) (vector_cost n)
+    (ends_made law blocks made w r cs c VectorAt v s next (Ref (length s.store)) (s.store ++ Vector nils ∷ []) m refl i shown refl
+    (sym (ap (map (object_renumbered new)) (made.vector cells xs closed (all_copies (is_live cells) nil_id n i.table.nil))
+    ∙ objects_same cells new (store_of cells ++ Vector (map (value_of cells) xs) ∷ []) (numbers_same cells new b)
+    ∙ map-append (object_renumbered cells) (store_of cells) (Vector (map (value_of cells) xs) ∷ [])
+    ∙ ap (λ os. os ++ Vector (map (renumbered cells) (map (value_of cells) xs)) ∷ []) (sym shown.store)
+    ∙ ap (λ ys. s.store ++ Vector ys ∷ []) places))
+    (ap (renumbered new) (made.vector_named cells xs) ∙ ap Ref (sym long)))
+
+pub vector_stops : (w x : World) (n : ℕ) (why : stops.Stop) → x ≡ w → IsWorld w → room_stop w.counts (used_of w.cells) (cost_of (VectorCell (replicate n nil_id))) ≡ Some why
+    → (s : State) → ShowsState w s → MeansValue s (made_places n s) (Err why) x
+vector_stops w x n why e i stop s shown =
+    made_stops w x (1 + (n + 1) / 2) s (λ s. Done (Ref (length s.store)) (record s { store = s.store ++ Vector (replicate n nil_value_of_state) ∷ [] })) why e i (omega arith) (rw (vector_cost n) at stop) shown
+
+-- ---- what is beside the objects
+
+pub rest_made : (w r : World) (cs : cell.CellStore) (k : counted.WorldCounts) → r ≡ record w { counts = k } → ObjectsAlone w (record r { cells = cs })
+rest_made w r cs k e = record { rest = subst (λ (x : World). record x { cells = cs } ≡ record w { cells = cs; syms = x.syms; counts = x.counts }) (sym e) refl }
+
+pub rest_refl : (w x : World) → x ≡ w → ObjectsAlone w x
+rest_refl w x e = record { rest = subst (λ (y : World). y ≡ record w { cells = y.cells; syms = y.syms; counts = y.counts }) (sym e) refl }
+
+pub rest_trans : (w x y : World) → ObjectsAlone w x → ObjectsAlone x y → ObjectsAlone w y
+rest_trans w x y a b = record { rest = b.rest ∙ ap (λ (z : World). record z { cells = y.cells; syms = y.syms; counts = y.counts }) a.rest }
+
+pub rest_counts : (w x : World) (k : counted.WorldCounts) → x ≡ record w { counts = k } → ObjectsAlone w x
+rest_counts w x k e = record { rest = subst (λ (y : World). y ≡ record w { cells = y.cells; syms = y.syms; counts = y.counts }) (sym e) refl }
+
+-- ---- room that was counted is there
+
+pub has_counted : (w r : World) (k : counted.WorldCounts) (cost : ℕ) → r ≡ record w { counts = k } → IsWorld w → room_stop w.counts (used_of w.cells) cost ≡ None → has_room r.cells cost ≡ true
+has_counted w r k cost e i h = subst (λ (x : World). has_room x.cells cost ≡ true) (sym e) (room_fits w.cells w.counts cost i.running h)
+
+pub is_made : {T E : Type 0} (r : Result T E) (b : Bool) → is_ok r ≡ b → b ≡ true → IsOk r
+is_made (Ok x) b e h = tt
+is_made (Err x) b e h = absurd (cc)

@@ -1,14 +1,14 @@
 -- The parts of a pair, and a change of one.
-use Rattle.std.proofs.Common.{◌≡◌, ◌≢◌, ℕ, true, List, map, Option, Some, None, refl, sym, ap, subst, ◌∙◌, slice_get}
+use Rattle.std.proofs.Common.{◌≡◌, ◌≢◌, ℕ, true, List, length, map, Option, Some, None, refl, sym, ap, subst, ◌∙◌, slice_get}
 use Rattle.std.proofs.lemmas.Option.{slice_get-map}
-use Rattle.std.proofs.lemmas.List.{map-set}
-use Rattle.std.specs.Prelude.{option_map}
-use Rattle.rl_tags.specs.Tagged.{Tagged, Number, IdAt, StrAt, PairAt, VectorAt, BigAt, FunAt, tag_of}
+use Rattle.std.proofs.lemmas.List.{length-map, length-set, map-set}
+use Rattle.std.specs.Prelude.{option_map, slice_set}
+use Rattle.rl_tags.specs.Tagged.{Tagged, Number, IdAt, StrAt, PairAt, VectorAt, BigAt, FunAt, index_of, tag_of}
 use Rattle.rl_tags.specs.declared.Tag.TheVariants as tag
-use Rattle.rl_tree.specs.Value.{Value, Object, Pair, Store, changed_store}
-use Rattle.rl_cells.specs.Cell.{Cell, PairCell, IsClosed, changed_at, is_live, is_pair, is_vector, car_of, cdr_of}
+use Rattle.rl_tree.specs.Value.{Value, Ref, Object, Pair, Vector, changed_store}
+use Rattle.rl_cells.specs.Cell.{Cell, PairCell, VectorCell, IsClosed, changed_at, is_live, is_pair, is_vector, car_of, cdr_of, vector_of}
 use Rattle.rl_syms.specs.Contents.{value_of, store_of, number_at}
-use Rattle.rl_syms.specs.Laws.{ChangesMeaning, IsKept, IsRead, LeaveBlocks}
+use Rattle.rl_syms.specs.Laws.{ChangesMeaning, ChangesObject, IsKept, IsRead, LeaveBlocks}
 use Rattle.rl_syms.specs.Frame.{KeepsBlocks}
 use Rattle.rl_world.specs.declared.world.World.{World}
 use Rattle.rl_meaning.specs.State.{State}
@@ -16,10 +16,10 @@ use Rattle.rl_cells.specs.Cell as cell
 use Rattle.rl_world.specs.declared.stop.NStep as steps
 use Rattle.rl_meaning.specs.Outcome.{Outcome}
 use Rattle.rl_meaning.specs.Lists.{with_pair}
-use Rattle.rl_meaning.specs.Symbols.{pair_at, parts_of}
-use Rattle.rl_state.specs.Numbered.{object_renumbered, value_in, store_in}
+use Rattle.rl_meaning.specs.Symbols.{pair_at, parts_of, places_of, vector_at}
+use Rattle.rl_state.specs.Numbered.{object_renumbered, renumbered, value_in, store_in}
 use Rattle.rl_state.specs.ShownState.{ShowsState, counts_in}
-use Rattle.rl_state.specs.Worlds.{IsWorld, WorldGrows}
+use Rattle.rl_state.specs.Worlds.{IsWorld, ObjectsAlone, WorldGrows}
 use Rattle.rl_meaning.specs.Copying.{with_object}
 use Rattle.rl_state.proofs.Kept.{SameValues, numbers_same, objects_same, symbols_kept, value_same}
 use Rattle.rl_state.proofs.Made.{expansion_kept, world_kept}
@@ -55,18 +55,66 @@ none_shown law w (FunAt k) h ne s shown = refl
 pub pair_shown_at : (law : IsRead) (w : World) (v a d : Tagged) → is_pair w.cells.cells v ≡ true → a ≡ car_of w.cells.cells v → d ≡ cdr_of w.cells.cells v → (s : State) → ShowsState w s → pair_at s (value_in w.cells.cells v) ≡ Some (value_in w.cells.cells a, value_in w.cells.cells d)
 pair_shown_at law w v a d h e f s shown = rw (e, f) (pair_shown law w v h s shown)
 
--- ---- a new car
+pub vector_shown : (law : IsRead) (w : World) (v : Tagged) → is_vector w.cells.cells v ≡ true → (s : State) → ShowsState w s → vector_at s (value_in w.cells.cells v) ≡ Some (map (renumbered w.cells.cells) (map (value_of w.cells.cells) (vector_of w.cells.cells v)))
+unfolding store_in
+vector_shown law w (VectorAt k) h s shown =
+    let r = law.vector w.cells.cells (VectorAt k) h in
+    ap (λ (store : List Object). places_of (slice_get store (number_at w.cells.cells k))) shown.store ∙ ap places_of (get_map (object_renumbered w.cells.cells) (store_of w.cells.cells) _ _ r.stands)
+vector_shown law w (Number k) h s shown = absurd (cc)
+vector_shown law w (IdAt k) h s shown = absurd (cc)
+vector_shown law w (StrAt k) h s shown = absurd (cc)
+vector_shown law w (PairAt k) h s shown = absurd (cc)
+vector_shown law w (BigAt k) h s shown = absurd (cc)
+vector_shown law w (FunAt k) h s shown = absurd (cc)
+
+pub no_vector_shown : (law : IsRead) (w : World) (v : Tagged) → is_live w.cells.cells v ≡ true → tag_of v ≢ tag.Vector → (s : State) → ShowsState w s → vector_at s (value_in w.cells.cells v) ≡ None
+unfolding store_in
+no_vector_shown law w (PairAt k) h ne s shown =
+    let r = law.pair w.cells.cells (PairAt k) h in
+    ap (λ (store : List Object). places_of (slice_get store (number_at w.cells.cells k))) shown.store ∙ ap places_of (get_map (object_renumbered w.cells.cells) (store_of w.cells.cells) _ _ r.stands)
+no_vector_shown law w (VectorAt k) h ne s shown = absurd (ne refl)
+no_vector_shown law w (Number k) h ne s shown = refl
+no_vector_shown law w (IdAt k) h ne s shown = refl
+no_vector_shown law w (StrAt k) h ne s shown = refl
+no_vector_shown law w (BigAt k) h ne s shown = refl
+no_vector_shown law w (FunAt k) h ne s shown = refl
+
+-- ---- an object is changed
 
 abbrev with_list : World → List Cell → World
 with_list w cells = record w { cells = record w.cells { cells = cells } }
 
-changed_shown : (law : IsKept) (w : World) (new : List Cell) (store : Store) (s : State) → KeepsBlocks w.cells.cells new → SameValues w.cells.cells new → IsWorld w → IsClosed w.cells.cells → ShowsState w s → store ≡ store_in new → ShowsState (with_list w new) (record s { store = store })
-changed_shown law w new store s b same i closed shown e =
-    let kept = symbols_kept law w.cells.cells new w.syms.head s b i.table closed same shown.symbols in
+-- cells in which one object is another, and that leave blocks
+pub record Alters (old new : List Cell) (r : ℕ) (o : Object) : Type 0 where
+  pub keeps : KeepsBlocks old new
+  pub changes : ChangesObject old new r o
+
+object_grows : (law : IsKept) (w : World) (new : List Cell) (r : ℕ) (o : Object) → Alters w.cells.cells new r o → IsWorld w → WorldGrows w (with_list w new)
+object_grows law w new r o a i =
+    let run = i.running in
     record {
-      store = e;
+      world = world_kept law w (record w.cells { cells = new }) w.counts a.keeps (record { opened = run.opened; together = run.together; counted = run.counted; unmarked = run.unmarked; bound = run.bound; few = run.few }) i;
+      live = a.keeps.live;
+      values = λ x l. value_same w.cells.cells new x (numbers_same w.cells.cells new a.keeps) (a.changes.values x);
+    }
+
+object_shown : (law : IsKept) (w : World) (new : List Cell) (r : ℕ) (o : Object) → Alters w.cells.cells new r o → IsWorld w → IsClosed w.cells.cells → (s : State) → ShowsState w s
+    → ShowsState (with_list w new) (record s { store = changed_store s.store r (object_renumbered w.cells.cells o) })
+unfolding store_in
+object_shown law w new r o a i closed s shown =
+    let cells = w.cells.cells in
+    let f = object_renumbered cells in
+    let same : SameValues cells new = λ x l. value_same cells new x (numbers_same cells new a.keeps) (a.changes.values x) in
+    let kept = symbols_kept law cells new w.syms.head s a.keeps i.table closed same shown.symbols in
+    let stored : store_in new ≡ changed_store s.store r (f o) =
+    ap (map (object_renumbered new)) a.changes.store
+    ∙ objects_same cells new (changed_store (store_of cells) r o) (numbers_same cells new a.keeps)
+    ∙ map-set f (store_of cells) r o
+    ∙ ap (λ x. changed_store x r (f o)) (sym shown.store) in
+    record {
+      store = sym stored;
       symbols = record { many = kept.many; symbols = kept.symbols; values = kept.values };
-      counts = shown.counts ∙ sym (ap (λ e. record (counts_in w.cells w.counts) { expansion = e }) (expansion_kept w.cells.cells new w.counts.open_count w.counts.outermost (numbers_same w.cells.cells new b).ids));
+      counts = shown.counts ∙ sym (ap (λ e. record (counts_in w.cells w.counts) { expansion = e }) (expansion_kept cells new w.counts.open_count w.counts.outermost (numbers_same cells new a.keeps).ids));
       gensyms = shown.gensyms;
       column = shown.column;
       line_length = shown.line_length;
@@ -74,48 +122,130 @@ changed_shown law w new store s b same i closed shown e =
       free = shown.free;
     }
 
-pub car_grows : (law : IsKept) (blocks : LeaveBlocks) (change : ChangesMeaning) (w : World) (p v : Tagged) → IsWorld w → is_pair w.cells.cells p ≡ true → WorldGrows w (with_list w (changed_at w.cells.cells p (PairCell v (cdr_of w.cells.cells p))))
-car_grows law blocks change w p v i h =
+-- the call of the cells, in the world
+pub record IsAltered (w x : World) (new : List Cell) (r : ℕ) (o : Object) : Type 0 where
+  pub is : x ≡ with_list w new
+  pub alters : Alters w.cells.cells new r o
+  pub closed : IsClosed w.cells.cells
+
+pub altered_grows : (law : IsKept) (w x : World) (new : List Cell) (r : ℕ) (o : Object) → IsAltered w x new r o → IsWorld w → WorldGrows w x
+altered_grows law w x new r o a i = subst (λ y. WorldGrows w y) (sym a.is) (object_grows law w new r o a.alters i)
+
+pub altered_shown : (law : IsKept) (w x : World) (new : List Cell) (r : ℕ) (o : Object) → IsAltered w x new r o → IsWorld w → (s : State) → ShowsState w s
+    → ShowsState x (record s { store = changed_store s.store r (object_renumbered w.cells.cells o) })
+altered_shown law w x new r o a i s shown = subst (λ y. ShowsState y (record s { store = changed_store s.store r (object_renumbered w.cells.cells o) })) (sym a.is) (object_shown law w new r o a.alters i a.closed s shown)
+
+pub altered_rest : (w x : World) (new : List Cell) → x ≡ with_list w new → ObjectsAlone w x
+altered_rest w x new e = record { rest = subst (λ (y : World). y ≡ record w { cells = y.cells; syms = y.syms; counts = y.counts }) (sym e) refl }
+
+pub altered_is : (w : World) (cs : cell.CellStore) (new : List Cell) → cs ≡ record w.cells { cells = new } → record w { cells = cs } ≡ with_list w new
+altered_is w cs new e = ap (λ x. record w { cells = x }) e
+
+first_same : (p q : Value × Value) → Some p ≡ Some q → p.0 ≡ q.0
+first_same p q e = let f : p ≡ q = cc in ap (λ (p : Value × Value). p.0) f
+
+second_same : (p q : Value × Value) → Some p ≡ Some q → p.1 ≡ q.1
+second_same p q e = let f : p ≡ q = cc in ap (λ (p : Value × Value). p.1) f
+
+places_same : (xs ys : List Value) → Some xs ≡ Some ys → xs ≡ ys
+places_same xs ys e = cc
+
+-- a change of the pair that is named
+abbrev changed_pair : List Cell → Tagged → Tagged → Tagged → List Cell
+changed_pair cells p a d = changed_at cells p (PairCell a d)
+
+pub car_altered : (blocks : LeaveBlocks) (change : ChangesMeaning) (w : World) (cs : cell.CellStore) (p v : Tagged) → is_pair w.cells.cells p ≡ true → IsClosed w.cells.cells
+    → cs ≡ record w.cells { cells = changed_at w.cells.cells p (PairCell v (cdr_of w.cells.cells p)) }
+    → IsAltered w (record w { cells = cs }) (changed_at w.cells.cells p (PairCell v (cdr_of w.cells.cells p))) (number_at w.cells.cells (index_of p)) (Pair (value_of w.cells.cells v) (value_of w.cells.cells (cdr_of w.cells.cells p)))
+car_altered blocks change w cs p v h closed e = record {
+  is = altered_is w cs _ e;
+  alters = record { keeps = blocks.pair w.cells.cells p v (cdr_of w.cells.cells p) h; changes = change.car w.cells.cells p v h };
+  closed = closed;
+}
+
+pub cdr_altered : (blocks : LeaveBlocks) (change : ChangesMeaning) (w : World) (cs : cell.CellStore) (p v : Tagged) → is_pair w.cells.cells p ≡ true → IsClosed w.cells.cells
+    → cs ≡ record w.cells { cells = changed_at w.cells.cells p (PairCell (car_of w.cells.cells p) v) }
+    → IsAltered w (record w { cells = cs }) (changed_at w.cells.cells p (PairCell (car_of w.cells.cells p) v)) (number_at w.cells.cells (index_of p)) (Pair (value_of w.cells.cells (car_of w.cells.cells p)) (value_of w.cells.cells v))
+cdr_altered blocks change w cs p v h closed e = record {
+  is = altered_is w cs _ e;
+  alters = record { keeps = blocks.pair w.cells.cells p (car_of w.cells.cells p) v h; changes = change.cdr w.cells.cells p v h };
+  closed = closed;
+}
+
+pub place_altered : (blocks : LeaveBlocks) (change : ChangesMeaning) (w : World) (cs : cell.CellStore) (v x : Tagged) (i : ℕ) → is_vector w.cells.cells v ≡ true → IsClosed w.cells.cells
+    → cs ≡ record w.cells { cells = changed_at w.cells.cells v (VectorCell (slice_set (vector_of w.cells.cells v) i x)) }
+    → IsAltered w (record w { cells = cs }) (changed_at w.cells.cells v (VectorCell (slice_set (vector_of w.cells.cells v) i x))) (number_at w.cells.cells (index_of v)) (Vector (slice_set (map (value_of w.cells.cells) (vector_of w.cells.cells v)) i (value_of w.cells.cells x)))
+place_altered blocks change w cs v x i h closed e = record {
+  is = altered_is w cs _ e;
+  alters = record { keeps = blocks.vector w.cells.cells v (slice_set (vector_of w.cells.cells v) i x) h (length-set (vector_of w.cells.cells v) i x); changes = change.place w.cells.cells v x i h };
+  closed = closed;
+}
+
+-- what a pair refers to
+pub pair_ref : (cells : List Cell) (p : Tagged) → is_pair cells p ≡ true → value_in cells p ≡ Ref (number_at cells (index_of p))
+pair_ref cells (PairAt k) h = refl
+pair_ref cells (Number k) h = absurd (cc)
+pair_ref cells (IdAt k) h = absurd (cc)
+pair_ref cells (StrAt k) h = absurd (cc)
+pair_ref cells (VectorAt k) h = absurd (cc)
+pair_ref cells (BigAt k) h = absurd (cc)
+pair_ref cells (FunAt k) h = absurd (cc)
+
+pub vector_ref : (cells : List Cell) (p : Tagged) → is_vector cells p ≡ true → value_in cells p ≡ Ref (number_at cells (index_of p))
+vector_ref cells (VectorAt k) h = refl
+vector_ref cells (Number k) h = absurd (cc)
+vector_ref cells (IdAt k) h = absurd (cc)
+vector_ref cells (StrAt k) h = absurd (cc)
+vector_ref cells (PairAt k) h = absurd (cc)
+vector_ref cells (BigAt k) h = absurd (cc)
+vector_ref cells (FunAt k) h = absurd (cc)
+
+object_at : (x : World) (s : State) (v : Value) (r : ℕ) (o p : Object) → v ≡ Ref r → o ≡ p → ShowsState x (record s { store = changed_store s.store r o }) → ShowsState x (with_object v p s)
+object_at x s v r o p e f h = subst (λ u. ShowsState x (with_object u p s)) (sym e) (subst (λ q. ShowsState x (record s { store = changed_store s.store r q })) f h)
+
+pub car_shown : (law : IsKept) (read : IsRead) (w x : World) (new : List Cell) (p v : Tagged) → is_pair w.cells.cells p ≡ true
+    → IsAltered w x new (number_at w.cells.cells (index_of p)) (Pair (value_of w.cells.cells v) (value_of w.cells.cells (cdr_of w.cells.cells p))) → IsWorld w
+    → (s : State) (a d : Value) → ShowsState w s → pair_at s (value_in w.cells.cells p) ≡ Some (a, d) → ShowsState x (with_object (value_in w.cells.cells p) (Pair (value_in w.cells.cells v) d) s)
+car_shown law read w x new p v h alt i s a d shown has =
     let cells = w.cells.cells in
-    let new = changed_at cells p (PairCell v (cdr_of cells p)) in
-    let b = blocks.pair cells p v (cdr_of cells p) h in
-    let r = i.running in
-    record {
-      world = world_kept law w (record w.cells { cells = new }) w.counts b (record { opened = r.opened; together = r.together; counted = r.counted; unmarked = r.unmarked; bound = r.bound; few = r.few }) i;
-      live = b.live;
-      values = λ x l. value_same cells new x (numbers_same cells new b) ((change.car cells p v h).values x);
-    }
+    let d_is : value_in cells (cdr_of cells p) ≡ d = second_same (value_in cells (car_of cells p), value_in cells (cdr_of cells p)) (a, d) (sym (pair_shown read w p h s shown) ∙ has) in
+    object_at x s (value_in cells p) (number_at cells (index_of p)) (Pair (value_in cells v) (value_in cells (cdr_of cells p))) (Pair (value_in cells v) d) (pair_ref cells p h) (ap (λ y. Pair (value_in cells v) y) d_is) (altered_shown law w x new _ _ alt i s shown)
 
-second : (p q : Value × Value) → Some p ≡ Some q → p.1 ≡ q.1
-second p q e = let f : p ≡ q = cc in ap (λ (p : Value × Value). p.1) f
-
-pub car_shown : (law : IsKept) (blocks : LeaveBlocks) (change : ChangesMeaning) (read : IsRead) (w : World) (p v : Tagged) → IsWorld w → IsClosed w.cells.cells → is_pair w.cells.cells p ≡ true
-    → (s : State) (a d : Value) → ShowsState w s → pair_at s (value_in w.cells.cells p) ≡ Some (a, d) → ShowsState (with_list w (changed_at w.cells.cells p (PairCell v (cdr_of w.cells.cells p)))) (with_object (value_in w.cells.cells p) (Pair (value_in w.cells.cells v) d) s)
-unfolding store_in
-car_shown law blocks change read w (PairAt k) v i closed h s a d shown has =
+pub cdr_shown : (law : IsKept) (read : IsRead) (w x : World) (new : List Cell) (p v : Tagged) → is_pair w.cells.cells p ≡ true
+    → IsAltered w x new (number_at w.cells.cells (index_of p)) (Pair (value_of w.cells.cells (car_of w.cells.cells p)) (value_of w.cells.cells v)) → IsWorld w
+    → (s : State) (a d : Value) → ShowsState w s → pair_at s (value_in w.cells.cells p) ≡ Some (a, d) → ShowsState x (with_object (value_in w.cells.cells p) (Pair a (value_in w.cells.cells v)) s)
+cdr_shown law read w x new p v h alt i s a d shown has =
     let cells = w.cells.cells in
-    let new = changed_at cells (PairAt k) (PairCell v (cdr_of cells (PairAt k))) in
-    let b = blocks.pair cells (PairAt k) v (cdr_of cells (PairAt k)) h in
-    let c = change.car cells (PairAt k) v h in
-    let f = object_renumbered cells in
-    let was = pair_shown read w (PairAt k) h s shown in
-    let cdr : value_in cells (cdr_of cells (PairAt k)) ≡ d = second (value_in cells (car_of cells (PairAt k)), value_in cells (cdr_of cells (PairAt k))) (a, d) (sym was ∙ has) in
-    let stored : store_in new ≡ changed_store s.store (number_at cells k) (Pair (value_in cells v) d) =
-    ap (map (object_renumbered new)) c.store
-    ∙ objects_same cells new (changed_store (store_of cells) (number_at cells k) (Pair (value_of cells v) (value_of cells (cdr_of cells (PairAt k))))) (numbers_same cells new b)
-    ∙ map-set f (store_of cells) (number_at cells k) (Pair (value_of cells v) (value_of cells (cdr_of cells (PairAt k))))
-    ∙ ap (λ x. changed_store (map f (store_of cells)) (number_at cells k) (Pair (value_in cells v) x)) cdr
-    ∙ ap (λ x. changed_store x (number_at cells k) (Pair (value_in cells v) d)) (sym shown.store) in
-    changed_shown law w new _ s b (λ x l. value_same cells new x (numbers_same cells new b) (c.values x)) i closed shown (sym stored)
-car_shown law blocks change read w (Number k) v i closed h s a d shown has = absurd (cc)
-car_shown law blocks change read w (IdAt k) v i closed h s a d shown has = absurd (cc)
-car_shown law blocks change read w (StrAt k) v i closed h s a d shown has = absurd (cc)
-car_shown law blocks change read w (VectorAt k) v i closed h s a d shown has = absurd (cc)
-car_shown law blocks change read w (BigAt k) v i closed h s a d shown has = absurd (cc)
-car_shown law blocks change read w (FunAt k) v i closed h s a d shown has = absurd (cc)
+    let a_is : value_in cells (car_of cells p) ≡ a = first_same (value_in cells (car_of cells p), value_in cells (cdr_of cells p)) (a, d) (sym (pair_shown read w p h s shown) ∙ has) in
+    object_at x s (value_in cells p) (number_at cells (index_of p)) (Pair (value_in cells (car_of cells p)) (value_in cells v)) (Pair a (value_in cells v)) (pair_ref cells p h) (ap (λ y. Pair y (value_in cells v)) a_is) (altered_shown law w x new _ _ alt i s shown)
 
-pub car_final : (w : World) (cs : cell.CellStore) (new : List Cell) → cs ≡ record w.cells { cells = new } → with_list w new ≡ record w { cells = cs }
-car_final w cs new e = ap (λ x. record w { cells = x }) (sym e)
+pub place_shown : (law : IsKept) (read : IsRead) (w x : World) (new : List Cell) (v y : Tagged) (n : ℕ) → is_vector w.cells.cells v ≡ true
+    → IsAltered w x new (number_at w.cells.cells (index_of v)) (Vector (slice_set (map (value_of w.cells.cells) (vector_of w.cells.cells v)) n (value_of w.cells.cells y))) → IsWorld w
+    → (s : State) (xs : List Value) → ShowsState w s → vector_at s (value_in w.cells.cells v) ≡ Some xs → ShowsState x (with_object (value_in w.cells.cells v) (Vector (slice_set xs n (value_in w.cells.cells y))) s)
+place_shown law read w x new v y n h alt i s xs shown has =
+    let cells = w.cells.cells in
+    let vs = map (value_of cells) (vector_of cells v) in
+    let xs_are : map (renumbered cells) vs ≡ xs = places_same _ xs (sym (vector_shown read w v h s shown) ∙ has) in
+    object_at x s (value_in cells v) (number_at cells (index_of v)) (Vector (map (renumbered cells) (slice_set vs n (value_of cells y)))) (Vector (slice_set xs n (value_in cells y))) (vector_ref cells v h)
+    (ap Vector (map-set (renumbered cells) vs n (value_of cells y) ∙ ap (λ zs. slice_set zs n (value_in cells y)) xs_are)) (altered_shown law w x new _ _ alt i s shown)
+
+-- a place of a vector
+pub place_read : (read : IsRead) (w : World) (v y : Tagged) (n : ℕ) → is_vector w.cells.cells v ≡ true → slice_get (vector_of w.cells.cells v) n ≡ Some y
+    → (s : State) (xs : List Value) → ShowsState w s → vector_at s (value_in w.cells.cells v) ≡ Some xs → slice_get xs n ≡ Some (value_in w.cells.cells y)
+place_read read w v y n h got s xs shown has =
+    let cells = w.cells.cells in
+    let xs_are : map (renumbered cells) (map (value_of cells) (vector_of cells v)) ≡ xs = places_same _ xs (sym (vector_shown read w v h s shown) ∙ has) in
+    ap (λ zs. slice_get zs n) (sym xs_are) ∙ slice_get-map (renumbered cells) (map (value_of cells) (vector_of cells v)) n ∙ ap (option_map (renumbered cells)) (slice_get-map (value_of cells) (vector_of cells v) n ∙ ap (option_map (value_of cells)) got)
+
+-- how many places a vector has
+pub places_read : (read : IsRead) (w : World) (v : Tagged) (n : ℕ) → is_vector w.cells.cells v ≡ true → n ≡ length (vector_of w.cells.cells v)
+    → (s : State) → ShowsState w s → option_map length (vector_at s (value_in w.cells.cells v)) ≡ Some n
+places_read read w v n h e s shown =
+    let cells = w.cells.cells in
+    ap (option_map length) (vector_shown read w v h s shown) ∙ ap Some (length-map (map (value_of cells) (vector_of cells v)) (renumbered cells) ∙ length-map (vector_of cells v) (value_of cells) ∙ sym e)
+
+pub no_places_read : (read : IsRead) (w : World) (v : Tagged) → is_live w.cells.cells v ≡ true → tag_of v ≢ tag.Vector → (s : State) → ShowsState w s → option_map length (vector_at s (value_in w.cells.cells v)) ≡ None
+no_places_read read w v h ne s shown = ap (option_map length) (no_vector_shown read w v h ne s shown)
 
 -- ---- natives on a pair
 

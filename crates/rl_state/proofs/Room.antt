@@ -1,8 +1,8 @@
 -- Turns and room: what a world counts is what the definition counts.
-use Rattle.std.proofs.Common.{◌≡◌, ℕ, suc, ◌+◌, ◌-◌, ◌^◌, ◌<◌, ◌≤◌, Bool, true, false, nat_le, nat_lt, cond, List, Option, Some, None, Ok, Err, refl, sym, ap, subst, ◌∙◌, arith}
+use Rattle.std.proofs.Common.{◌≡◌, ℕ, suc, ◌+◌, ◌-◌, ◌^◌, ◌<◌, ◌≤◌, Bool, true, false, nat_le, nat_lt, cond, List, length, Option, Some, None, Ok, Err, refl, sym, ap, subst, ◌∙◌, arith}
 use Rattle.std.proofs.lemmas.Bool.{leb-true, leb-false, le-leb, lt-leb, ltb-true, ltb-false}
 use Rattle.rl_tags.specs.Tagged.{index_of}
-use Rattle.rl_cells.specs.Cell.{Cell, used_of}
+use Rattle.rl_cells.specs.Cell.{Cell, has_room, room_in, used_of}
 use Rattle.rl_cells.specs.Cell as cell
 use Rattle.rl_world.specs.Counts as counted
 use Rattle.rl_world.specs.Counts.{cells_stop, room_stop, room_stop_at, roomed, tick_stop, tick_stop_at, ticked, count_turns_left, turns_left_at, with_cells}
@@ -15,7 +15,8 @@ use Rattle.rl_meaning.specs.Outcome.{Outcome, Done, Stopped, Cells, room, turn, 
 use Rattle.rl_state.specs.Numbered.{ids_before}
 use Rattle.rl_state.specs.ShownState.{ShowsState, counts_in, expansion_in}
 use Rattle.rl_state.specs.Worlds.{IsWorld, AreRunCounts, WorldGrows}
-use Rattle.rl_state.specs.Ending.{StopsWith, MeansDone, StaysBeside, stop_in}
+use Rattle.rl_state.specs.Beside.{StaysBeside}
+use Rattle.rl_state.specs.Ending.{StopsWith, MeansDone, stop_in}
 
 -- what is left in a run
 abbrev pub left : ℕ → ℕ → ℕ → Option Expansion → Counts
@@ -114,6 +115,30 @@ room_full {A} c k cost s next why r e p h =
     let stop : room_stop_at k.outermost None (used_of c) cost k.cells_bound ≡ Some why = rw r.together at h in
     let f = room_full_at k.bound c.cells k.open_count k.outermost (used_of c) cost k.cells_bound (k.bound - k.turns) s next why p stop in
     record { state = f.state; is = ap (λ q. room cost (with_counts s q) next) (e ∙ left_in c k r) ∙ f.is; good = f.good }
+
+-- where room is counted, the cells have it
+cells_fit : (used cost bound : ℕ) → cells_stop None used cost bound ≡ None → nat_le (used + cost) bound ≡ true
+cells_fit used cost bound h = go (nat_le (used + cost) bound) refl h
+  where
+    go : (b : Bool) → nat_le (used + cost) bound ≡ b → cond b None (Some stop.Cells) ≡ None → nat_le (used + cost) bound ≡ true
+    go true e h = e
+    go false e h = absurd (cc)
+
+room_fits_at : (outer : Option expansion.Expansion) (used cost bound : ℕ) → room_stop_at outer None used cost bound ≡ None → nat_le (used + cost) bound ≡ true
+room_fits_at None used cost bound h = cells_fit used cost bound h
+room_fits_at (Some e) used cost bound h = go (nat_le (e.cells + cost) 1000000) h
+  where
+    go : (b : Bool) → cond b (cells_stop None used cost bound) (Some (stop.Expansion e.name)) ≡ None → nat_le (used + cost) bound ≡ true
+    go true h = cells_fit used cost bound h
+    go false h = absurd (cc)
+
+pub room_fits : (c : cell.CellStore) (k : counted.WorldCounts) (cost : ℕ) → AreRunCounts c k → room_stop k (used_of c) cost ≡ None → has_room c cost ≡ true
+room_fits c k cost r h =
+    let stop : room_stop_at k.outermost None (used_of c) cost k.cells_bound ≡ None = rw r.together at h in
+    let fits = room_fits_at k.outermost (used_of c) cost k.cells_bound stop in
+    let used : used_of c ≡ r.counted.0 = rw r.counted.1 refl in
+    ap (λ m. room_in c.count m (length c.cells) c.bound cost) r.unmarked ∙ ap (λ n. room_in n None (length c.cells) c.bound cost) r.counted.1
+    ∙ ap (λ u. nat_le (u + cost) c.bound) (sym used) ∙ ap (λ b. nat_le (used_of c + cost) b) (sym r.bound) ∙ fits
 
 -- ---- turns
 
@@ -224,7 +249,7 @@ turn_means w x e i h s shown = subst (λ y. MeansDone s (turn s (λ t. Done tt t
 
 pub turn_grows : (w x : World) → x ≡ record w { counts = ticked w.counts } → IsWorld w → WorldGrows w x
 turn_grows w x e i = subst (λ y. WorldGrows w y) (sym e) (record {
-  world = record { table = i.table; nil = i.nil; t = i.t; message = i.message; texts = i.texts; running = running_ticked w.cells w.counts i.running };
+  world = record { table = i.table; nil = i.nil; t = i.t; message = i.message; texts = i.texts; running = running_ticked w.cells w.counts i.running; levels = i.levels };
   live = λ v h. h;
   values = λ v h. refl;
 })

@@ -317,6 +317,7 @@ message_grows w new y i t sets =
           text = λ n d l. bytes_moved old new (index_of emsg_star_id) (slice_index_or w.texts n d) m ∙ i.texts.text n d l;
         };
         running = record { opened = i.running.opened; together = i.running.together; counted = i.running.counted; unmarked = i.running.unmarked; bound = i.running.bound; few = i.running.few };
+        levels = i.levels;
       };
       live = sets.live;
       values = λ v h. meaning_moved old new (index_of emsg_star_id) v m;
@@ -426,6 +427,7 @@ cell_grows w new id y i n t sets =
           text = λ p d l. bytes_moved old new (index_of id) (slice_index_or w.texts p d) m ∙ i.texts.text p d l;
         };
         running = record { opened = i.running.opened; together = i.running.together; counted = i.running.counted; unmarked = i.running.unmarked; bound = i.running.bound; few = i.running.few };
+        levels = i.levels;
       };
       live = sets.live;
       values = λ v h. meaning_moved old new (index_of id) v m;

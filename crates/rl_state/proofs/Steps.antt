@@ -21,7 +21,8 @@ use Rattle.rl_tree.specs.Value as value
 use Rattle.rl_state.specs.Numbered.{value_in}
 use Rattle.rl_state.specs.ShownState.{ShowsState}
 use Rattle.rl_state.specs.Worlds.{IsWorld, WorldGrows}
-use Rattle.rl_state.specs.Ending.{EndsShown, StopsWith, MeansValue, MeansAnswer, StaysBeside, stop_in}
+use Rattle.rl_state.specs.Beside.{StaysBeside}
+use Rattle.rl_state.specs.Ending.{EndsShown, StopsWith, MeansValue, MeansAnswer, stop_in}
 
 pub stays_trans : (s t u : State) → StaysBeside s t → StaysBeside t u → StaysBeside s u
 stays_trans s t u a b = record {

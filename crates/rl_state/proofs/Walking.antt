@@ -15,7 +15,8 @@ use Rattle.rl_meaning.specs.Walks.{Further, Goes, Walked, walk, walk_pair, walk_
 use Rattle.rl_state.specs.Numbered.{value_in}
 use Rattle.rl_state.specs.ShownState.{ShowsState}
 use Rattle.rl_state.specs.Worlds.{WorldGrows}
-use Rattle.rl_state.specs.Ending.{MeansDone, MeansAnswer, StaysBeside, parts_in}
+use Rattle.rl_state.specs.Beside.{StaysBeside}
+use Rattle.rl_state.specs.Ending.{MeansDone, MeansAnswer, parts_in}
 use Rattle.rl_state.proofs.Steps.{shows_reading, stays_trans, stays_watched}
 
 -- ---- turns

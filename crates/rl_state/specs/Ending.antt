@@ -15,10 +15,10 @@ use Rattle.rl_state.specs.ShownState.{ShowsState}
 use Rattle.rl_state.specs.Beside.{StaysBeside}
 
 -- it ends so, in some state that is as it should be
-pub record Reaches {A : Type 0} (good : State → Type 0) (o : Outcome A) (end : State → Outcome A) : Type 0 where
+pub record Reaches {A : Type 0} (wanted : State → Type 0) (o : Outcome A) (end : State → Outcome A) : Type 0 where
   pub state : State
   pub is : o ≡ end state
-  pub good : good state
+  pub good : wanted state
 
 -- the world shows the state, and what is beside it stays
 pub record IsShownBeside (w : World) (s t : State) : Type 0 where

@@ -36,12 +36,17 @@ pub record IsWorld (w : World) : Type 0 where
   pub message : HasNumber w.cells.cells emsg_star_id 3
   pub texts : AreTexts w.cells.cells w.texts 14
   pub running : AreRunCounts w.cells w.counts
+  pub levels : w.levels.level ≤ w.levels.bound
 
 -- what was live is live, and means what it meant
 pub record WorldGrows (old new : World) : Type 0 where
   pub world : IsWorld new
   pub live : (v : Tagged) → is_live old.cells.cells v ≡ true → is_live new.cells.cells v ≡ true
   pub values : (v : Tagged) → is_live old.cells.cells v ≡ true → value_in new.cells.cells v ≡ value_in old.cells.cells v
+
+-- of a world nothing but objects, names and counts has changed: levels, output, input and notes are as they were
+pub record ObjectsAlone (old new : World) : Type 0 where
+  pub rest : new ≡ record old { cells = new.cells; syms = new.syms; counts = new.counts }
 
 -- what no world determines: functions and compilation, bindings and the values below them, what is watched, files, and what was read, printed and noted
 pub record SameBesideWorld (s t : State) : Type 0 where

@@ -1,5 +1,5 @@
 -- Each call keeps the bounds, and where there is room the cells have it.
-use Rattle.std.proofs.Common.{◌≡◌, ℕ, ◌+◌, ◌<◌, ◌≤◌, Bool, true, false, cond, nat_le, List, ◌++◌, length, Option, Some, None, refl, sym, ap, ◌∙◌, arith}
+use Rattle.std.proofs.Common.{◌≡◌, ℕ, ◌+◌, ◌<◌, ◌≤◌, Bool, true, false, cond, nat_le, List, ◌++◌, length, Option, Some, None, refl, sym, subst, arith}
 use Rattle.std.specs.Prelude.{IsSome, ◌==◌}
 use Rattle.std.proofs.lemmas.Bool.{leb-true, le-leb}
 use Rattle.rl_tags.specs.Tagged.{Tagged}
@@ -43,7 +43,9 @@ enough o (Some e) (Some a) count None cells bound cost t s m h = absurd m
 enough o (Some e) (Some a) count (Some mark) cells bound cost t s m h = spare_enough count mark (length cells) bound e.cells cost s (cond_none (nat_le (e.cells + cost) 1000000) _ _ h).0
 
 pub room_enough : RoomIsEnough
-room_enough c s cost b m h = enough c.opening c.outermost c.aside s.count s.mark s.cells s.bound cost b.together b.spare m (rw b.bound h)
+room_enough c s cost b m h =
+    let P : ℕ → Type 0 = λ n. room_stop_at c.outermost c.aside (cells_taken c.opening s) cost (cells_bound_at c.opening n) ≡ None in
+    enough c.opening c.outermost c.aside s.count s.mark s.cells s.bound cost b.together b.spare m (subst P (sym b.bound) h)
 
 -- ---- each call keeps the bounds
 
@@ -91,7 +93,7 @@ spare_ended true None e (Some m) n h = absurd h
 spare_ended true (Some a) e (Some m) n h = tt
 
 spare_marked : (a : Option Aside) (e : Option Expansion) (n : ℕ) → IsSome a → AreSpareCounted a e (Some n) n
-spare_marked None e n h = absurd h
+spare_marked None e n h = absurd (cc)
 spare_marked (Some a) None n h = tt
 spare_marked (Some a) (Some e) n h = omega arith
 
@@ -114,7 +116,7 @@ bounds_kept law = record {
   changed = λ c s cells long b. record { bound = b.bound; together = b.together; spare = rw long b.spare };
   begun = λ c s name free b. record { bound = b.bound; together = b.together; spare = spare_begun c.aside c.outermost s.mark (length s.cells) name free b.spare };
   ended = λ c s b. record { bound = b.bound; together = b.together; spare = spare_ended (c.open_count == 1) c.aside c.outermost s.mark (length s.cells) b.spare };
-  apart = λ c s h b. record { bound = b.bound; together = b.together; spare = spare_without _ None s.mark (length s.cells) h };
+  apart = λ c s h b. record { bound = b.bound; together = b.together; spare = spare_without (set_aside c).aside None s.mark (length s.cells) h };
   rejoined = λ c s a h b. record { bound = b.bound; together = b.together; spare = spare_without None a.outermost s.mark (length s.cells) h };
   marked = λ c s some b. record { bound = b.bound; together = b.together; spare = spare_marked c.aside c.outermost (length s.cells) some };
   released = λ c s mark b. record { bound = b.bound; together = b.together; spare = tt };

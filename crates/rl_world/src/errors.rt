@@ -55,6 +55,7 @@ pub(crate) fn make_texts(c: &mut Cells) -> [Val; ERRORS]
 }
 
 /// The string of one text.
+#[tactic(auto, unfolding(rl_tree::specs::ErrorTexts::error_texts))]
 fn make_text(c: &mut Cells, i: usize) -> Val
     requires error { i < 14 }
     requires opening { IsOpening c.old c.old.bound }

@@ -8,20 +8,12 @@ use std::test::Fail;
 type Pieces = &'static [(&'static str, usize)];
 
 /// A file, what it prints, and the number.
-const ROWS: [(&str, &str, u8); 35] = [
-    ("(PRINT (CONS 1 2))", "(1 . 2)\n", 0),
+const ROWS: [(&str, &str, u8); 18] = [
     ("", "", 0),
-    (" \t\r\n", "", 0),
-    ("(PRINT '(a (b . 2) -3))", "(A (B . 2) -3)\n", 0),
+    (" \t\r\n%x", "", 0),
+    ("(PRINT '(a (b . 2) -3)) (print (cons nil t))(PRINT '()) (PRINT (PRINT 'x_1)) (PRINT (CONS (PRINT 1) (PRINT 2))) (PRINT ''a) (PRINT (QUOTE (1 . (2 . (3 . 4))))) (PRINT '(-0 007 1a)) (PRINT 576460752303423487) (PRINT -576460752303423488) (PRINT +1) (PRINT (TERPRI))", "(A (B . 2) -3)\n(NIL . T)\nNIL\nX_1\nX_1\n1\n2\n(1 . 2)\n(QUOTE A)\n(1 2 3 . 4)\n(0 7 1 A)\n576460752303423487\n-576460752303423488\n1\n\nNIL\n", 0),
+    ("(PRINT '[1 \"a\"\"b\" (x . !y)]) (PRIN2 \"a\"\"b\") (TERPRI)\n(PRIN2 \"xxxxxxxxxxxxxxxxxxxxxxxxxxxxxxxxxxxxxxxxxxxxxxxxxxxxxxxxxxxxxxxxxxxxxxxxxxxxxxx\")\n(PRIN2 \"yy\") (TERPRI)\n[a (FOO) \"x\"] (PRINT [(FOO)])\n(PRINT '(QUOTE . a)) (PRINT '(a . [b]))\n(PRIN1 'a)(PRIN1 \"b\")(PRIN2 'c)(TERPRI)(PRINT 1) % to the end\n% (FOO)\n(PRINT '!1!a) (PRIN2 '!1!a)", "[1 \"a\"\"b\" (X . !y)]\na\"b\nxxxxxxxxxxxxxxxxxxxxxxxxxxxxxxxxxxxxxxxxxxxxxxxxxxxxxxxxxxxxxxxxxxxxxxxxxxxxxxx\nyy\n[(FOO)]\n(QUOTE . A)\n(A . [B])\nA\"b\"C\n1\n!1!a\n1a", 0),
     ("(PRINT 1) (FOO)", "", 13),
-    ("(print (cons nil t))(PRINT '())", "(NIL . T)\nNIL\n", 0),
-    ("(PRINT (PRINT 'x_1))", "X_1\nX_1\n", 0),
-    ("(PRINT (CONS (PRINT 1) (PRINT 2)))", "1\n2\n(1 . 2)\n", 0),
-    ("(PRINT ''a)", "(QUOTE A)\n", 0),
-    ("(PRINT (QUOTE (1 . (2 . (3 . 4)))))", "(1 2 3 . 4)\n", 0),
-    ("(PRINT '(-0 007 1a))", "(0 7 1 A)\n", 0),
-    ("(PRINT 576460752303423487)", "576460752303423487\n", 0),
-    ("(PRINT -576460752303423488)", "-576460752303423488\n", 0),
     ("(PRINT 576460752303423488)", "", 13),
     ("(PRINT -576460752303423489)", "", 13),
     ("(PRINT '( . a))", "", 13),
@@ -30,15 +22,6 @@ const ROWS: [(&str, &str, u8); 35] = [
     (")", "", 13),
     ("(CONS 1)", "", 13),
     ("x", "", 13),
-    ("(PRINT +1)", "1\n", 0),
-    ("(PRINT '[1 \"a\"\"b\" (x . !y)]) (PRIN2 \"a\"\"b\") (TERPRI)", "[1 \"a\"\"b\" (X . !y)]\na\"b\n", 0),
-    ("(PRIN2 \"xxxxxxxxxxxxxxxxxxxxxxxxxxxxxxxxxxxxxxxxxxxxxxxxxxxxxxxxxxxxxxxxxxxxxxxxxxxxxxx\")\n(PRIN2 \"yy\") (TERPRI)", "xxxxxxxxxxxxxxxxxxxxxxxxxxxxxxxxxxxxxxxxxxxxxxxxxxxxxxxxxxxxxxxxxxxxxxxxxxxxxxx\nyy\n", 0),
-    ("(PRINT (TERPRI))", "\nNIL\n", 0),
-    ("[a (FOO) \"x\"] (PRINT [(FOO)])", "[(FOO)]\n", 0),
-    ("(PRIN1 'a)(PRIN1 \"b\")(PRIN2 'c)(TERPRI)(PRINT 1) % to the end", "A\"b\"C\n1\n", 0),
-    ("%x", "", 0),
-    ("% (FOO)\n(PRINT '!1!a) (PRIN2 '!1!a)", "!1!a\n1a", 0),
-    ("(PRINT '(QUOTE . a)) (PRINT '(a . [b]))", "(QUOTE . A)\n(A . [B])\n", 0),
     ("(PRINT 1) (TERPRI 1)", "", 13),
     ("(PRINT 1) (PRIN3 1)", "", 13),
     ("(PRINT 1) (QUOTE 1 2)", "", 13),
@@ -50,7 +33,7 @@ const ROWS: [(&str, &str, u8); 35] = [
 const LINE: &str = "1 1 1 1 1 1 1 1 1 1 1 1 1 1 1 1 1 1 1 1 1 1 1 1 1 1 1 1 1 1 1 1 1 1 1 1 1 1 1 1 \n";
 
 /// A file and what it prints, in pieces; the calls of the output and of the files that fail; and the number.
-const LONG_ROWS: [(Pieces, Pieces, &[u64], &[u64], u8); 15] = [
+const LONG_ROWS: [(Pieces, Pieces, &[u64], &[u64], u8); 13] = [
     (
         &[("(PRINT '", 1), ("(", 2000), (")", 2001)],
         &[("(", 1999), ("\nNIL", 1), (")", 1999), ("\n", 1)],
@@ -92,9 +75,7 @@ const LONG_ROWS: [(Pieces, Pieces, &[u64], &[u64], u8); 15] = [
         5,
     ),
     (&[("(PRINT 1)", 1), (" ", 1291)], &[], &[], &[1], 6),
-    (&[("(PRINT 1)", 1), (" ", 1291)], &[], &[], &[2], 6),
     (&[("(PRINT 1)", 1), (" ", 1291)], &[], &[], &[3], 6),
-    (&[("(PRINT 1)", 1), (" ", 1291)], &[], &[], &[4], 6),
     (&[("(PRINT 1)", 1), (" ", 1291)], &[("1\n", 1)], &[], &[5], 0),
 ];
 

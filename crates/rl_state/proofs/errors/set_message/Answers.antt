@@ -1,0 +1,19 @@
+use Rattle.std.proofs.Common.{subst}
+use Rattle.rl_meaning.specs.Symbols.{message_id, with_top}
+use Rattle.rl_state.specs.Numbered.{value_in}
+use Rattle.rl_state.specs.ShownState.{ShowsState}
+use Rattle.rl_state.specs.Worlds.{WorldGrows}
+use Rattle.rl_syms.specs.Table.{IsTable}
+use Rattle.rl_syms.specs.declared.table.Syms.{Syms}
+use Rattle.rl_state.proofs.Set.{message_final, message_grows, message_shown}
+use Rattle.rl_state.proofs.errors.set_message.Goals as goal
+
+pub returns-clause-shows : goal.returns-clause-shows
+returns-clause-shows c s shown =
+    subst (λ w. ShowsState w (with_top message_id (value_in c.args.w.now.cells.cells c.args.v) s)) (message_final c.args.w.now c.set_value.new.c c.set_value.new.self c.set_value.ensures.store c.set_value.ensures.same)
+    (message_shown c.args.w.now c.set_value.new.c.cells c.args.v c.requires.world c.set_value.ensures.sets s shown)
+
+pub returns-clause-grows : goal.returns-clause-grows
+returns-clause-grows c =
+    subst (λ w. WorldGrows c.args.w.now w) (message_final c.args.w.now c.set_value.new.c c.set_value.new.self c.set_value.ensures.store c.set_value.ensures.same)
+    (message_grows c.args.w.now c.set_value.new.c.cells _ c.requires.world (subst (λ (y : Syms). IsTable c.set_value.new.c.cells y.head) c.set_value.ensures.same c.set_value.ensures.table) c.set_value.ensures.sets)

@@ -1,0 +1,15 @@
+use Rattle.rl_state.proofs.Pairs.{cdr_altered, cdr_shown, altered_grows, altered_is, altered_rest}
+use Rattle.rl_state.proofs.objects.set_cdr.Goals as goal
+
+pub returns-clause-shows : goal.returns-clause-shows
+returns-clause-shows c =
+    cdr_shown c.table_is_kept.ensures c.meaning_of_reading.ensures c.args.w.now _ _ c.args.p c.args.v c.requires.pair
+    (cdr_altered c.others_leave_blocks.ensures c.meaning_of_change.ensures c.args.w.now c.set_cdr.new.self c.args.p c.args.v c.requires.pair c.set_cdr.ensures.closed c.set_cdr.ensures.changed) c.requires.world
+
+pub returns-clause-grows : goal.returns-clause-grows
+returns-clause-grows c =
+    altered_grows c.table_is_kept.ensures c.args.w.now _ _ _ _
+    (cdr_altered c.others_leave_blocks.ensures c.meaning_of_change.ensures c.args.w.now c.set_cdr.new.self c.args.p c.args.v c.requires.pair c.set_cdr.ensures.closed c.set_cdr.ensures.changed) c.requires.world
+
+pub returns-clause-rest : goal.returns-clause-rest
+returns-clause-rest c = altered_rest c.args.w.now _ _ (altered_is c.args.w.now c.set_cdr.new.self _ c.set_cdr.ensures.changed)

@@ -1,0 +1,23 @@
+use Rattle.std.proofs.Common.{refl}
+use Rattle.rl_cells.specs.Cell.{StrCell}
+use Rattle.rl_state.proofs.Made.{made_ends, string_ends, string_stops, rest_made, rest_refl}
+use Rattle.rl_state.proofs.objects.string.Goals as goal
+
+pub returns-in-Ok-clause-means : goal.returns-in-Ok-clause-means
+returns-in-Ok-clause-means c =
+    string_ends c.table_is_kept.ensures c.others_leave_blocks.ensures c.meaning_of_making.ensures c.args.w.now c.room.new.self c.string.new.self c.args.bytes.now c.unwrap.result
+    (record { counted = (rw c.string_cost.ensures at c.in-Ok.ensures.counted); made = rw c.unwrap.ensures at c.string.ensures.ok; named = rw c.unwrap.ensures at c.string.ensures.names; closed = c.string.ensures.closed; room = (rw c.string_cost.ensures at c.in-Ok.ensures.ok) }) c.requires.world
+
+pub returns-in-Ok-clause-grows : goal.returns-in-Ok-clause-grows
+returns-in-Ok-clause-grows c =
+    made_ends c.table_is_kept.ensures c.others_leave_blocks.ensures c.meaning_of_making.ensures c.args.w.now c.room.new.self c.string.new.self (StrCell c.args.bytes.now)
+    (rw c.string_cost.ensures at c.in-Ok.ensures.counted) (rw c.unwrap.ensures at c.string.ensures.ok) refl c.requires.world
+
+pub returns-in-Ok-clause-rest : goal.returns-in-Ok-clause-rest
+returns-in-Ok-clause-rest c = rest_made c.args.w.now c.room.new.self c.string.new.self _ c.in-Ok.ensures.counted
+
+pub returns-in-Err-clause-means : goal.returns-in-Err-clause-means
+returns-in-Err-clause-means c = string_stops c.args.w.now c.room.new.self c.args.bytes.now c.in-Err.why c.in-Err.ensures.err c.requires.world (rw c.string_cost.ensures at c.in-Err.ensures.stop)
+
+pub returns-in-Err-clause-rest : goal.returns-in-Err-clause-rest
+returns-in-Err-clause-rest c = rest_refl c.args.w.now c.room.new.self c.in-Err.ensures.err

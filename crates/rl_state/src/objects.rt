@@ -1,0 +1,185 @@
+//! Pairs, strings and vectors: they are made, taken apart and changed.
+ghost use Rattle.std.specs.Prelude.{◌≡◌, ◌<◌, ◌≤◌, IsTrue, IfOk, List, OnSome, Some, length, option_map, replicate, slice_get, slice_set};
+ghost use Rattle.std.specs.Option.{ForSome};
+ghost use Rattle.rl_tags.specs.Ids.{nil_id};
+ghost use Rattle.rl_tree.specs.Value.{Value, Pair, Vector};
+ghost use Rattle.rl_cells.specs.Cell.{StrCell, VectorCell, cost_of, is_live, is_pair, is_vector, vector_of};
+ghost use Rattle.rl_meaning.specs.State.{State};
+ghost use Rattle.rl_meaning.specs.Outcome.{made_pair, made_string};
+ghost use Rattle.rl_meaning.specs.Atoms.{made_places};
+ghost use Rattle.rl_meaning.specs.Symbols.{pair_at, vector_at};
+ghost use Rattle.rl_meaning.specs.Copying.{with_object};
+ghost use Rattle.rl_state.specs.Numbered.{value_in};
+ghost use Rattle.rl_state.specs.ShownState.{ShowsState};
+ghost use Rattle.rl_state.specs.Worlds.{IsWorld, ObjectsAlone, WorldGrows};
+ghost use Rattle.rl_state.specs.Ending.{MeansValue, parts_in};
+
+use rl_syms::laws::{meaning_of_change, meaning_of_making, meaning_of_reading};
+use rl_syms::laws::{others_leave_blocks, table_is_kept};
+use rl_tags::{Tag, Val};
+use rl_world::{Stop, World};
+
+/// A new pair. After a stop the objects are as before.
+pub fn pair(w: &mut World, a: Val, d: Val) -> Result<Val, Stop>
+    requires world { IsWorld w.old }
+    requires a_live { IsTrue (is_live w.old.cells.cells a) }
+    requires d_live { IsTrue (is_live w.old.cells.cells d) }
+    ensures means { (s : State) → ShowsState w.old s → MeansValue s (made_pair (value_in w.old.cells.cells a) (value_in w.old.cells.cells d) s) result w.new }
+    ensures live { IfOk result (λ v. IsTrue (is_live w.new.cells.cells v)) }
+    ensures grows { WorldGrows w.old w.new }
+    ensures rest { ObjectsAlone w.old w.new }
+{
+    match w.room(1) {
+        Ok(()) => {
+            others_leave_blocks();
+            table_is_kept();
+            meaning_of_making();
+            Ok(w.cells.cons(a, d).unwrap())
+        }
+        Err(why) => Err(why),
+    }
+}
+
+/// The cells of a string.
+fn string_cost(bytes: &[u8]) -> u32
+    requires { length bytes.now ≤ 65535 }
+    ensures { result ≡ cost_of (StrCell bytes.now) }
+{
+    1 + (bytes.len() as u32 + 15) / 16
+}
+
+/// A new string of these bytes. After a stop the objects are as before.
+pub fn string(w: &mut World, bytes: &[u8]) -> Result<Val, Stop>
+    requires world { IsWorld w.old }
+    requires short { length bytes.now ≤ 65535 }
+    ensures means { (s : State) → ShowsState w.old s → MeansValue s (made_string bytes.now s) result w.new }
+    ensures live { IfOk result (λ v. IsTrue (is_live w.new.cells.cells v)) }
+    ensures grows { WorldGrows w.old w.new }
+    ensures rest { ObjectsAlone w.old w.new }
+{
+    match w.room(string_cost(bytes)) {
+        Ok(()) => {
+            others_leave_blocks();
+            table_is_kept();
+            meaning_of_making();
+            Ok(w.cells.string(bytes).unwrap())
+        }
+        Err(why) => Err(why),
+    }
+}
+
+/// The cells of a vector.
+fn vector_cost(places: u32) -> u32
+    requires { places ≤ 2147483648 }
+    ensures { result ≡ cost_of (VectorCell (replicate places nil_id)) }
+{
+    1 + (places + 1) / 2
+}
+
+/// A new vector of this many places, each of them NIL. After a stop the objects are as before.
+pub fn vector(w: &mut World, places: u32) -> Result<Val, Stop>
+    requires world { IsWorld w.old }
+    requires short { places ≤ 2147483648 }
+    ensures means { (s : State) → ShowsState w.old s → MeansValue s (made_places places s) result w.new }
+    ensures live { IfOk result (λ v. IsTrue (is_live w.new.cells.cells v)) }
+    ensures grows { WorldGrows w.old w.new }
+    ensures rest { ObjectsAlone w.old w.new }
+{
+    match w.room(vector_cost(places)) {
+        Ok(()) => {
+            others_leave_blocks();
+            table_is_kept();
+            meaning_of_making();
+            Ok(w.cells.vector(places).unwrap())
+        }
+        Err(why) => Err(why),
+    }
+}
+
+/// The car and the cdr of a pair, or None of any other value.
+pub fn parts(w: &World, v: Val) -> Option<(Val, Val)>
+    requires { IsTrue (is_live w.now.cells.cells v) }
+    ensures means { (s : State) → ShowsState w.now s → pair_at s (value_in w.now.cells.cells v) ≡ parts_in w.now.cells.cells result }
+    ensures pair { OnSome result (IsTrue (is_pair w.now.cells.cells v)) }
+    ensures live { ForSome result (λ p. IsTrue (is_live w.now.cells.cells p.0) × IsTrue (is_live w.now.cells.cells p.1)) }
+{
+    meaning_of_reading();
+    match v.tag() {
+        Tag::Pair => Some((w.cells.car(v), w.cells.cdr(v))),
+        _ => None,
+    }
+}
+
+/// Makes this the car of a pair.
+pub fn set_car(w: &mut World, p: Val, v: Val)
+    requires world { IsWorld w.old }
+    requires pair { IsTrue (is_pair w.old.cells.cells p) }
+    requires v_live { IsTrue (is_live w.old.cells.cells v) }
+    ensures shows { (s : State) (a d : Value) → ShowsState w.old s → pair_at s (value_in w.old.cells.cells p) ≡ Some (a, d) → ShowsState w.new (with_object (value_in w.old.cells.cells p) (Pair (value_in w.old.cells.cells v) d) s) }
+    ensures grows { WorldGrows w.old w.new }
+    ensures rest { ObjectsAlone w.old w.new }
+{
+    others_leave_blocks();
+    table_is_kept();
+    meaning_of_change();
+    meaning_of_reading();
+    w.cells.set_car(p, v);
+}
+
+/// Makes this the cdr of a pair.
+pub fn set_cdr(w: &mut World, p: Val, v: Val)
+    requires world { IsWorld w.old }
+    requires pair { IsTrue (is_pair w.old.cells.cells p) }
+    requires v_live { IsTrue (is_live w.old.cells.cells v) }
+    ensures shows { (s : State) (a d : Value) → ShowsState w.old s → pair_at s (value_in w.old.cells.cells p) ≡ Some (a, d) → ShowsState w.new (with_object (value_in w.old.cells.cells p) (Pair a (value_in w.old.cells.cells v)) s) }
+    ensures grows { WorldGrows w.old w.new }
+    ensures rest { ObjectsAlone w.old w.new }
+{
+    others_leave_blocks();
+    table_is_kept();
+    meaning_of_change();
+    meaning_of_reading();
+    w.cells.set_cdr(p, v);
+}
+
+/// How many places a vector has, or None of any other value.
+pub fn places(w: &World, v: Val) -> Option<u32>
+    requires { IsTrue (is_live w.now.cells.cells v) }
+    ensures means { (s : State) → ShowsState w.now s → option_map length (vector_at s (value_in w.now.cells.cells v)) ≡ result }
+    ensures vector { OnSome result (IsTrue (is_vector w.now.cells.cells v)) }
+    ensures many { ForSome result (λ n. n ≡ length (vector_of w.now.cells.cells v)) }
+{
+    meaning_of_reading();
+    match v.tag() {
+        Tag::Vector => Some(w.cells.vector_len(v)),
+        _ => None,
+    }
+}
+
+/// The value at a place of a vector.
+pub fn place(w: &World, v: Val, i: u32) -> Val
+    requires vector { IsTrue (is_vector w.now.cells.cells v) }
+    requires within { i < length (vector_of w.now.cells.cells v) }
+    ensures means { (s : State) (xs : List Value) → ShowsState w.now s → vector_at s (value_in w.now.cells.cells v) ≡ Some xs → slice_get xs i ≡ Some (value_in w.now.cells.cells result) }
+    ensures live { IsTrue (is_live w.now.cells.cells result) }
+{
+    meaning_of_reading();
+    w.cells.get(v, i)
+}
+
+/// Makes this the value at a place of a vector.
+pub fn set_place(w: &mut World, v: Val, i: u32, x: Val)
+    requires world { IsWorld w.old }
+    requires vector { IsTrue (is_vector w.old.cells.cells v) }
+    requires within { i < length (vector_of w.old.cells.cells v) }
+    requires x_live { IsTrue (is_live w.old.cells.cells x) }
+    ensures shows { (s : State) (xs : List Value) → ShowsState w.old s → vector_at s (value_in w.old.cells.cells v) ≡ Some xs → ShowsState w.new (with_object (value_in w.old.cells.cells v) (Vector (slice_set xs i (value_in w.old.cells.cells x))) s) }
+    ensures grows { WorldGrows w.old w.new }
+    ensures rest { ObjectsAlone w.old w.new }
+{
+    others_leave_blocks();
+    table_is_kept();
+    meaning_of_change();
+    meaning_of_reading();
+    w.cells.put(v, i, x);
+}
