@@ -16,6 +16,7 @@ pub mod MadeVectors
 pub mod MadeLists
 pub mod FormedTold
 pub mod FormedTaken
+pub mod FormedBytes
 pub mod FormedKeeps
 pub mod FormedTurns
 pub mod FormedGoing
