@@ -13,6 +13,10 @@ pub record Slice : Type 0 where
   pub at : ℕ
   pub returned : Option ℕ
 
+-- the bytes of a slice that are to be read
+abbrev pub slice_left : Slice → List ℕ
+slice_left s = with_back s.returned (drop s.at s.bytes)
+
 -- a slice has ended where all its bytes were given
 abbrev pub unread_slice : Slice → Unread
 unread_slice s = record { returned = s.returned; given = s.at - length (with_back s.returned []); ended = s.at == length s.bytes; left = Some (drop s.at s.bytes) }
