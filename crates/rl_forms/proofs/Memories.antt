@@ -6,7 +6,7 @@ use Rattle.rl_tags.specs.declared.names.TheConstants.{OPENING_NAMES}
 use Rattle.rl_tags.specs.Opening.{opening_rows, place_of, name_at as opening_name}
 use Rattle.rl_cells.specs.Cell.{Cell, PairCell, placed, grown, is_live, is_pair, car_of, cdr_of}
 use Rattle.rl_syms.specs.Table.{IsTable, IsNamed}
-use Rattle.rl_syms.specs.Laws.{IsKept, LeaveBlocks}
+use Rattle.rl_syms.specs.Laws.{IsKept, LeaveIdentifiers}
 use Rattle.rl_tree.specs.Name.{Name}
 use Rattle.rl_text.specs.Datum.{Pair}
 use Rattle.rl_read.specs.Data.{IsDatumWithin, datum_within}
@@ -68,10 +68,10 @@ pair_seen law w v a d known t ea ed =
 abbrev pub grown_world : World → Tagged → Tagged → World
 grown_world w a d = record w { cells = grown w.cells (PairCell a d) }
 
-name_kept : IsKept → LeaveBlocks → (w : World) (a d : Tagged) (name : Name) (id : Tagged) → IsTable w.cells.cells w.syms.head → IsNameOf w name id → IsNameOf (grown_world w a d) name id
+name_kept : IsKept → LeaveIdentifiers → (w : World) (a d : Tagged) (name : Name) (id : Tagged) → IsTable w.cells.cells w.syms.head → IsNameOf w name id → IsNameOf (grown_world w a d) name id
 name_kept kept leave w a d name id table h = kept.names w.cells.cells (w.cells.cells ++ placed (PairCell a d)) w.syms.head name id (leave.made w.cells.cells (PairCell a d) refl) table h
 
-pub grown_running : IsKept → LeaveBlocks → (w : World) (a d : Tagged) → IsRunning w → IsRunning (grown_world w a d)
+pub grown_running : IsKept → LeaveIdentifiers → (w : World) (a d : Tagged) → IsRunning w → IsRunning (grown_world w a d)
 grown_running kept leave w a d is = record {
   table = kept.table w.cells.cells (w.cells.cells ++ placed (PairCell a d)) w.syms.head (leave.made w.cells.cells (PairCell a d) refl) is.table;
   nil = name_kept kept leave w a d _ _ is.table is.nil;

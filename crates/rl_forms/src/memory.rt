@@ -7,7 +7,7 @@ ghost use Rattle.rl_forms.specs.SeenValues.{Sees};
 
 use rl_io::OutOfMemory;
 use rl_read::laws::pairs_are_data;
-use rl_syms::laws::{others_leave_blocks, table_is_kept};
+use rl_syms::laws::{others_leave_identifiers, table_is_kept};
 use rl_tags::{Tag, Val};
 use rl_world::{Limits, World};
 use std::alloc::Global;
@@ -70,7 +70,7 @@ pub(crate) fn cons(world: &mut World, car: Val, cdr: Val) -> Result<Val, OutOfMe
 {
     pairs_are_data();
     table_is_kept();
-    others_leave_blocks();
+    others_leave_identifiers();
     match world.cells.cons(car, cdr) {
         Ok(pair) => Ok(pair),
         Err(_) => Err(OutOfMemory),

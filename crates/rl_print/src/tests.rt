@@ -9,7 +9,7 @@ use crate::atom::{AtomText, Style};
 use crate::print::{print1, print2};
 use rl_cells::laws::objects_are_changed;
 use rl_io::{Io, MemFiles, MemSink, MemSource};
-use rl_syms::laws::{others_leave_blocks, table_is_kept};
+use rl_syms::laws::{others_leave_identifiers, table_is_kept};
 use rl_tags::{NIL, Val};
 use rl_world::{Limits, Stop, World};
 use std::test::Fail;
@@ -88,7 +88,7 @@ fn wide_integer(w: &mut World, n: i128) -> Result<Val, Fail>
     ensures atom { IfOk result (λ v. IsTrue (is_atom w.new.cells.cells v)) }
 {
     table_is_kept();
-    others_leave_blocks();
+    others_leave_identifiers();
     Ok(w.cells.big(n)?)
 }
 
@@ -170,7 +170,7 @@ fn pair(w: &mut World, car: Val, cdr: Val) -> Result<Val, Fail>
     ensures longer { IfOk result (λ _. length w.old.cells.cells < length w.new.cells.cells) }
 {
     table_is_kept();
-    others_leave_blocks();
+    others_leave_identifiers();
     let Ok(pair) = w.cells.cons(car, cdr) else {
         return Err(Fail::new("no room"));
     };
@@ -206,7 +206,7 @@ fn vector(w: &mut World, places: u32) -> Result<Val, Fail>
         return Err(Fail::new("a long vector"));
     }
     table_is_kept();
-    others_leave_blocks();
+    others_leave_identifiers();
     let Ok(vector) = w.cells.vector(places) else {
         return Err(Fail::new("no room"));
     };
@@ -225,7 +225,7 @@ fn put(w: &mut World, v: Val, i: u32, x: Val)
     ensures kept { (u : Tagged) → IsTrue (is_live w.old.cells.cells u) → IsTrue (is_live w.new.cells.cells u) }
 {
     table_is_kept();
-    others_leave_blocks();
+    others_leave_identifiers();
     objects_are_changed();
     w.cells.put(v, i, x);
 }
@@ -241,7 +241,7 @@ fn string(w: &mut World, bytes: &[u8]) -> Result<Val, Fail>
         return Err(Fail::new("a long string"));
     }
     table_is_kept();
-    others_leave_blocks();
+    others_leave_identifiers();
     let Ok(string) = w.cells.string(bytes) else {
         return Err(Fail::new("no room"));
     };
@@ -477,7 +477,7 @@ fn ring(w: &mut World) -> Result<Val, Fail>
     ensures live { IfOk result (λ v. IsTrue (is_live w.new.cells.cells v)) }
 {
     table_is_kept();
-    others_leave_blocks();
+    others_leave_identifiers();
     objects_are_changed();
     let p = pair(w, Val::small(7), NIL)?;
     w.cells.set_cdr(p, p);

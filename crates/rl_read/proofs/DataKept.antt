@@ -6,7 +6,7 @@ use Rattle.std.proofs.lemmas.List.{get_or_past}
 use Rattle.rl_tags.specs.Tagged.{Tagged, Number, IdAt, StrAt, PairAt, VectorAt}
 use Rattle.rl_cells.specs.Cell.{Cell, More, PairCell, cell_at, is_id_cell, is_str_cell, is_pair_cell, is_vector_cell, is_live, is_pair, car_in, cdr_in, car_of, cdr_of, bytes_in, vector_in, placed}
 use Rattle.rl_cells.specs.Laws.{IsAdded}
-use Rattle.rl_syms.specs.Laws.{IsKept, LeaveBlocks}
+use Rattle.rl_syms.specs.Laws.{IsKept, LeaveIdentifiers}
 use Rattle.rl_syms.specs.Table.{IsTable, IsNamed, name_in_cells}
 use Rattle.rl_text.specs.Datum.{Datum, Id, Str, Pair, Vector, elements}
 use Rattle.rl_read.specs.Data.{IsDatumWithin, datum_within, IsDatum, datum_of}
@@ -93,7 +93,7 @@ datum_live n cells head v h = absurd h
 
 -- ---- a new pair
 
-pub pair_stays : IsAdded → IsKept → LeaveBlocks → (cells : List Cell) (head : Option Tagged) (a d : Tagged) → IsTable cells head → Stays cells head (cells ++ placed (PairCell a d)) head
+pub pair_stays : IsAdded → IsKept → LeaveIdentifiers → (cells : List Cell) (head : Option Tagged) (a d : Tagged) → IsTable cells head → Stays cells head (cells ++ placed (PairCell a d)) head
 pair_stays added kept leave cells head a d table = record {
   same = λ k l. added.stands cells (placed (PairCell a d)) k l;
   names = λ bytes id h. kept.names cells (cells ++ placed (PairCell a d)) head bytes id (leave.made cells (PairCell a d) refl) table h;
@@ -102,13 +102,13 @@ pair_stays added kept leave cells head a d table = record {
 pair_longer : IsAdded → (cells : List Cell) (a d : Tagged) → length (cells ++ placed (PairCell a d)) ≡ suc (length cells)
 pair_longer added cells a d = added.long cells (PairCell a d) (omega arith) ∙ omega arith
 
-pub pair_kept : IsAdded → IsKept → LeaveBlocks → (cells : List Cell) (head : Option Tagged) (a d v : Tagged) → IsTable cells head → IsDatum cells head v
+pub pair_kept : IsAdded → IsKept → LeaveIdentifiers → (cells : List Cell) (head : Option Tagged) (a d v : Tagged) → IsTable cells head → IsDatum cells head v
     → IsDatum (cells ++ placed (PairCell a d)) head v × (datum_of (cells ++ placed (PairCell a d)) v ≡ datum_of cells v)
 pair_kept added kept leave cells head a d v table h =
     data_kept cells head (cells ++ placed (PairCell a d)) head (pair_stays added kept leave cells head a d table) (omega (arith, pair_longer added cells a d)) v h
 
 -- a new pair of data, one deeper
-pub pair_new : IsAdded → IsKept → LeaveBlocks → (cells : List Cell) (head : Option Tagged) (a d : Tagged) → IsTable cells head → IsDatum cells head a → IsDatum cells head d
+pub pair_new : IsAdded → IsKept → LeaveIdentifiers → (cells : List Cell) (head : Option Tagged) (a d : Tagged) → IsTable cells head → IsDatum cells head a → IsDatum cells head d
     → IsDatum (cells ++ placed (PairCell a d)) head (PairAt (length cells)) × (datum_of (cells ++ placed (PairCell a d)) (PairAt (length cells)) ≡ Pair (datum_of cells a) (datum_of cells d))
 pair_new added kept leave cells head a d table x y =
     let stays = pair_stays added kept leave cells head a d table in

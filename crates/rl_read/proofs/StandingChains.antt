@@ -3,7 +3,7 @@ use Rattle.std.proofs.Common.{◌≡◌, ◌≢◌, ℕ, zero, suc, ◌<◌, ◌
 use Rattle.rl_tags.specs.Tagged.{Tagged, PairAt}
 use Rattle.rl_cells.specs.Cell.{Cell, PairCell, cell_at, is_pair_cell, car_in, car_of, changed_at}
 use Rattle.rl_cells.specs.Laws.{IsChanged}
-use Rattle.rl_syms.specs.Laws.{IsKept, LeaveBlocks}
+use Rattle.rl_syms.specs.Laws.{IsKept, LeaveIdentifiers}
 use Rattle.rl_syms.specs.Table.{nil_value}
 use Rattle.rl_text.specs.Datum.{Datum, elements, listed, nil}
 use Rattle.rl_text.specs.Reading.{Items, listed_items}
@@ -118,7 +118,7 @@ pub set_here : IsChanged → (q : ℕ) (w : Heap) (x y v : Tagged) → cell_at w
 set_here changed q w x y v e = changed.here w.cells q (PairCell (car_of w.cells (PairAt q)) v) (pair_inside w q x y e) ∙ ap (λ c. PairCell (car_in c) v) e
 
 -- what does not reach from q on stays, nor what begins behind q
-pub set_keeps : IsChanged → IsKept → LeaveBlocks → (lo hi q : ℕ) (w : Heap) (x y v : Tagged) → IsHeap w → cell_at w.cells q ≡ PairCell x y → ((p : ℕ) → lo ≤ p → p < hi → p ≢ q) → Keeps lo hi w (with_cdr_at q v w)
+pub set_keeps : IsChanged → IsKept → LeaveIdentifiers → (lo hi q : ℕ) (w : Heap) (x y v : Tagged) → IsHeap w → cell_at w.cells q ≡ PairCell x y → ((p : ℕ) → lo ≤ p → p < hi → p ≢ q) → Keeps lo hi w (with_cdr_at q v w)
 set_keeps changed kept leave lo hi q w x y v n e apart = record {
   longer = omega (arith, length-set w.cells q (PairCell (car_of w.cells (PairAt q)) v));
   same = λ p a b l. changed.others w.cells q p (PairCell (car_of w.cells (PairAt q)) v) (apart p a b);
@@ -126,7 +126,7 @@ set_keeps changed kept leave lo hi q w x y v n e apart = record {
   names = λ bytes id h. kept.names w.cells (with_cdr_at q v w).cells w.head bytes id (leave.pair w.cells (PairAt q) (car_of w.cells (PairAt q)) v (ap is_pair_cell e)) n.table h;
 }
 
-pub set_heap : IsKept → LeaveBlocks → (q : ℕ) (w : Heap) (x y v : Tagged) → IsHeap w → cell_at w.cells q ≡ PairCell x y → IsHeap (with_cdr_at q v w)
+pub set_heap : IsKept → LeaveIdentifiers → (q : ℕ) (w : Heap) (x y v : Tagged) → IsHeap w → cell_at w.cells q ≡ PairCell x y → IsHeap (with_cdr_at q v w)
 set_heap kept leave q w x y v n e =
     let blocks = leave.pair w.cells (PairAt q) (car_of w.cells (PairAt q)) v (ap is_pair_cell e) in
     record {

@@ -5,8 +5,8 @@ use Rattle.std.proofs.lemmas.Slice.Eq.{bytes_eq-Decides}
 use Rattle.rl_tags.specs.Tagged.{Tagged, StrAt, PairAt}
 use Rattle.rl_cells.specs.Cell.{Cell, PairCell, StrCell, cost_of, has_room, placed}
 use Rattle.rl_cells.specs.Laws.{IsAdded, IsChanged}
-use Rattle.rl_syms.specs.Frame.{block_in}
-use Rattle.rl_syms.specs.Laws.{AreIdentifiers, IsKept, LeaveBlocks, NamesEnter}
+use Rattle.rl_syms.specs.Frame.{words_of_id}
+use Rattle.rl_syms.specs.Laws.{AreIdentifiers, IsKept, LeaveIdentifiers, NamesEnter}
 use Rattle.rl_syms.specs.Made.{id_cost, new_id, with_id}
 use Rattle.rl_syms.specs.Table.{Among, IsFree, IsNamed, ids_from, name_in_cells, nil_value}
 use Rattle.rl_tree.specs.Name.{Name, quote_name}
@@ -24,7 +24,7 @@ pub record AreLaws : Type 0 where
   pub added : IsAdded
   pub changed : IsChanged
   pub kept : IsKept
-  pub leave : LeaveBlocks
+  pub leave : LeaveIdentifiers
   pub enter : NamesEnter
   pub ids : AreIdentifiers
 
@@ -67,7 +67,7 @@ grows_refl w h = record { heap = h; keeps = λ lo hi. keeps_refl lo hi w }
 pub added_longer : AreLaws → (w : Heap) (c : Cell) → 0 < cost_of c → length (added w c).cells ≡ length w.cells + cost_of c
 added_longer laws w c some = laws.added.long w.cells c some
 
-pub added_grows : AreLaws → (w : Heap) (c : Cell) → 0 < cost_of c → block_in c ≡ None → IsHeap w → Grows w (added w c)
+pub added_grows : AreLaws → (w : Heap) (c : Cell) → 0 < cost_of c → words_of_id c ≡ None → IsHeap w → Grows w (added w c)
 added_grows laws w c some none h =
     let blocks = laws.leave.made w.cells c none in
     record {

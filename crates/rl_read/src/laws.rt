@@ -4,7 +4,7 @@ ghost use Rattle.rl_read.specs.Laws.{MeansDatum, PairsAreData, ReadsData, ReadsT
 use rl_cells::laws::{objects_are_added, objects_are_changed};
 use rl_syms::laws::{
     identifiers_are_numbered, meaning_of_reading, names_are_identifiers, names_are_numbered,
-    names_enter, others_leave_blocks, table_is_kept,
+    names_enter, others_leave_identifiers, table_is_kept,
 };
 use rl_text::laws::{blank_text_has_none, unreadable_at_first_byte, what_is_found_is_spelled};
 
@@ -35,7 +35,7 @@ pub fn pairs_are_data()
 {
     objects_are_added();
     table_is_kept();
-    others_leave_blocks();
+    others_leave_identifiers();
 }
 
 /// A value that was read is the datum that the text spells: names stay a table, and what was a datum before is the same
@@ -47,7 +47,7 @@ pub fn what_is_read_is_the_datum()
     objects_are_added();
     objects_are_changed();
     table_is_kept();
-    others_leave_blocks();
+    others_leave_identifiers();
     names_enter();
     names_are_identifiers();
 }

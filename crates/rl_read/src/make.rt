@@ -13,7 +13,7 @@ ghost use Rattle.rl_read.specs.Steps.{IsAtom, Lacks, atom_meant};
 use crate::frames::{Chain, first_of};
 use rl_cells::Full;
 use rl_cells::laws::objects_are_added;
-use rl_syms::laws::{others_leave_blocks, table_is_kept};
+use rl_syms::laws::{others_leave_identifiers, table_is_kept};
 use rl_tags::{NIL, Tag, Val};
 use rl_world::{Stop, World};
 
@@ -40,7 +40,7 @@ pub(crate) fn pair(w: &mut World, car: Val, cdr: Val) -> Result<Val, Stop>
     ensures making { IsMaking w.old w.new }
 {
     table_is_kept();
-    others_leave_blocks();
+    others_leave_identifiers();
     if let Err(s) = w.room(1) {
         return Err(s);
     }
@@ -61,7 +61,7 @@ fn string(w: &mut World, bytes: &[u8]) -> Result<Val, Stop>
     ensures making { IsMaking w.old w.new }
 {
     table_is_kept();
-    others_leave_blocks();
+    others_leave_identifiers();
     let cost = 1 + (bytes.len() as u32 + 15) / 16;
     if let Err(s) = w.room(cost) {
         return Err(s);
@@ -179,7 +179,7 @@ fn set_cdr(w: &mut World, p: Val, v: Val)
     ensures making { IsMaking w.old w.new }
 {
     table_is_kept();
-    others_leave_blocks();
+    others_leave_identifiers();
     w.cells.set_cdr(p, v);
 }
 
@@ -225,7 +225,7 @@ fn fill(w: &mut World, v: Val, list: Val, n: u32)
     ensures making { IsMaking w.old w.new }
 {
     table_is_kept();
-    others_leave_blocks();
+    others_leave_identifiers();
     let mut at = list;
     for i in 0..n {
         let x = w.cells.car(at);
@@ -246,7 +246,7 @@ pub(crate) fn vector(w: &mut World, chain: &Chain) -> Result<Val, Stop>
     ensures making { IsMaking w.old w.new }
 {
     table_is_kept();
-    others_leave_blocks();
+    others_leave_identifiers();
     objects_are_added();
     let list = first_of(chain);
     let n = count(w, list);

@@ -5,7 +5,6 @@ use Rattle.std.specs.List.{list_all}
 use Rattle.std.proofs.Math.ListN.{get_or-eq_default}
 use Rattle.std.proofs.lemmas.Bool.{and_parts, leb-true, leb-false}
 use Rattle.rl_tags.specs.Tagged.{Tagged, Number, IdAt, StrAt, PairAt, VectorAt, BigAt, FunAt, index_of, tagged_of}
-use Rattle.rl_tags.specs.declared.Tag.{Tag}
 use Rattle.rl_tags.specs.declared.Tag.TheVariants as tag
 use Rattle.rl_tree.specs.Value.{Value, Id}
 use Rattle.rl_tree.specs.declared.held.Kind.{Kind}
@@ -15,31 +14,13 @@ use Rattle.rl_syms.specs.Contents.{ids_before, value_of}
 use Rattle.rl_syms.specs.Numbers.{IdentifiersAreNumbered}
 use Rattle.rl_syms.specs.Table as table
 use Rattle.rl_syms.specs.Table.{IsTable, SymbolCells, chain, ids_from, is_id, held_in, kind_in_word, next_at, of_kind, rank_of, symbol_in_cells}
-use Rattle.rl_syms.specs.Frame.{KeepsBlocks, block_in}
+use Rattle.rl_syms.specs.Frame.{KeepsIdentifiers, words_of_id}
 use Rattle.rl_syms.specs.Laws.{IsKept}
 use Rattle.rl_meaning.specs.State.{State}
 use Rattle.rl_meaning.specs.State as meaning
 use Rattle.rl_state.specs.ShownState.{ShowsSymbols, is_listed, definition_in, number_in, option_value_in, pointer_named, symbol_meant}
 
 -- ---- identifiers
-
-id_from : Option (Tag × List ℕ) → Bool
-id_from (Some (tag.Id, words)) = true
-id_from _ = false
-
-id_is : (c : Cell) → is_id_cell c ≡ id_from (block_in c)
-unfolding id_from
-id_is (BlockCell tag.Int words) = refl
-id_is (BlockCell tag.Id words) = refl
-id_is (BlockCell tag.Str words) = refl
-id_is (BlockCell tag.Pair words) = refl
-id_is (BlockCell tag.Vector words) = refl
-id_is (BlockCell tag.Big words) = refl
-id_is (BlockCell tag.Fun words) = refl
-id_is _ = refl
-
-pub id_same : (old new : List Cell) (k : ℕ) → KeepsBlocks old new → is_id_cell (cell_at new k) ≡ is_id_cell (cell_at old k)
-id_same old new k b = id_is (cell_at new k) ∙ ap id_from (b.blocks k) ∙ sym (id_is (cell_at old k))
 
 pub id_inside : (cells : List Cell) (k : ℕ) → is_id_cell (cell_at cells k) ≡ true → k < length cells
 id_inside cells k h = go (nat_le (length cells) k) refl
@@ -134,17 +115,6 @@ held_tagged w v = go (nat_le (w % 16) 6)
     go true h = cc
     go false h = absurd (cc)
 
-pub chain_same : (old new : List Cell) (n : ℕ) (v : Option Tagged) → ((k : ℕ) → next_at new k ≡ next_at old k) → chain n new v ≡ chain n old v
-chain_same old new zero v s = refl
-chain_same old new (suc n) (Some (IdAt k)) s = ap (λ ks. k ∷ ks) (ap (chain n new) (s k) ∙ chain_same old new n (next_at old k) s)
-chain_same old new (suc n) (Some (Number z)) s = refl
-chain_same old new (suc n) (Some (StrAt k)) s = refl
-chain_same old new (suc n) (Some (PairAt k)) s = refl
-chain_same old new (suc n) (Some (VectorAt k)) s = refl
-chain_same old new (suc n) (Some (BigAt k)) s = refl
-chain_same old new (suc n) (Some (FunAt k)) s = refl
-chain_same old new (suc n) None s = refl
-
 definition_same : (old new : List Cell) (kind : Kind) (w : ℕ) → is_live_word old w ≡ true → SameValues old new → definition_in new (of_kind kind (held_in w)) ≡ definition_in old (of_kind kind (held_in w))
 definition_same old new kind w h same = go (held_in w) refl
   where
@@ -216,18 +186,19 @@ value_stood old new head k t c same h e =
     let six = t.chained.six k h in
     ap (λ (y : SymbolCells). option_value_in new y.value) e ∙ option_same old new _ (words_live old k 1 c (omega arith)) same
 
-pub symbols_kept : (law : IsKept) (numbers : IdentifiersAreNumbered) (old new : List Cell) (head : Option Tagged) (s : State) → KeepsBlocks old new → IsTable old head → IsClosed old → SameValues old new
+pub symbols_kept : (law : IsKept) (numbers : IdentifiersAreNumbered) (old new : List Cell) (head : Option Tagged) (s : State) → KeepsIdentifiers old new → IsTable old head → IsClosed old → SameValues old new
     → ShowsSymbols old head s → ShowsSymbols new head s
 symbols_kept law numbers old new head s b t c same shown =
-    let chains : ids_from new head ≡ ids_from old head = chain_same old new (rank_of head) head (λ k. ap (λ (y : SymbolCells). y.next) (law.symbols old new k b)) in
+    let chains : ids_from new head ≡ ids_from old head = law.chains old new head b t in
+    let id_same : (k : ℕ) → is_id_cell (cell_at new k) ≡ is_id_cell (cell_at old k) = λ k. law.ids old new (IdAt k) b in
     record {
-      many = shown.many ∙ sym (all_ids_same numbers old new (λ k. id_same old new k b));
+      many = shown.many ∙ sym (all_ids_same numbers old new id_same);
       symbols = λ k h.
-          let was : is_id_cell (cell_at old k) ≡ true = sym (id_same old new k b) ∙ h in
+          let was : is_id_cell (cell_at old k) ≡ true = sym (id_same k) ∙ h in
           let number = number_same old new k same was in
-          rw number (shown.symbols k was ∙ sym (symbol_like old new head head k _ (alike_stood old new head head k t c same b.texts (ap (is_listed k) chains) was (law.symbols old new k b))));
+          rw number (shown.symbols k was ∙ sym (symbol_like old new head head k _ (alike_stood old new head head k t c same b.texts (ap (is_listed k) chains) was (law.symbols old new k b was))));
       values = λ k h.
-          let was : is_id_cell (cell_at old k) ≡ true = sym (id_same old new k b) ∙ h in
+          let was : is_id_cell (cell_at old k) ≡ true = sym (id_same k) ∙ h in
           let number = number_same old new k same was in
-          rw number (shown.values k was ∙ sym (value_stood old new head k t c same was (law.symbols old new k b)));
+          rw number (shown.values k was ∙ sym (value_stood old new head k t c same was (law.symbols old new k b was)));
     }

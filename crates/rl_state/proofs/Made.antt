@@ -9,7 +9,7 @@ use Rattle.rl_tree.specs.Value.{Value, Id, Str, Ref, Vector, Store, cons_store, 
 use Rattle.rl_cells.specs.Cell as cell
 use Rattle.rl_cells.specs.Cell.{Cell, PairCell, StrCell, VectorCell, IsClosed, cost_of, grown, has_room, placed, is_live, is_str, used_of}
 use Rattle.rl_syms.specs.Contents.{value_of, store_of}
-use Rattle.rl_syms.specs.Frame.{KeepsBlocks, block_in}
+use Rattle.rl_syms.specs.Frame.{KeepsIdentifiers, words_of_id}
 use Rattle.rl_syms.specs.Laws.{IsKept}
 use Rattle.rl_syms.specs.Table.{is_id}
 use Rattle.rl_state.specs.CellLaws.{AreCellLaws}
@@ -29,7 +29,7 @@ use Rattle.rl_state.specs.Ending.{MeansValue}
 use Rattle.rl_state.proofs.Kept.{SameValues, named_same, symbols_kept}
 use Rattle.rl_state.proofs.Room.{left, left_in, room_done, room_fits, room_full, roomed_in}
 
-string_kept : (old new : List Cell) (v : Tagged) → KeepsBlocks old new → is_str old v ≡ true → is_str new v ≡ true
+string_kept : (old new : List Cell) (v : Tagged) → KeepsIdentifiers old new → is_str old v ≡ true → is_str new v ≡ true
 string_kept old new (StrAt k) b h = b.live (StrAt k) h
 string_kept old new (Number k) b h = h
 string_kept old new (IdAt k) b h = h
@@ -38,13 +38,13 @@ string_kept old new (VectorAt k) b h = h
 string_kept old new (BigAt k) b h = h
 string_kept old new (FunAt k) b h = h
 
-numbered_kept : (law : IsKept) (old new : List Cell) (id : Tagged) (i : ℕ) → KeepsBlocks old new → SameValues old new → HasNumber old id i → HasNumber new id i
+numbered_kept : (law : IsKept) (old new : List Cell) (id : Tagged) (i : ℕ) → KeepsIdentifiers old new → SameValues old new → HasNumber old id i → HasNumber new id i
 numbered_kept law old new id i b same n = record {
   is_id = law.ids old new id b ∙ n.is_id;
   number = named_same old new id same n.is_id ∙ n.number;
 }
 
-texts_kept : (old new : List Cell) (texts : List Tagged) → KeepsBlocks old new → AreTexts old texts 14 → AreTexts new texts 14
+texts_kept : (old new : List Cell) (texts : List Tagged) → KeepsIdentifiers old new → AreTexts old texts 14 → AreTexts new texts 14
 texts_kept old new texts b t = record {
   string = λ i d l. string_kept old new (slice_index_or texts i d) b (t.string i d l);
   text = λ i d l. b.texts (slice_index_or texts i d) (t.string i d l) ∙ t.text i d l;
@@ -57,7 +57,7 @@ IsExpanding cells outer = ForSome outer (λ e. is_id cells e.name ≡ true)
 pub expanding_kept : (old new : List Cell) (outer : Option Expansion) → ((v : Tagged) → is_id old v ≡ true → is_id new v ≡ true) → IsExpanding old outer → IsExpanding new outer
 expanding_kept old new outer f h = λ e is. f e.name (h e is)
 
-pub world_kept : (law : IsKept) (w : World) (c : cell.CellStore) (k : counted.WorldCounts) → KeepsBlocks w.cells.cells c.cells → SameValues w.cells.cells c.cells → AreRunCounts c k → IsExpanding c.cells k.outermost → IsWorld w → IsWorld (record w { cells = c; counts = k })
+pub world_kept : (law : IsKept) (w : World) (c : cell.CellStore) (k : counted.WorldCounts) → KeepsIdentifiers w.cells.cells c.cells → SameValues w.cells.cells c.cells → AreRunCounts c k → IsExpanding c.cells k.outermost → IsWorld w → IsWorld (record w { cells = c; counts = k })
 world_kept law w c k b same r x i = record {
   table = law.table w.cells.cells c.cells w.syms.head b i.table;
   t = numbered_kept law w.cells.cells c.cells _ 1 b same i.t;
@@ -107,7 +107,7 @@ counts_made law w c i =
     sym (after ∙ ap (λ n. left k.bound (k.bound - k.turns) (k.cells_bound - n) (expansion_in (s.cells ++ placed c) k.open_count (with_cells (cost_of c) k.outermost))) used
     ∙ ap (λ e. left k.bound (k.bound - k.turns) (k.cells_bound - (used_of s + cost_of c)) e) expands)
 
-pub made_grows : (law : AreCellLaws) (w : World) (c : Cell) → block_in c ≡ None → IsWorld w → WorldGrows w (with_made w c)
+pub made_grows : (law : AreCellLaws) (w : World) (c : Cell) → words_of_id c ≡ None → IsWorld w → WorldGrows w (with_made w c)
 made_grows law w c none i =
     let b = law.blocks.made w.cells.cells c none in
     record {
@@ -117,7 +117,7 @@ made_grows law w c none i =
       values = same_made law w c;
     }
 
-shows_made : (law : AreCellLaws) (w : World) (c : Cell) (s : State) (store : Store) → block_in c ≡ None → IsWorld w → IsClosed w.cells.cells → ShowsState w s → store ≡ store_of (w.cells.cells ++ placed c)
+shows_made : (law : AreCellLaws) (w : World) (c : Cell) (s : State) (store : Store) → words_of_id c ≡ None → IsWorld w → IsClosed w.cells.cells → ShowsState w s → store ≡ store_of (w.cells.cells ++ placed c)
     → ShowsState (with_made w c) (record s { counts = roomed_in w.cells w.counts (cost_of c); store = store })
 shows_made law w c s store none i closed shown e =
     let b = law.blocks.made w.cells.cells c none in
@@ -138,7 +138,7 @@ shows_made law w c s store none i closed shown e =
 
 -- where there is room, what is made by the definition is what the cells hold
 pub value_made : (law : AreCellLaws) (w : World) (c : Cell) (at : Tagged) (s : State) (next : State → Outcome Value) (v : Value) (store : Store)
-    → block_in c ≡ None → IsWorld w → IsClosed w.cells.cells → room_stop w.counts w.cells (cost_of c) ≡ None → ShowsState w s
+    → words_of_id c ≡ None → IsWorld w → IsClosed w.cells.cells → room_stop w.counts w.cells (cost_of c) ≡ None → ShowsState w s
     → next (record s { counts = roomed_in w.cells w.counts (cost_of c) }) ≡ Done v (record s { counts = roomed_in w.cells w.counts (cost_of c); store = store })
     → store ≡ store_of (w.cells.cells ++ placed c) → value_of (w.cells.cells ++ placed c) at ≡ v
     → MeansValue s (room (cost_of c) s next) (Ok at) (with_made w c)
@@ -167,7 +167,7 @@ pub closed_before : (w r : World) (cs : cell.CellStore) (c : Cell) (tag : ℕ �
 closed_before w r cs c tag v m = subst (λ (x : World). IsClosed x.cells.cells) m.counted m.closed
 
 pub ends_made : (law : AreCellLaws) (w r : World) (cs : cell.CellStore) (c : Cell) (tag : ℕ → Tagged) (v : Tagged) (s : State) (next : State → Outcome Value) (x : Value) (store : Store)
-    → IsMadeIn w r cs c tag v → block_in c ≡ None → IsWorld w → ShowsState w s
+    → IsMadeIn w r cs c tag v → words_of_id c ≡ None → IsWorld w → ShowsState w s
     → next (record s { counts = roomed_in w.cells w.counts (cost_of c) }) ≡ Done x (record s { counts = roomed_in w.cells w.counts (cost_of c); store = store })
     → store ≡ store_of (w.cells.cells ++ placed c) → value_of (w.cells.cells ++ placed c) (tag (length w.cells.cells)) ≡ x
     → MeansValue s (room (cost_of c) s next) (Ok v) (record r { cells = cs })
@@ -178,7 +178,7 @@ ends_made law w r cs c tag v s next x store m none i shown then_is stored named 
     (value_made law w c (tag (length w.cells.cells)) s next x store none i (closed_before w r cs c tag v m) m.room shown then_is stored named))
 
 pub made_ends : (law : AreCellLaws) (w r : World) (cs : cell.CellStore) (c : Cell)
-    → r ≡ record w { counts = roomed w.counts (cost_of c) } → cs ≡ grown r.cells c → block_in c ≡ None → IsWorld w → WorldGrows w (record r { cells = cs })
+    → r ≡ record w { counts = roomed w.counts (cost_of c) } → cs ≡ grown r.cells c → words_of_id c ≡ None → IsWorld w → WorldGrows w (record r { cells = cs })
 made_ends law w r cs c e f none i = subst (λ x. WorldGrows w x) (sym (final_is w r cs c e f)) (made_grows law w c none i)
 
 pub grows_refl : (w x : World) → x ≡ w → IsWorld w → WorldGrows w x

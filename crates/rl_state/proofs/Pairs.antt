@@ -10,7 +10,7 @@ use Rattle.rl_cells.specs.Cell.{Cell, PairCell, VectorCell, IsClosed, changed_at
 use Rattle.rl_syms.specs.Contents.{value_of, store_of, number_at}
 use Rattle.rl_syms.specs.Laws.{ChangesObject, IsRead}
 use Rattle.rl_state.specs.CellLaws.{AreCellLaws}
-use Rattle.rl_syms.specs.Frame.{KeepsBlocks}
+use Rattle.rl_syms.specs.Frame.{KeepsIdentifiers}
 use Rattle.rl_world.specs.declared.world.World.{World}
 use Rattle.rl_meaning.specs.State.{State}
 use Rattle.rl_cells.specs.Cell as cell
@@ -79,7 +79,7 @@ with_list w cells = record w { cells = record w.cells { cells = cells } }
 
 -- cells in which one object is another, and that leave blocks
 pub record Alters (old new : List Cell) (r : ℕ) (o : Object) : Type 0 where
-  pub keeps : KeepsBlocks old new
+  pub keeps : KeepsIdentifiers old new
   pub changes : ChangesObject old new r o
 
 object_grows : (law : AreCellLaws) (w : World) (new : List Cell) (r : ℕ) (o : Object) → Alters w.cells.cells new r o → IsWorld w → WorldGrows w (with_list w new)

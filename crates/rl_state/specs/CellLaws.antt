@@ -1,11 +1,11 @@
 -- What is known of cells: the laws of the crates below, together.
-use Rattle.rl_syms.specs.Laws.{ChangesMeaning, IsKept, IsRead, LeaveBlocks, MakesMeaning, NamesEnter}
+use Rattle.rl_syms.specs.Laws.{ChangesMeaning, IsKept, IsRead, LeaveIdentifiers, MakesMeaning, NamesEnter}
 use Rattle.rl_syms.specs.Readings.{NamingMeans}
 use Rattle.rl_syms.specs.Numbers.{IdentifiersAreNumbered}
 
 pub record AreCellLaws : Type 0 where
   pub kept : IsKept
-  pub blocks : LeaveBlocks
+  pub blocks : LeaveIdentifiers
   pub makes : MakesMeaning
   pub changes : ChangesMeaning
   pub reads : IsRead

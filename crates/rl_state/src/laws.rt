@@ -6,7 +6,7 @@ ghost use Rattle.rl_state.specs.CellLaws.{AreCellLaws};
 
 use rl_syms::laws::{
     identifiers_are_numbered, meaning_of_change, meaning_of_making, meaning_of_naming,
-    meaning_of_reading, names_enter, others_leave_blocks, table_is_kept,
+    meaning_of_reading, names_enter, others_leave_identifiers, table_is_kept,
 };
 
 /// What is known of cells.
@@ -14,7 +14,7 @@ pub(crate) fn cells_are_known()
     ensures { AreCellLaws }
 {
     table_is_kept();
-    others_leave_blocks();
+    others_leave_identifiers();
     meaning_of_making();
     meaning_of_change();
     meaning_of_reading();

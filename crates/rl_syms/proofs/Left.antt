@@ -1,11 +1,12 @@
--- What making and changing other objects leaves: blocks, and the names of identifiers.
-use Rattle.std.proofs.Common.{◌≡◌, ℕ, ◌<◌, ◌≤◌, true, List, ◌++◌, length, get_or, set, Option, None, refl, sym, ap, ◌∙◌, arith}
+-- What making and changing other objects leaves: identifiers and their names.
+use Rattle.std.proofs.Common.{◌≡◌, ℕ, ◌<◌, ◌≤◌, true, List, ◌++◌, length, get_or, set, Option, None, refl, sym, ap, ◌∙◌, arith, length-set}
 use Rattle.std.proofs.lemmas.List.{get_or_append_left, get_or_past}
+use Rattle.rl_tags.specs.declared.Tag.TheVariants as tag
 use Rattle.rl_tags.specs.Tagged.{Tagged, Number, IdAt, StrAt, PairAt, VectorAt, BigAt, FunAt, tagged_of}
-use Rattle.rl_cells.specs.Cell.{Cell, PairCell, VectorCell, More, cell_at, placed, is_id_cell, is_str_cell, is_pair_cell, is_vector_cell, is_pair, is_vector, is_str, bytes_of, bytes_in, vector_in, vector_of, words_in, changed_at}
+use Rattle.rl_cells.specs.Cell.{Cell, PairCell, VectorCell, BlockCell, More, block_with, cell_at, placed, is_id_cell, is_fun_cell, is_str_cell, is_pair_cell, is_vector_cell, is_pair, is_vector, is_str, bytes_of, bytes_in, vector_in, vector_of, words_in, changed_at}
 use Rattle.rl_cells.specs.Laws.{IsAdded, IsChanged, SameKind}
 use Rattle.rl_syms.specs.Table.{IsTable, IsNamed, is_id, name_in_cells}
-use Rattle.rl_syms.specs.Frame.{KeepsBlocks, block_in}
+use Rattle.rl_syms.specs.Frame.{KeepsIdentifiers, words_of_id}
 use Rattle.rl_syms.proofs.Carried.{among_id}
 use Rattle.rl_syms.proofs.Chained.{held_some}
 use Rattle.rl_syms.proofs.New.{tested_inside, where_is, before, here, after}
@@ -22,18 +23,18 @@ text_stays cells more (VectorAt k) h = refl
 text_stays cells more (BigAt k) h = refl
 text_stays cells more (FunAt k) h = refl
 
--- no block begins past the cells
-no_block : (cells : List Cell) (k : ℕ) → length cells ≤ k → None ≡ block_in (cell_at cells k)
-no_block cells k l = sym (ap block_in (get_or_past cells k More l))
+-- no identifier begins past the cells
+none_past : (cells : List Cell) (k : ℕ) → length cells ≤ k → None ≡ words_of_id (cell_at cells k)
+none_past cells k l = sym (ap words_of_id (get_or_past cells k More l))
 
-pub made_leaves : IsAdded → (cells : List Cell) (c : Cell) → block_in c ≡ None → KeepsBlocks cells (cells ++ placed c)
+pub made_leaves : IsAdded → (cells : List Cell) (c : Cell) → words_of_id c ≡ None → KeepsIdentifiers cells (cells ++ placed c)
 made_leaves law cells c none = record {
   live = law.live cells (placed c);
   texts = text_stays cells (placed c);
-  blocks = λ k. elim (where_is law cells c k) [
-    | before l e ↦ ap block_in e
-    | here l e ↦ ap block_in e ∙ (none ∙ no_block cells k (omega arith))
-    | after l e ↦ ap block_in e ∙ no_block cells k (omega arith)
+  words = λ k. elim (where_is law cells c k) [
+    | before l e ↦ ap words_of_id e
+    | here l e ↦ ap words_of_id e ∙ (none ∙ none_past cells k (omega arith))
+    | after l e ↦ ap words_of_id e ∙ none_past cells k (omega arith)
   ];
 }
 
@@ -50,11 +51,11 @@ named_is_id cells head bytes id table named =
 
 -- ---- what is changed
 
-changed_leaves : IsChanged → (cells : List Cell) (k : ℕ) (c : Cell) → k < length cells → SameKind c (cell_at cells k) → bytes_in c ≡ bytes_in (cell_at cells k) → block_in c ≡ block_in (cell_at cells k) → KeepsBlocks cells (set cells k c)
+changed_leaves : IsChanged → (cells : List Cell) (k : ℕ) (c : Cell) → k < length cells → SameKind c (cell_at cells k) → bytes_in c ≡ bytes_in (cell_at cells k) → words_of_id c ≡ words_of_id (cell_at cells k) → KeepsIdentifiers cells (set cells k c)
 changed_leaves law cells k c l kind bytes block = record {
   live = λ v h. law.live cells k c v l kind ∙ h;
   texts = λ v h. text_same cells k c v bytes;
-  blocks = λ j. part_stays block_in cells k c j block;
+  words = λ j. part_stays words_of_id cells k c j block;
 }
 
 pair_kind : (c : Cell) (a d : Tagged) → is_pair_cell c ≡ true → SameKind (PairCell a d) c
@@ -65,21 +66,34 @@ vector_kind : (c : Cell) (xs : List Tagged) → is_vector_cell c ≡ true → le
 vector_kind (VectorCell ys) xs h e = record { cost = rw e refl; pair = refl; str = refl; vector = refl; big = refl; id = refl; «fun» = refl }
 vector_kind c xs h e = cc
 
-pair_no_text : (c : Cell) (a d : Tagged) → is_pair_cell c ≡ true → (bytes_in (PairCell a d) ≡ bytes_in c) × (block_in (PairCell a d) ≡ block_in c)
+pair_no_text : (c : Cell) (a d : Tagged) → is_pair_cell c ≡ true → (bytes_in (PairCell a d) ≡ bytes_in c) × (words_of_id (PairCell a d) ≡ words_of_id c)
 pair_no_text (PairCell x y) a d h = (refl, refl)
 pair_no_text c a d h = absurd (cc)
 
-vector_no_text : (c : Cell) (xs : List Tagged) → is_vector_cell c ≡ true → (bytes_in (VectorCell xs) ≡ bytes_in c) × (block_in (VectorCell xs) ≡ block_in c)
+vector_no_text : (c : Cell) (xs : List Tagged) → is_vector_cell c ≡ true → (bytes_in (VectorCell xs) ≡ bytes_in c) × (words_of_id (VectorCell xs) ≡ words_of_id c)
 vector_no_text (VectorCell ys) xs h = (refl, refl)
 vector_no_text c xs h = absurd (cc)
 
-pub pair_leaves : IsChanged → (cells : List Cell) (p a d : Tagged) → is_pair cells p ≡ true → KeepsBlocks cells (changed_at cells p (PairCell a d))
+pub pair_leaves : IsChanged → (cells : List Cell) (p a d : Tagged) → is_pair cells p ≡ true → KeepsIdentifiers cells (changed_at cells p (PairCell a d))
 pair_leaves law cells (PairAt k) a d h =
     let same = pair_no_text (cell_at cells k) a d h in
     changed_leaves law cells k (PairCell a d) (tested_inside is_pair_cell refl cells k h) (pair_kind (cell_at cells k) a d h) same.0 same.1
 pair_leaves law cells p a d h = absurd (cc)
 
-pub vector_leaves : IsChanged → (cells : List Cell) (v : Tagged) (xs : List Tagged) → is_vector cells v ≡ true → length xs ≡ length (vector_of cells v) → KeepsBlocks cells (changed_at cells v (VectorCell xs))
+block_kind : (c : Cell) (i w : ℕ) → is_fun_cell c ≡ true → SameKind (block_with c i w) c
+block_kind (BlockCell tag.Fun words) i w h = record { cost = rw (length-set words i w) refl; pair = refl; str = refl; vector = refl; big = refl; id = refl; «fun» = refl }
+block_kind c i w h = absurd (cc)
+
+block_no_text : (c : Cell) (i w : ℕ) → is_fun_cell c ≡ true → (bytes_in (block_with c i w) ≡ bytes_in c) × (words_of_id (block_with c i w) ≡ words_of_id c)
+block_no_text (BlockCell tag.Fun words) i w h = (refl, refl)
+block_no_text c i w h = absurd (cc)
+
+pub word_leaves : IsChanged → (cells : List Cell) (k i w : ℕ) → is_fun_cell (cell_at cells k) ≡ true → KeepsIdentifiers cells (changed_at cells (FunAt k) (block_with (cell_at cells k) i w))
+word_leaves law cells k i w h =
+    let same = block_no_text (cell_at cells k) i w h in
+    changed_leaves law cells k (block_with (cell_at cells k) i w) (tested_inside is_fun_cell refl cells k h) (block_kind (cell_at cells k) i w h) same.0 same.1
+
+pub vector_leaves : IsChanged → (cells : List Cell) (v : Tagged) (xs : List Tagged) → is_vector cells v ≡ true → length xs ≡ length (vector_of cells v) → KeepsIdentifiers cells (changed_at cells v (VectorCell xs))
 vector_leaves law cells (VectorAt k) xs h e =
     let same = vector_no_text (cell_at cells k) xs h in
     changed_leaves law cells k (VectorCell xs) (tested_inside is_vector_cell refl cells k h) (vector_kind (cell_at cells k) xs h e) same.0 same.1

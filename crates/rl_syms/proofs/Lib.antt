@@ -5,7 +5,7 @@ pub mod New
 pub mod Entered
 pub mod Field
 pub mod Names
-pub mod BlocksKept
+pub mod IdentifiersKept
 pub mod Blank
 pub mod First
 pub mod Rows

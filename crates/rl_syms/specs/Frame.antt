@@ -1,21 +1,21 @@
 -- What the calls leave as it was.
 use Rattle.std.specs.Prelude.{◌≡◌, ◌≢◌, ℕ, ◌<◌, List, length, Option, Some, None, true}
 use Rattle.rl_tags.specs.Tagged.{Tagged, index_of}
-use Rattle.rl_tags.specs.declared.Tag.{Tag}
+use Rattle.rl_tags.specs.declared.Tag.TheVariants as tag
 use Rattle.rl_cells.specs.Cell.{Cell, BlockCell, cell_at, is_live, is_str, bytes_of}
 use Rattle.rl_syms.specs.Table.{IsFree, SymbolCells, ids_from, is_id, name_in_cells, symbol_in_cells}
 use Rattle.rl_syms.specs.Contents.{store_of, value_of}
 
--- the block that begins at a cell
-abbrev pub block_in : Cell → Option (Tag × List ℕ)
-block_in (BlockCell t words) = Some (t, words)
-block_in _ = None
+-- the words of the identifier that begins at a cell
+abbrev pub words_of_id : Cell → Option (List ℕ)
+words_of_id (BlockCell tag.Id words) = Some words
+words_of_id _ = None
 
--- what makes or changes pairs, vectors, strings and wide integers alone: identifiers and held functions stay as they were, none is made, and strings keep their bytes
-pub record KeepsBlocks (old new : List Cell) : Type 0 where
+-- what makes or changes other objects: identifiers stay as they were, none is made, and strings keep their bytes
+pub record KeepsIdentifiers (old new : List Cell) : Type 0 where
   pub live : (v : Tagged) → is_live old v ≡ true → is_live new v ≡ true
   pub texts : (v : Tagged) → is_str old v ≡ true → bytes_of new v ≡ bytes_of old v
-  pub blocks : (k : ℕ) → block_in (cell_at new k) ≡ block_in (cell_at old k)
+  pub words : (k : ℕ) → words_of_id (cell_at new k) ≡ words_of_id (cell_at old k)
 
 -- objects may have been made; those that stood are as they were
 pub record Adds (old new : List Cell) : Type 0 where

@@ -3,26 +3,28 @@ use Rattle.std.specs.Prelude.{◌≡◌, ℕ, ℤ, ◌^◌, ◌<◌, ◌≤◌, 
 use Rattle.std.specs.List.{list_all}
 use Rattle.rl_tags.specs.declared.Tag.TheVariants as tag
 use Rattle.rl_tags.specs.Tagged.{Tagged, FunAt, StrAt, PairAt, VectorAt, BigAt, index_of}
-use Rattle.rl_cells.specs.Cell.{Cell, CellStore, PairCell, StrCell, VectorCell, BigCell, BlockCell, IsClosed, is_live, is_id_cell, is_pair, is_vector, car_of, cdr_of, vector_of, cell_at, block_with, changed_at, placed}
+use Rattle.rl_cells.specs.Cell.{Cell, CellStore, PairCell, StrCell, VectorCell, BigCell, BlockCell, IsClosed, is_live, is_id_cell, is_fun_cell, is_pair, is_vector, car_of, cdr_of, vector_of, cell_at, block_with, changed_at, placed}
 use Rattle.rl_tree.specs.Value.{Fun, Int, Str, Ref, Object, Pair, Vector, new_value, cons_store, cons_value, vector_store, changed_store}
 use Rattle.rl_syms.specs.Contents.{funs_before, object_count, number_at, value_of, store_of}
-use Rattle.rl_syms.specs.Table.{IsTable, IsNamed, IsFree, is_id, name_in_cells, nil_value, symbol_in_cells}
+use Rattle.rl_syms.specs.Table.{IsTable, IsNamed, IsFree, ids_from, is_id, name_in_cells, nil_value, symbol_in_cells}
 use Rattle.rl_syms.specs.Made.{new_id, with_id}
-use Rattle.rl_syms.specs.Frame.{Adds, KeepsBlocks, block_in}
+use Rattle.rl_syms.specs.Frame.{Adds, KeepsIdentifiers, words_of_id}
 
 -- what makes or changes other objects keeps the table, its names and no others, and what its identifiers have
 pub record IsKept : Type 0 where
-  pub table : (old new : List Cell) (head : Option Tagged) → KeepsBlocks old new → IsTable old head → IsTable new head
-  pub names : (old new : List Cell) (head : Option Tagged) (bytes : List ℕ) (id : Tagged) → KeepsBlocks old new → IsTable old head → IsNamed old head bytes id → IsNamed new head bytes id
-  pub named_before : (old new : List Cell) (head : Option Tagged) (bytes : List ℕ) (id : Tagged) → KeepsBlocks old new → IsTable old head → IsNamed new head bytes id → IsNamed old head bytes id
-  pub ids : (old new : List Cell) (v : Tagged) → KeepsBlocks old new → is_id new v ≡ is_id old v
-  pub symbols : (old new : List Cell) (k : ℕ) → KeepsBlocks old new → symbol_in_cells new k ≡ symbol_in_cells old k
+  pub table : (old new : List Cell) (head : Option Tagged) → KeepsIdentifiers old new → IsTable old head → IsTable new head
+  pub names : (old new : List Cell) (head : Option Tagged) (bytes : List ℕ) (id : Tagged) → KeepsIdentifiers old new → IsTable old head → IsNamed old head bytes id → IsNamed new head bytes id
+  pub named_before : (old new : List Cell) (head : Option Tagged) (bytes : List ℕ) (id : Tagged) → KeepsIdentifiers old new → IsTable old head → IsNamed new head bytes id → IsNamed old head bytes id
+  pub ids : (old new : List Cell) (v : Tagged) → KeepsIdentifiers old new → is_id new v ≡ is_id old v
+  pub symbols : (old new : List Cell) (k : ℕ) → KeepsIdentifiers old new → is_id_cell (cell_at old k) ≡ true → symbol_in_cells new k ≡ symbol_in_cells old k
+  pub chains : (old new : List Cell) (head : Option Tagged) → KeepsIdentifiers old new → IsTable old head → ids_from new head ≡ ids_from old head
 
--- pairs, vectors, strings and wide integers leave identifiers and held functions as they were, where they are made and where they are changed
-pub record LeaveBlocks : Type 0 where
-  pub made : (cells : List Cell) (c : Cell) → block_in c ≡ None → KeepsBlocks cells (cells ++ placed c)
-  pub pair : (cells : List Cell) (p a d : Tagged) → is_pair cells p ≡ true → KeepsBlocks cells (changed_at cells p (PairCell a d))
-  pub vector : (cells : List Cell) (v : Tagged) (xs : List Tagged) → is_vector cells v ≡ true → length xs ≡ length (vector_of cells v) → KeepsBlocks cells (changed_at cells v (VectorCell xs))
+-- pairs, vectors, strings, wide integers and held functions leave identifiers as they were, where they are made and where they are changed
+pub record LeaveIdentifiers : Type 0 where
+  pub made : (cells : List Cell) (c : Cell) → words_of_id c ≡ None → KeepsIdentifiers cells (cells ++ placed c)
+  pub pair : (cells : List Cell) (p a d : Tagged) → is_pair cells p ≡ true → KeepsIdentifiers cells (changed_at cells p (PairCell a d))
+  pub vector : (cells : List Cell) (v : Tagged) (xs : List Tagged) → is_vector cells v ≡ true → length xs ≡ length (vector_of cells v) → KeepsIdentifiers cells (changed_at cells v (VectorCell xs))
+  pub word : (cells : List Cell) (k i w : ℕ) → is_fun_cell (cell_at cells k) ≡ true → KeepsIdentifiers cells (changed_at cells (FunAt k) (block_with (cell_at cells k) i w))
 
 -- identifiers keep their names as objects are added
 abbrev pub KeepNames : Type 0

@@ -1,20 +1,19 @@
 //! Laws of the table, and of what cells mean. A law is the contract of a function that does nothing.
 ghost use Rattle.rl_syms.specs.Numbers.{FunctionsAreNumbered, IdentifiersAreNumbered, NamesAreNumbered};
 ghost use Rattle.rl_syms.specs.Readings.{MeantByAnyReading, NamingMeans};
-ghost use Rattle.rl_syms.specs.Laws.{AreIdentifiers, ChangesMeaning, IsDistinct, IsKept, MakesMeaning, IsRead, KeepNames, LeaveBlocks, NamesEnter};
+ghost use Rattle.rl_syms.specs.Laws.{AreIdentifiers, ChangesMeaning, IsDistinct, IsKept, MakesMeaning, IsRead, KeepNames, LeaveIdentifiers, NamesEnter};
 
 use rl_cells::laws::{objects_are_added, objects_are_changed};
 
-/// What makes or changes pairs, strings, vectors and wide integers alone keeps the table, its names and no others, and what
-/// its identifiers have.
+/// What makes or changes other objects alone keeps the table, its names and no others, and what its identifiers have.
 pub fn table_is_kept()
     ensures { IsKept }
 {}
 
-/// Pairs, vectors, strings and wide integers leave the blocks as they were, where they are made and where they are
-/// changed; so the law above speaks of each of these calls of the cells.
-pub fn others_leave_blocks()
-    ensures { LeaveBlocks }
+/// Pairs, vectors, strings, wide integers and held functions leave identifiers as they were, where they are made and where
+/// they are changed; so the law above speaks of each of these calls of the cells.
+pub fn others_leave_identifiers()
+    ensures { LeaveIdentifiers }
 {
     objects_are_added();
     objects_are_changed();

@@ -2,7 +2,7 @@
 ghost use Rattle.std.specs.Prelude.{◌≡◌, ◌+◌, ◌*◌, ◌<◌, ◌≤◌, ◌++◌, [], length, slice_index_or, IsTrue};
 ghost use Rattle.rl_tags.specs.Tagged.{StrAt};
 ghost use Rattle.rl_cells.specs.Cell.{StrCell, bytes_of, is_str, placed};
-ghost use Rattle.rl_syms.specs.Frame.{KeepsBlocks};
+ghost use Rattle.rl_syms.specs.Frame.{KeepsIdentifiers};
 ghost use Rattle.rl_syms.specs.Made.{IsOpening};
 ghost use Rattle.rl_tree.specs.ErrorTexts.{error_texts};
 ghost use Rattle.rl_world.specs.Errors.{AddsTexts, AreTexts};
@@ -10,7 +10,7 @@ ghost use Rattle.rl_world.specs.OpeningCells.{strings_named, with_strings};
 
 use rl_cells::Cells;
 use rl_cells::laws::objects_are_added;
-use rl_syms::laws::others_leave_blocks;
+use rl_syms::laws::others_leave_identifiers;
 use rl_tags::Val;
 
 /// How many system errors there are, from number 10 on.
@@ -45,7 +45,7 @@ pub(crate) fn make_texts(c: &mut Cells) -> [Val; ERRORS]
     requires opening { IsOpening c.old c.old.bound }
     requires long { length c.old.cells ≤ 2115 }
     ensures texts { AreTexts c.new.cells result 14 }
-    ensures keeps { KeepsBlocks c.old.cells c.new.cells }
+    ensures keeps { KeepsIdentifiers c.old.cells c.new.cells }
     ensures strings { AddsTexts c.old.cells c.new.cells }
     ensures made { c.new.cells ≡ with_strings error_texts c.old.cells }
     ensures named { result ≡ strings_named error_texts c.old.cells }
@@ -68,7 +68,7 @@ fn make_text(c: &mut Cells, i: usize) -> Val
     requires long { length c.old.cells ≤ 2115 + 4 * i }
     ensures string { IsTrue (is_str c.new.cells result) }
     ensures text { bytes_of c.new.cells result ≡ slice_index_or error_texts i [] }
-    ensures keeps { KeepsBlocks c.old.cells c.new.cells }
+    ensures keeps { KeepsIdentifiers c.old.cells c.new.cells }
     ensures strings { AddsTexts c.old.cells c.new.cells }
     ensures made { c.new.cells ≡ c.old.cells ++ placed (StrCell (slice_index_or error_texts i [])) }
     ensures named { result ≡ StrAt (length c.old.cells) }
@@ -76,6 +76,6 @@ fn make_text(c: &mut Cells, i: usize) -> Val
     ensures long { length c.new.cells ≤ 2115 + 4 * (i + 1) }
 {
     objects_are_added();
-    others_leave_blocks();
+    others_leave_identifiers();
     c.string(text_bytes(i)).unwrap()
 }

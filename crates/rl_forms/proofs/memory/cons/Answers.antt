@@ -15,7 +15,7 @@ pub returns-in-Ok-clause-keeps : goal.returns-in-Ok-clause-keeps
 returns-in-Ok-clause-keeps c = rw c.in-Ok.ensures.ok (grown_keeps c.pairs_are_data.ensures c.args.world.now c.args.car c.args.cdr c.requires.running)
 
 pub returns-in-Ok-clause-running : goal.returns-in-Ok-clause-running
-returns-in-Ok-clause-running c = rw c.in-Ok.ensures.ok (grown_running c.table_is_kept.ensures c.others_leave_blocks.ensures c.args.world.now c.args.car c.args.cdr c.requires.running)
+returns-in-Ok-clause-running c = rw c.in-Ok.ensures.ok (grown_running c.table_is_kept.ensures c.others_leave_identifiers.ensures c.args.world.now c.args.car c.args.cdr c.requires.running)
 
 pub returns-in-Err-clause-keeps : goal.returns-in-Err-clause-keeps
 returns-in-Err-clause-keeps c = rw c.in-Err.ensures.err (keeps_refl c.args.world.now)

@@ -28,7 +28,7 @@ pub returns-clause-table : goal.returns-clause-table
 returns-clause-table c =
     let cells = c.args.w.now.cells.cells in
     let xs = slice_set (vector_of cells c.args.v) c.args.i c.args.x in
-    c.table_is_kept.ensures.table _ _ _ (rw (ap (λ (s : CellStore). s.cells) c.put.ensures.changed) (c.others_leave_blocks.ensures.vector cells c.args.v xs c.requires.vector (length-set (vector_of cells c.args.v) c.args.i c.args.x))) c.requires.table
+    c.table_is_kept.ensures.table _ _ _ (rw (ap (λ (s : CellStore). s.cells) c.put.ensures.changed) (c.others_leave_identifiers.ensures.vector cells c.args.v xs c.requires.vector (length-set (vector_of cells c.args.v) c.args.i c.args.x))) c.requires.table
 
 pub returns-clause-vector : goal.returns-clause-vector
 returns-clause-vector c =

@@ -6,7 +6,7 @@ pub returns : goal.returns
 returns c =
     let added = c.objects_are_added.ensures in
     let names = c.table_is_kept.ensures in
-    let leave = c.others_leave_blocks.ensures in
+    let leave = c.others_leave_identifiers.ensures in
     record {
       kept = λ cells head a d v t h. (pair_kept added names leave cells head a d v t h).0;
       same = λ cells head a d v t h. (pair_kept added names leave cells head a d v t h).1;

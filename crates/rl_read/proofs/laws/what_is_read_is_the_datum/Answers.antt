@@ -10,7 +10,7 @@ laws_of c = record {
   added = c.objects_are_added.ensures;
   changed = c.objects_are_changed.ensures;
   kept = c.table_is_kept.ensures;
-  leave = c.others_leave_blocks.ensures;
+  leave = c.others_leave_identifiers.ensures;
   enter = c.names_enter.ensures;
   ids = c.names_are_identifiers.ensures;
 }

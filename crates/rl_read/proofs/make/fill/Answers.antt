@@ -29,7 +29,7 @@ cdr-at-requires c =
     c.requires.elements c.loop-i.invariant.places c.loop-i-test.true c.loop-i.invariant.rest c.loop-i.invariant.live in
     rw c.put.ensures.changed
     (pair_stays c.loop-i.w.cells.cells (changed_at c.loop-i.w.cells.cells c.args.v (VectorCell (slice_set (vector_of c.loop-i.w.cells.cells c.args.v) c.loop-i.i c.car-x.result))) c.loop-i.at
-    (put_live c.others_leave_blocks.ensures c.loop-i.w.cells.cells c.args.v c.car-x.result c.loop-i.i c.loop-i.invariant.vector) pair)
+    (put_live c.others_leave_identifiers.ensures c.loop-i.w.cells.cells c.args.v c.car-x.result c.loop-i.i c.loop-i.invariant.vector) pair)
 
 pub loop-i-preserved : goal.loop-i-preserved
 loop-i-preserved c =
@@ -57,12 +57,12 @@ loop-i-preserved c =
 pub returns-clause-table : goal.returns-clause-table
 returns-clause-table c =
     rw c.loop-i.invariant.world
-    (table_vector c.table_is_kept.ensures c.others_leave_blocks.ensures c.args.w.now c.args.v (vector_of c.loop-i.w.cells.cells c.args.v) c.requires.vector (c.loop-i.invariant.places ∙ sym c.requires.places) c.requires.table)
+    (table_vector c.table_is_kept.ensures c.others_leave_identifiers.ensures c.args.w.now c.args.v (vector_of c.loop-i.w.cells.cells c.args.v) c.requires.vector (c.loop-i.invariant.places ∙ sym c.requires.places) c.requires.table)
 
 pub returns-clause-making : goal.returns-clause-making
 returns-clause-making c =
     rw c.loop-i.invariant.world
-    (making_vector c.table_is_kept.ensures c.others_leave_blocks.ensures c.args.w.now c.args.v (vector_of c.loop-i.w.cells.cells c.args.v) c.requires.vector (c.loop-i.invariant.places ∙ sym c.requires.places) c.requires.table)
+    (making_vector c.table_is_kept.ensures c.others_leave_identifiers.ensures c.args.w.now c.args.v (vector_of c.loop-i.w.cells.cells c.args.v) c.requires.vector (c.loop-i.invariant.places ∙ sym c.requires.places) c.requires.table)
 
 pub returns-clause-filled : goal.returns-clause-filled
 returns-clause-filled c =

@@ -12,11 +12,11 @@ returns-in-Err-clause-stop c = object_stopped (λ n. StrAt n) (StrCell c.args.by
 
 pub returns-in-Ok-clause-table : goal.returns-in-Ok-clause-table
 returns-in-Ok-clause-table c =
-    rw (c.in-Ok.ensures.ok, c.in_default.ensures.counted) (table_grown c.table_is_kept.ensures c.others_leave_blocks.ensures c.args.w.now (StrCell c.args.bytes.now) refl c.requires.table)
+    rw (c.in-Ok.ensures.ok, c.in_default.ensures.counted) (table_grown c.table_is_kept.ensures c.others_leave_identifiers.ensures c.args.w.now (StrCell c.args.bytes.now) refl c.requires.table)
 
 pub returns-in-Ok-clause-making : goal.returns-in-Ok-clause-making
 returns-in-Ok-clause-making c =
-    rw (c.in-Ok.ensures.ok, c.in_default.ensures.counted) (making_grown c.table_is_kept.ensures c.others_leave_blocks.ensures c.args.w.now (StrCell c.args.bytes.now) (roomed c.args.w.now.counts (cost_of (StrCell c.args.bytes.now))) refl c.requires.table)
+    rw (c.in-Ok.ensures.ok, c.in_default.ensures.counted) (making_grown c.table_is_kept.ensures c.others_leave_identifiers.ensures c.args.w.now (StrCell c.args.bytes.now) (roomed c.args.w.now.counts (cost_of (StrCell c.args.bytes.now))) refl c.requires.table)
 
 pub returns-in-Err-string-clause-stop : goal.returns-in-Err-string-clause-stop
 returns-in-Err-string-clause-stop c =

@@ -34,7 +34,7 @@ vector-requires-clause-short c = omega (arith, c.count-n.ensures, elements_few 2
 pub fill-requires-clause-table : goal.fill-requires-clause-table
 fill-requires-clause-table c =
     rw (c.in-Ok.ensures.ok, c.in_default.ensures.counted)
-    (table_grown c.table_is_kept.ensures c.others_leave_blocks.ensures c.args.w.now (VectorCell (replicate c.count-n.result nil_id)) refl c.requires.table)
+    (table_grown c.table_is_kept.ensures c.others_leave_identifiers.ensures c.args.w.now (VectorCell (replicate c.count-n.result nil_id)) refl c.requires.table)
 
 pub count-n-requires : goal.count-n-requires
 count-n-requires c = rw c.first_of-list.ensures (first_live c.args.w.now.cells.cells c.args.w.now.syms.head c.args.chain.now c.requires.table c.requires.chain)
@@ -66,7 +66,7 @@ pub returns-in-Ok-clause-making : goal.returns-in-Ok-clause-making
 returns-in-Ok-clause-making c =
     let with_vector : World = record c.args.w.now { cells = grown c.args.w.now.cells (VectorCell (replicate c.count-n.result nil_id)); counts = roomed c.args.w.now.counts (1 + (c.count-n.result + 1) / 2) } in
     making_trans c.args.w.now with_vector c.fill.new.w
-    (making_grown c.table_is_kept.ensures c.others_leave_blocks.ensures c.args.w.now (VectorCell (replicate c.count-n.result nil_id)) (roomed c.args.w.now.counts (1 + (c.count-n.result + 1) / 2)) refl c.requires.table)
+    (making_grown c.table_is_kept.ensures c.others_leave_identifiers.ensures c.args.w.now (VectorCell (replicate c.count-n.result nil_id)) (roomed c.args.w.now.counts (1 + (c.count-n.result + 1) / 2)) refl c.requires.table)
     (rw (c.in-Ok.ensures.ok, c.in_default.ensures.counted) at c.fill.ensures.making)
 
 pub returns-in-Err-vector-clause-stop : goal.returns-in-Err-vector-clause-stop

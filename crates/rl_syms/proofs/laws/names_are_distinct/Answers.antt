@@ -1,4 +1,4 @@
-use Rattle.rl_syms.proofs.BlocksKept.{one_name}
+use Rattle.rl_syms.proofs.IdentifiersKept.{one_name}
 use Rattle.rl_syms.proofs.laws.names_are_distinct.Goals as goal
 
 pub returns : goal.returns

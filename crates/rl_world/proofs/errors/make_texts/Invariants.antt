@@ -1,5 +1,5 @@
 use Rattle.std.proofs.Common.{◌≡◌, ◌+◌, ◌*◌, ◌≤◌, length, take}
-use Rattle.rl_syms.specs.Frame.{KeepsBlocks}
+use Rattle.rl_syms.specs.Frame.{KeepsIdentifiers}
 use Rattle.rl_syms.specs.Made.{IsOpening}
 use Rattle.rl_tree.specs.ErrorTexts.{error_texts}
 use Rattle.rl_world.specs.Errors.{AddsTexts, AreTexts}
@@ -10,7 +10,7 @@ abbrev pub invariant-loop-i : goal.invariant-loop-i
 invariant-loop-i l = record {
   fourteen : length l.texts ≡ 14;
   texts : AreTexts l.c.cells l.texts l.i;
-  keeps : KeepsBlocks l.fn.c.cells l.c.cells;
+  keeps : KeepsIdentifiers l.fn.c.cells l.c.cells;
   strings : AddsTexts l.fn.c.cells l.c.cells;
   made : l.c.cells ≡ with_strings (take l.i error_texts) l.fn.c.cells;
   named : take l.i l.texts ≡ strings_named (take l.i error_texts) l.fn.c.cells;
