@@ -1,4 +1,5 @@
 pub mod Stock
+pub mod Taken
 pub mod Given
 pub mod Frames
 pub mod Steps

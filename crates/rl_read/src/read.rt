@@ -8,6 +8,7 @@ ghost use Rattle.rl_text.specs.Reader as reader;
 ghost use Rattle.rl_text.specs.Reader.{NoneLeft, Read, Refused, Stopped, read_by};
 ghost use Rattle.rl_world.specs.declared.stop.Stop.{Stop};
 ghost use Rattle.rl_world.specs.declared.stop.Stop.TheVariants as stop;
+ghost use Rattle.rl_read.specs.Taken.{TakesBytes};
 ghost use Rattle.rl_read.specs.Given.{is_counted, is_fault};
 ghost use Rattle.rl_read.specs.Stock.{Stock, in_stock, stock_of};
 ghost use Rattle.rl_read.specs.Frames.{IsReading, IsReadyToRead, frames_in};
@@ -46,10 +47,10 @@ pub enum ReadFault {
 /// comments are left; `Stop` where a turn, a level or room is wanting, or the text fails.
 pub fn read_form<T: Bytes>(w: &mut World, text: &mut T) -> Result<Val, ReadFault>
     requires { IsTable w.old.cells.cells w.old.syms.head }
-    ensures ok { IfOk result (λ v. WhereTold (T.left text.old w.old.input) (T.left text.new w.new.input) (λ before now. read_by (in_stock (T.takes_turns text.old)) (stock_of w.old) before ≡ Read v (stock_of w.new) now)) }
-    ensures syntax { (k : ℕ) → result ≡ Err (fault.Syntax k) → WhereTold (T.left text.old w.old.input) (T.left text.new w.new.input) (λ before now. IsRefusedText (T.takes_turns text.old) w.old w.new before now k) }
-    ensures end { result ≡ Err fault.End → WhereTold (T.left text.old w.old.input) (T.left text.new w.new.input) (λ before now. read_by (in_stock (T.takes_turns text.old)) (stock_of w.old) before ≡ NoneLeft (stock_of w.new)) }
-    ensures stop { (s : Stop) → result ≡ Err (fault.Stop s) → is_fault s ≡ false → WhereTold (T.left text.old w.old.input) (T.left text.new w.new.input) (λ before now. IsStoppedText (T.takes_turns text.old) w.old before now s) }
+    ensures ok { IfOk result (λ v. TakesBytes (T.unread text.old w.old.input) (T.unread text.new w.new.input) (λ before now. read_by (in_stock (T.takes_turns text.old)) (stock_of w.old) before ≡ Read v (stock_of w.new) now)) }
+    ensures syntax { (k : ℕ) → result ≡ Err (fault.Syntax k) → TakesBytes (T.unread text.old w.old.input) (T.unread text.new w.new.input) (λ before now. IsRefusedText (T.takes_turns text.old) w.old w.new before now k) }
+    ensures end { result ≡ Err fault.End → TakesBytes (T.unread text.old w.old.input) (T.unread text.new w.new.input) (λ before now. read_by (in_stock (T.takes_turns text.old)) (stock_of w.old) before ≡ NoneLeft (stock_of w.new)) }
+    ensures stop { (s : Stop) → result ≡ Err (fault.Stop s) → is_fault s ≡ false → TakesBytes (T.unread text.old w.old.input) (T.unread text.new w.new.input) (λ before now. IsStoppedText (T.takes_turns text.old) w.old before now s) }
     ensures counted { (s : Stop) → result ≡ Err (fault.Stop s) → is_fault s ≡ false → is_counted s ≡ true }
     ensures printed { result ≢ Err (fault.Stop stop.Write) → WhereTold (T.printed text.old w.old.output.waiting) (T.printed text.new w.new.output.waiting) (λ before now. now ≡ before) }
     ensures read_failed { result ≡ Err (fault.Stop stop.Read) → Rose (T.reads text.old) (T.reads text.new) }

@@ -6,23 +6,23 @@ ghost use Rattle.rl_syms.specs.Table.{IsTable};
 ghost use Rattle.rl_tree.specs.Bytes.{is_digit};
 ghost use Rattle.rl_text.specs.Reader as reader;
 ghost use Rattle.rl_text.specs.Byte as byte;
+ghost use Rattle.rl_text.specs.ByteClass.{mark_of};
 ghost use Rattle.rl_text.specs.Word as word;
 ghost use Rattle.rl_text.specs.Maker.{Has};
 ghost use Rattle.rl_world.specs.declared.world.World.{World};
 ghost use Rattle.rl_read.specs.Given.{is_counted};
 ghost use Rattle.rl_read.specs.Stock.{in_stock, stock_of};
 ghost use Rattle.rl_read.specs.Frames.{IsChain, IsMaking, IsReading, IsReadyToRead, chain_of, frames_around, frames_in, is_quote_group, vector_in_group};
-ghost use Rattle.rl_read.specs.Steps.{IsAtom, IsEnded, IsHalting, IsLacking, IsMode, IsNumber, IsStep, atom_meant, ended_of, inner_ended, is_digits_mode, is_text_mode, mark_of, may_end, mode_of, opens_at, step_of, word_atom};
+ghost use Rattle.rl_read.specs.Steps.{IsAtom, IsEnded, IsHalting, IsLacking, IsMode, IsNumber, IsStep, atom_meant, ended_of, inner_ended, is_digits_mode, is_text_mode, may_end, mode_of, opens_at, step_of, word_atom};
 ghost use Rattle.rl_read.specs.declared.frames.Group.TheVariants as rl_group;
 ghost use Rattle.rl_read.specs.declared.frames.Phase.TheVariants as rl_phase;
 ghost use Rattle.rl_read.specs.declared.word.Mode.TheVariants as mode;
 
 use crate::frames::{Chain, Group, Opening, Phase, admits, around, begin, first_of};
 use crate::make::{Atom, end_with, extended, make_atom, quoted, vector};
-use crate::word::{
-    Class, LONGEST_NAME, LONGEST_TEXT, Mark, Mode, Word, class_of, is_name_byte, raised,
-};
+use crate::word::{LONGEST_NAME, LONGEST_TEXT, Mode, Word};
 use rl_tags::{NIL, Val};
+use rl_text::bytes::{Class, Mark, class_of, is_name_byte, raised};
 use rl_world::{Stop, World};
 
 /// 2^59, the greatest number after `-`.
