@@ -29,7 +29,7 @@ shows_levels w l s h = record {
 }
 
 world_levels : (w : World) (l : WorldLevels) → IsWorld w → l.level ≤ l.bound → IsWorld (with_levels w l)
-world_levels w l i h = record { table = i.table; t = i.t; message = i.message; texts = i.texts; running = i.running; levels = h; expanding = i.expanding }
+world_levels w l i h = record { table = i.table; t = i.t; message = i.message; texts = i.texts; running = i.running; levels = h; made = i.made; expanding = i.expanding }
 
 pub levels_grow : (w x : World) (l : WorldLevels) → x ≡ record w { levels = l } → IsWorld w → l.level ≤ l.bound → WorldGrows w x
 levels_grow w x l e i h = subst (λ y. WorldGrows w y) (sym e) (record { world = world_levels w l i h; live = λ v h. h; values = λ v h. refl })

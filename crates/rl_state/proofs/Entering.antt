@@ -112,6 +112,9 @@ module _ (law : AreCellLaws) (w : World) (name : Name) (some : 1 ≤ length name
       three : (n c : ℕ) → n + c + 3 ≡ n + (c + 3)
       three n c = omega arith
 
+  more_made : w.syms.made ≤ ids_before new_cells (length new_cells)
+  more_made = let many = law.naming.many w.cells name w.syms.head in let made = i.made in omega (arith, many, made)
+
   pub entered_grows : WorldGrows w entered_world
   entered_grows = record {
     world = record {
@@ -124,6 +127,7 @@ module _ (law : AreCellLaws) (w : World) (name : Name) (some : 1 ≤ length name
       };
       running = counted_entered;
       levels = i.levels;
+      made = more_made;
       expanding = expanding_kept old_cells new_cells (with_cells (id_cost name) w.counts.outermost) gains.adds.ids (expanding_roomed old_cells (id_cost name) w.counts.outermost i.expanding);
     };
     live = gains.adds.live;

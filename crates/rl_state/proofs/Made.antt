@@ -1,16 +1,17 @@
 -- A new object that is no block: the world is one of a run, what was there stays, and the new state is shown.
-use Rattle.std.proofs.Common.{◌≡◌, ℕ, zero, suc, ◌+◌, ◌-◌, ◌/◌, ◌<◌, Bool, true, false, List, [], ◌∷◌, ◌++◌, length, map, Option, Some, None, Result, Ok, Err, refl, sym, ap, subst, ◌∙◌, arith}
+use Rattle.std.proofs.Common.{◌≡◌, ℕ, zero, suc, ◌+◌, ◌-◌, ◌/◌, ◌<◌, ◌≤◌, Bool, true, List, [], ◌∷◌, ◌++◌, length, map, Option, Some, None, Ok, Err, refl, sym, ap, subst, ◌∙◌, arith}
 use Rattle.std.specs.Prelude.{replicate, slice_index_or}
 use Rattle.std.specs.List.{list_all}
 use Rattle.std.specs.Option.{ForSome}
-use Rattle.rl_tags.specs.Tagged.{Tagged, Number, IdAt, StrAt, PairAt, VectorAt, BigAt, FunAt, index_of}
+use Rattle.rl_tags.specs.Tagged.{Tagged, Number, IdAt, StrAt, PairAt, VectorAt, BigAt, FunAt}
 use Rattle.rl_tags.specs.Ids.{nil_id}
 use Rattle.rl_tree.specs.Value.{Value, Id, Str, Ref, Vector, Store, cons_store, new_value, vector_store}
 use Rattle.rl_cells.specs.Cell as cell
-use Rattle.rl_cells.specs.Cell.{Cell, PairCell, StrCell, VectorCell, IsClosed, cost_of, grown, has_room, placed, is_live, is_str, used_of}
-use Rattle.rl_syms.specs.Contents.{value_of, store_of}
+use Rattle.rl_cells.specs.Cell.{Cell, PairCell, StrCell, VectorCell, IsClosed, cell_at, cost_of, grown, has_room, placed, is_id_cell, is_live, is_str, used_of}
+use Rattle.rl_syms.specs.Contents.{ids_before, value_of, store_of}
 use Rattle.rl_syms.specs.Frame.{KeepsIdentifiers, words_of_id}
 use Rattle.rl_syms.specs.Laws.{IsKept}
+use Rattle.rl_syms.specs.Numbers.{IdentifiersAreNumbered}
 use Rattle.rl_syms.specs.Table.{is_id}
 use Rattle.rl_state.specs.CellLaws.{AreCellLaws}
 use Rattle.rl_world.specs.Counts as counted
@@ -26,7 +27,7 @@ use Rattle.rl_meaning.specs.Symbols.{nil_value_of_state}
 use Rattle.rl_state.specs.ShownState.{ShowsState, counts_in, expansion_in}
 use Rattle.rl_state.specs.Worlds.{IsWorld, AreRunCounts, HasNumber, ObjectsAlone, WorldGrows}
 use Rattle.rl_state.specs.Ending.{MeansValue}
-use Rattle.rl_state.proofs.Kept.{SameValues, named_same, symbols_kept}
+use Rattle.rl_state.proofs.Kept.{SameValues, all_ids_same, named_same, symbols_kept}
 use Rattle.rl_state.proofs.Room.{left, left_in, room_done, room_fits, room_full, roomed_in}
 
 string_kept : (old new : List Cell) (v : Tagged) → KeepsIdentifiers old new → is_str old v ≡ true → is_str new v ≡ true
@@ -50,6 +51,10 @@ texts_kept old new texts b t = record {
   text = λ i d l. b.texts (slice_index_or texts i d) (t.string i d l) ∙ t.text i d l;
 }
 
+-- as many identifiers as there were
+pub made_stays : (law : IdentifiersAreNumbered) (w : World) (new : List Cell) → ((k : ℕ) → is_id_cell (cell_at new k) ≡ is_id_cell (cell_at w.cells.cells k)) → IsWorld w → w.syms.made ≤ ids_before new (length new)
+made_stays law w new ids i = subst (λ n. w.syms.made ≤ n) (sym (all_ids_same law w.cells.cells new ids)) i.made
+
 -- what is expanded stays a name
 abbrev pub IsExpanding : List Cell → Option Expansion → Type 0
 IsExpanding cells outer = ForSome outer (λ e. is_id cells e.name ≡ true)
@@ -57,14 +62,15 @@ IsExpanding cells outer = ForSome outer (λ e. is_id cells e.name ≡ true)
 pub expanding_kept : (old new : List Cell) (outer : Option Expansion) → ((v : Tagged) → is_id old v ≡ true → is_id new v ≡ true) → IsExpanding old outer → IsExpanding new outer
 expanding_kept old new outer f h = λ e is. f e.name (h e is)
 
-pub world_kept : (law : IsKept) (w : World) (c : cell.CellStore) (k : counted.WorldCounts) → KeepsIdentifiers w.cells.cells c.cells → SameValues w.cells.cells c.cells → AreRunCounts c k → IsExpanding c.cells k.outermost → IsWorld w → IsWorld (record w { cells = c; counts = k })
+pub world_kept : (law : AreCellLaws) (w : World) (c : cell.CellStore) (k : counted.WorldCounts) → KeepsIdentifiers w.cells.cells c.cells → SameValues w.cells.cells c.cells → AreRunCounts c k → IsExpanding c.cells k.outermost → IsWorld w → IsWorld (record w { cells = c; counts = k })
 world_kept law w c k b same r x i = record {
-  table = law.table w.cells.cells c.cells w.syms.head b i.table;
-  t = numbered_kept law w.cells.cells c.cells _ 1 b same i.t;
-  message = numbered_kept law w.cells.cells c.cells _ 3 b same i.message;
+  table = law.kept.table w.cells.cells c.cells w.syms.head b i.table;
+  t = numbered_kept law.kept w.cells.cells c.cells _ 1 b same i.t;
+  message = numbered_kept law.kept w.cells.cells c.cells _ 3 b same i.message;
   texts = texts_kept w.cells.cells c.cells w.texts b i.texts;
   running = r;
   levels = i.levels;
+  made = made_stays law.numbered w c.cells (λ k. law.kept.ids w.cells.cells c.cells (IdAt k) b) i;
   expanding = x;
 }
 
@@ -111,7 +117,7 @@ pub made_grows : (law : AreCellLaws) (w : World) (c : Cell) → words_of_id c �
 made_grows law w c none i =
     let b = law.blocks.made w.cells.cells c none in
     record {
-      world = world_kept law.kept w (grown w.cells c) (roomed w.counts (cost_of c)) b (same_made law w c) (running_made w.cells w.counts c i.running)
+      world = world_kept law w (grown w.cells c) (roomed w.counts (cost_of c)) b (same_made law w c) (running_made w.cells w.counts c i.running)
           (expanding_kept w.cells.cells (w.cells.cells ++ placed c) (with_cells (cost_of c) w.counts.outermost) (λ v h. law.kept.ids w.cells.cells (w.cells.cells ++ placed c) v b ∙ h) (expanding_roomed w.cells.cells (cost_of c) w.counts.outermost i.expanding)) i;
       live = b.live;
       values = same_made law w c;

@@ -7,7 +7,7 @@ use Rattle.rl_tags.specs.Tagged.{Tagged, Number, IdAt, StrAt, PairAt, VectorAt, 
 use Rattle.rl_tags.specs.declared.Tag.TheVariants as tag
 use Rattle.rl_tree.specs.Value.{Value, Ref, Object, Pair, Vector, changed_store}
 use Rattle.rl_cells.specs.Cell.{Cell, PairCell, VectorCell, IsClosed, changed_at, is_live, is_pair, is_vector, car_of, cdr_of, vector_of}
-use Rattle.rl_syms.specs.Contents.{value_of, store_of, number_at}
+use Rattle.rl_syms.specs.Contents.{value_of, number_at}
 use Rattle.rl_syms.specs.Laws.{ChangesObject, IsRead}
 use Rattle.rl_state.specs.CellLaws.{AreCellLaws}
 use Rattle.rl_syms.specs.Frame.{KeepsIdentifiers}
@@ -86,7 +86,7 @@ object_grows : (law : AreCellLaws) (w : World) (new : List Cell) (r : ℕ) (o : 
 object_grows law w new r o a i =
     let run = i.running in
     record {
-      world = world_kept law.kept w (record w.cells { cells = new }) w.counts a.keeps (λ v l. a.changes.values v) (record { opened = run.opened; together = run.together; counted = run.counted; unmarked = run.unmarked; bound = run.bound; few = run.few })
+      world = world_kept law w (record w.cells { cells = new }) w.counts a.keeps (λ v l. a.changes.values v) (record { opened = run.opened; together = run.together; counted = run.counted; unmarked = run.unmarked; bound = run.bound; few = run.few })
           (expanding_kept w.cells.cells new w.counts.outermost (λ v h. law.kept.ids w.cells.cells new v a.keeps ∙ h) i.expanding) i;
       live = a.keeps.live;
       values = λ v l. a.changes.values v;

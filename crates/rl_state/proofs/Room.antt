@@ -17,7 +17,6 @@ use Rattle.rl_meaning.specs.Outcome.{Outcome, Done, Stopped, Cells, room, turn, 
 use Rattle.rl_syms.specs.Contents.{ids_before}
 use Rattle.rl_state.specs.ShownState.{ShowsState, counts_in, expansion_in}
 use Rattle.rl_state.specs.Worlds.{IsWorld, AreRunCounts, WorldGrows}
-use Rattle.rl_state.specs.Beside.{StaysBeside}
 use Rattle.rl_state.specs.Ending.{StopsWith, MeansDone, stop_in}
 
 -- what is left in a run
@@ -261,7 +260,7 @@ expanding_ticked cells k o h = subst (λ x. ForSome (counted.ticked_at x k.outer
 
 pub turn_grows : (w x : World) → x ≡ record w { counts = ticked w.counts } → IsWorld w → WorldGrows w x
 turn_grows w x e i = subst (λ y. WorldGrows w y) (sym e) (record {
-  world = record { table = i.table; t = i.t; message = i.message; texts = i.texts; running = running_ticked w.cells w.counts i.running; levels = i.levels; expanding = expanding_ticked w.cells.cells w.counts i.running.opened i.expanding };
+  world = record { table = i.table; t = i.t; message = i.message; texts = i.texts; running = running_ticked w.cells w.counts i.running; levels = i.levels; made = i.made; expanding = expanding_ticked w.cells.cells w.counts i.running.opened i.expanding };
   live = λ v h. h;
   values = λ v h. refl;
 })

@@ -1,5 +1,5 @@
 -- One identifier has something else: all that cells mean stays, and what is shown of that identifier changes alone.
-use Rattle.std.proofs.Common.{◌≡◌, ◌≢◌, ℕ, ◌-◌, ◌<◌, ◌≤◌, Bool, true, false, ◌==◌, List, [], length, Option, Some, None, refl, sym, ap, subst, ◌∙◌}
+use Rattle.std.proofs.Common.{◌≡◌, ◌≢◌, ℕ, ◌<◌, ◌≤◌, Bool, true, false, ◌==◌, List, [], length, Option, Some, None, refl, sym, ap, subst, ◌∙◌}
 use Rattle.std.specs.Prelude.{slice_index_or}
 use Rattle.std.proofs.lemmas.Bool.{eqb-true, eqb-false}
 use Rattle.std.proofs.lemmas.List.{get_or-set_same, get_or-set_other, length-set}
@@ -25,7 +25,7 @@ use Rattle.rl_meaning.specs.Symbols.{with_symbol, with_top, message_id, new_symb
 use Rattle.rl_state.specs.ShownState.{ShowsState, ShowsSymbols, counts_in, is_listed, definition_in, number_in, option_value_in, pointer_named, value_seen, seen_of, symbol_meant}
 use Rattle.rl_state.specs.Worlds.{IsWorld, HasNumber, ObjectsAlone, WorldGrows, SeenOtherwise}
 use Rattle.rl_state.proofs.Kept.{AlikeShown, all_ids_same, id_cell, named_same, number_same, symbol_like}
-use Rattle.rl_state.proofs.Made.{expanding_kept, expansion_kept}
+use Rattle.rl_state.proofs.Made.{expanding_kept, expansion_kept, made_stays}
 
 -- ---- cells that keep their meaning
 
@@ -126,8 +126,8 @@ with_list w cells = record w { cells = record w.cells { cells = cells } }
 numbered_kept : (old new : List Cell) (id : Tagged) (i : ℕ) → KeepsMeaning old new → ((v : Tagged) → is_id old v ≡ true → is_id new v ≡ true) → HasNumber old id i → HasNumber new id i
 numbered_kept old new id i m ids n = record { is_id = ids id n.is_id; number = named_same old new id (λ v l. m.values v) n.is_id ∙ n.number }
 
-pub set_grows : (w : World) (new : List Cell) (id : Tagged) (y : SymbolCells) → IsWorld w → IsTable new w.syms.head → Sets w.cells.cells new id y → WorldGrows w (with_list w new)
-set_grows w new id y i t sets =
+pub set_grows : (law : IdentifiersAreNumbered) (w : World) (new : List Cell) (id : Tagged) (y : SymbolCells) → IsWorld w → IsTable new w.syms.head → Sets w.cells.cells new id y → WorldGrows w (with_list w new)
+set_grows law w new id y i t sets =
     let old = w.cells.cells in
     let m = sets.rest in
     record {
@@ -141,6 +141,7 @@ set_grows w new id y i t sets =
         };
         running = record { opened = i.running.opened; together = i.running.together; counted = i.running.counted; unmarked = i.running.unmarked; bound = i.running.bound; few = i.running.few };
         levels = i.levels;
+        made = made_stays law w new (λ k. ids_kept old new k m) i;
         expanding = expanding_kept old new w.counts.outermost sets.ids i.expanding;
       };
       live = λ v h. m.live v ∙ h;
@@ -340,8 +341,8 @@ field_set w cs names id y e f t sets = record {
   sets = sets;
 }
 
-pub field_grows : (w x : World) (id : Tagged) (y : SymbolCells) → IsFieldSet w x id y → IsWorld w → WorldGrows w x
-field_grows w x id y s i = subst (λ z. WorldGrows w z) (sym s.is) (set_grows w x.cells.cells id y i s.table s.sets)
+pub field_grows : (law : IdentifiersAreNumbered) (w x : World) (id : Tagged) (y : SymbolCells) → IsFieldSet w x id y → IsWorld w → WorldGrows w x
+field_grows law w x id y s i = subst (λ z. WorldGrows w z) (sym s.is) (set_grows law w x.cells.cells id y i s.table s.sets)
 
 pub field_rest : (w x : World) (id : Tagged) (y : SymbolCells) → IsFieldSet w x id y → ObjectsAlone w x
 field_rest w x id y s = record { rest = subst (λ (z : World). z ≡ record w { cells = z.cells; syms = z.syms; counts = z.counts }) (sym s.is) refl }

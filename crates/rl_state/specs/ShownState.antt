@@ -1,5 +1,5 @@
 -- The states that a world may stand for: what a world determines of a state. Functions, bindings, what is watched, files, and what was read and printed are no part of a world.
-use Rattle.std.specs.Prelude.{◌≡◌, ◌≤◌, ℕ, ◌-◌, ◌%◌, ◌/◌, ◌^◌, ◌==◌, Bool, true, false, ◌||◌, List, [], ◌∷◌, length, Option, Some, None}
+use Rattle.std.specs.Prelude.{◌≡◌, ◌≤◌, ℕ, ◌-◌, ◌==◌, Bool, true, false, ◌||◌, List, [], ◌∷◌, length, Option, Some, None}
 use Rattle.rl_tags.specs.Tagged.{Tagged, index_of}
 use Rattle.rl_tree.specs.Value.{Value, Fun}
 use Rattle.rl_tree.specs.declared.held.Kind.{Kind}
@@ -14,7 +14,7 @@ use Rattle.rl_world.specs.declared.world.World.{World}
 use Rattle.rl_meaning.specs.State.{State, Symbol, Definition, Pointer, Counts, Expansion}
 use Rattle.rl_meaning.specs.Symbols.{symbol_at, message_id}
 use Rattle.rl_meaning.specs.Variables.{Nearest, nearest}
-use Rattle.rl_syms.specs.Contents.{ids_before, funs_before, value_of, store_of}
+use Rattle.rl_syms.specs.Contents.{ids_before, value_of, store_of}
 
 -- ---- identifiers
 

@@ -37,6 +37,8 @@ pub record IsWorld (w : World) : Type 0 where
   pub texts : AreTexts w.cells.cells w.texts 14
   pub running : AreRunCounts w.cells w.counts
   pub levels : w.levels.level ≤ w.levels.bound
+  -- as many identifiers were made by GENSYM as there are at most
+  pub made : w.syms.made ≤ ids_before w.cells.cells (length w.cells.cells)
   -- what is expanded is a name
   pub expanding : ForSome w.counts.outermost (λ e. is_id w.cells.cells e.name ≡ true)
 
