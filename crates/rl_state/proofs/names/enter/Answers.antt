@@ -1,4 +1,3 @@
-use Rattle.std.proofs.Common.{refl}
 use Rattle.rl_state.proofs.Made.{grows_refl, has_counted, rest_refl}
 use Rattle.rl_state.proofs.Entering.{entered_all_grows, entered_ends, entered_rest, entered_stops, ok_with_room, table_counted}
 use Rattle.rl_state.proofs.names.enter.Goals as goal
@@ -7,7 +6,7 @@ pub intern-requires-clause-table : goal.intern-requires-clause-table
 intern-requires-clause-table c = table_counted c.args.w.now c.room.new.self _ c.in-Ok.ensures.counted c.requires.world.table
 
 pub unwrap-requires : goal.unwrap-requires
-unwrap-requires c = ok_with_room c.intern.result _ c.intern.ensures.no_room (has_counted c.args.w.now c.room.new.self _ _ c.in-Ok.ensures.counted c.requires.world (rw c.identifier_cost.ensures at c.in-Ok.ensures.ok))
+unwrap-requires c = ok_with_room c.intern.result _ c.intern.ensures.no_room (has_counted c.cells_are_known.ensures.enough c.args.w.now c.room.new.self _ _ c.in-Ok.ensures.counted c.requires.world (rw c.identifier_cost.ensures at c.in-Ok.ensures.ok))
 
 pub returns-in-Ok-clause-means : goal.returns-in-Ok-clause-means
 returns-in-Ok-clause-means c =
