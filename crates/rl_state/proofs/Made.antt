@@ -93,6 +93,7 @@ running_made law s k c some r = record {
   bounds = law.bounds.made k s c some r.bounds;
   together = r.together;
   unexpanded = λ n o. ap (with_cells (cost_of c)) (r.unexpanded n o);
+  untaken = r.untaken;
   few = r.few;
 }
 
@@ -116,6 +117,7 @@ running_changed s k new long r = record {
   bounds = record { bound = r.bounds.bound; together = r.bounds.together; spare = subst (λ n. AreSpareCounted k.aside k.outermost s.mark n) (sym long) r.bounds.spare };
   together = r.together;
   unexpanded = r.unexpanded;
+  untaken = r.untaken;
   few = r.few;
 }
 

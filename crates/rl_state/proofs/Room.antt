@@ -200,9 +200,9 @@ left_opening : (c : cell.CellStore) (k : counted.WorldCounts) (n : ℕ) → AreR
 left_opening c k n r o = rw (o, r.together, r.unexpanded n o) refl
 
 running_ticked_at : (c : cell.CellStore) (k : counted.WorldCounts) (o : Option ℕ) (e : Option expansion.Expansion) → AreRunCounts c k → k.opening ≡ o → BoundsAgree (counted.ticked_at o e k) c → AreRunCounts c (counted.ticked_at o e k)
-running_ticked_at c k (Some n) e r is b = record { bounds = b; together = r.together; unexpanded = λ m h. r.unexpanded n is; few = r.few }
-running_ticked_at c k None (Some e) r is b = record { bounds = b; together = r.together; unexpanded = λ m h. absurd (let f : None ≡ Some m = sym is ∙ h in cc); few = r.few }
-running_ticked_at c k None None r is b = record { bounds = b; together = r.together; unexpanded = r.unexpanded; few = r.few }
+running_ticked_at c k (Some n) e r is b = record { bounds = b; together = r.together; unexpanded = λ m h. r.unexpanded n is; untaken = λ m h. r.untaken n is; few = r.few }
+running_ticked_at c k None (Some e) r is b = record { bounds = b; together = r.together; unexpanded = λ m h. absurd (let f : None ≡ Some m = sym is ∙ h in cc); untaken = r.untaken; few = r.few }
+running_ticked_at c k None None r is b = record { bounds = b; together = r.together; unexpanded = r.unexpanded; untaken = λ m h. absurd (let f : None ≡ Some m = sym is ∙ h in cc); few = r.few }
 
 running_ticked : AreBoundsKept → (c : cell.CellStore) (k : counted.WorldCounts) → AreRunCounts c k → AreRunCounts c (ticked k)
 running_ticked law c k r = running_ticked_at c k k.opening k.outermost r refl (law.ticked k c r.bounds)

@@ -16,11 +16,12 @@ use Rattle.rl_meaning.specs.State.{State}
 use Rattle.rl_meaning.specs.Symbols.{symbol_at, message_id}
 use Rattle.rl_meaning.specs.Variables.{Nearest, nearest}
 
--- in opening or in a run: counts and cells agree, no compilation expands, and so no spare cells are in use, and in opening no expansion is open
+-- in opening or in a run: counts and cells agree, no compilation expands, and so no spare cells are in use, and in opening no expansion is open and no turn of the run was taken
 pub record AreRunCounts (c : CellStore) (k : WorldCounts) : Type 0 where
   pub bounds : BoundsAgree k c
   pub together : k.aside ≡ None
   pub unexpanded : (ticks : ℕ) → k.opening ≡ Some ticks → k.outermost ≡ None
+  pub untaken : (ticks : ℕ) → k.opening ≡ Some ticks → k.turns ≡ 0
   -- numbers of turns are small integers
   pub few : k.bound ≤ 2 ^ 59 - 1
 
