@@ -15,3 +15,4 @@ pub mod TiedBacks
 pub mod TiedRuns
 pub mod Finding
 pub mod Entering
+pub mod Beginning
