@@ -30,3 +30,4 @@ pub mod StandingLists
 pub mod StandingFrames
 pub mod StandingRead
 pub mod StandingTold
+mod CellsKept

@@ -6,3 +6,4 @@ pub mod Steps
 pub mod Reads
 pub mod Data
 pub mod Laws
+pub mod ReadingKeepsCells

@@ -1,4 +1,5 @@
 //! Laws of reading in a world. A law is the contract of a function that does nothing.
+ghost use Rattle.rl_read.specs.ReadingKeepsCells.{ReadingKeepsCells};
 ghost use Rattle.rl_read.specs.Laws.{MeansDatum, PairsAreData, ReadsData, ReadsText};
 
 use rl_cells::laws::{objects_are_added, objects_are_changed};
@@ -56,4 +57,11 @@ pub fn what_is_read_is_the_datum()
     others_leave_identifiers();
     names_enter();
     names_are_identifiers();
+}
+
+/// Reading leaves the cells that stood as they were, however the text ends, also where it is refused or reading stops.
+pub fn reading_keeps_cells()
+    ensures { ReadingKeepsCells }
+{
+    related_makers_end_related::<Brand>();
 }
