@@ -11,7 +11,7 @@ use Rattle.rl_read.specs.declared.frames.Chain.{Chain}
 use Rattle.rl_read.specs.declared.frames.Chain.TheVariants as chain
 use Rattle.rl_read.specs.declared.frames.Group.{Group}
 use Rattle.rl_read.specs.declared.frames.Group.TheVariants as group
-use Rattle.rl_world.specs.Walks.{IsSteady, kept_above, steady_refl, steady_trans}
+use Rattle.rl_world.specs.Walks.{IsSteady, kept_above}
 
 -- ---- making
 
@@ -67,6 +67,17 @@ pub ready_stays : (base : ℕ) (old new : World) (g : Group) → IsReadyToRead b
 ready_stays base old new g r m table = ready_made base old new g g r m table (group_stays old.cells.cells new.cells.cells g m.live m.longer r.group_is) r.root
 
 -- ---- reading
+
+pub steady_refl : (base : ℕ) (l : WorldLevels) → IsSteady base l l
+steady_refl base l = record { below = refl; level = refl; bound = refl; aside = refl }
+
+pub steady_trans : (base : ℕ) (a b c : WorldLevels) → IsSteady base a b → IsSteady base b c → IsSteady base a c
+steady_trans base a b c p q = record {
+  below = q.below ∙ p.below;
+  level = omega (arith, p.level, q.level);
+  bound = q.bound ∙ p.bound;
+  aside = q.aside ∙ p.aside;
+}
 
 pub reading_refl : (base : ℕ) (w : World) → IsReading base w w
 reading_refl base w = record { making = making_refl w; steady = steady_refl base w.levels }

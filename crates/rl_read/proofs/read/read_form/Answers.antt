@@ -12,7 +12,7 @@ use Rattle.rl_read.specs.Stock.{Stock, in_stock, stock_of}
 use Rattle.rl_read.specs.Frames.{frames_in}
 use Rattle.rl_read.specs.Steps.{IsStep, step_of, mode_of}
 use Rattle.rl_read.specs.Reads.{IsRefusedText, IsStoppedText}
-use Rattle.rl_world.specs.Walks.{steady_refl, steady_trans}
+use Rattle.rl_read.proofs.Making.{steady_refl, steady_trans}
 use Rattle.rl_read.proofs.FormedTold.{told_first, told_same, told_waits}
 use Rattle.rl_read.proofs.FormedKeeps.{keeps_refl, keeps_trans, keeps_given, keeps_back, keeps_levels, keeps_read, levels_back, steady_as, read_input, read_waiting, left_input, left_waiting}
 use Rattle.rl_read.proofs.FormedTurns.{goes_left, measure_falls, turns_fall}
