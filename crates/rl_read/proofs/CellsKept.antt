@@ -2,7 +2,7 @@
 use Rattle.std.proofs.Common.{◌≡◌, ℕ, zero, suc, ◌+◌, ◌<◌, ◌≤◌, ◌^◌, Bool, true, false, nat_le, if◌then◌else◌, List, [], ◌++◌, length, get_or, set, Option, None, Some, refl, ap, subst, ◌∙◌, arith}
 use Rattle.std.proofs.lemmas.List.{get_or_append_left, get_or-set_other, length-append, length-set}
 use Rattle.rl_tags.specs.Tagged.{Tagged, IdAt, StrAt, PairAt, VectorAt}
-use Rattle.rl_cells.specs.Cell.{Cell, PairCell, StrCell, VectorCell, More, car_of, cell_at, changed_at, cost_of, grown, has_room, placed}
+use Rattle.rl_cells.specs.Cell.{Cell, PairCell, StrCell, VectorCell, More, car_of, cell_at, changed_at, cost_of, grown, placed}
 use Rattle.rl_syms.specs.Made.{id_cost, new_id, with_id}
 use Rattle.rl_syms.specs.Table.{ids_from, nil_value}
 use Rattle.rl_tree.specs.Name.{Name, quote_name}
@@ -79,13 +79,12 @@ module _ (old : List Cell) where
       at zero = h
       at (suc n) = (h, tt)
 
-  room_makes_at : (o : Option Stop) (fits : Bool) (k : Stock) → CellsStay old k.cells.cells → Makes Anything (with_room_at o fits k)
-  room_makes_at (Some s) fits k h = h
-  room_makes_at None true k h = (h, tt)
-  room_makes_at None false k h = h
+  room_makes_at : (o : Option Stop) (k : Stock) → CellsStay old k.cells.cells → Makes Anything (with_room_at o k)
+  room_makes_at (Some s) k h = h
+  room_makes_at None k h = (h, tt)
 
   room_makes : (cost : ℕ) (k : Stock) → CellsStay old k.cells.cells → Makes Anything (with_room cost k)
-  room_makes cost k h = room_makes_at (room_stop k.counts k.cells cost) (has_room k.cells cost) (record k { counts = roomed k.counts cost }) h
+  room_makes cost k h = room_makes_at (room_stop k.counts k.cells cost) (record k { counts = roomed k.counts cost }) h
 
   object_makes : (P : Tagged → Type 0) (at : ℕ → Tagged) (c : Cell) (k : Stock) → ((n : ℕ) → length old ≤ n → P (at n)) → CellsStay old k.cells.cells → Makes P (object_made at c k)
   object_makes P at c k f h = then_makes Anything P (with_room (cost_of c) k) _ (room_makes (cost_of c) k h) (λ u k h t. (stand_added old k.cells.cells (placed c) h, f (length k.cells.cells) h.longer))

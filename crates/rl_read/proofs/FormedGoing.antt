@@ -4,13 +4,16 @@ use Rattle.std.specs.Prelude.{Option, Some, None, min, Result, Err}
 use Rattle.rl_tags.specs.Tagged.{Tagged}
 use Rattle.rl_text.specs.Maker.{Has, Wants}
 use Rattle.rl_text.specs.Reader.{ReaderFrame, Gap, Mode, ReaderStep, Goes, Done, Refuses, Halts, NoneLeft, Read, Refused, Stopped, after_step, after_turn, at_end, read_by, read_from, reader_step}
-use Rattle.rl_world.specs.Counts.{WorldCounts}
+use Rattle.rl_world.specs.Counts.{WorldCounts, ticked, ticked_at}
+use Rattle.rl_world.specs.Bounds.{AreBoundsKept, IsMakingCounted}
+use Rattle.rl_world.specs.declared.counts.Aside.{Aside}
+use Rattle.rl_world.specs.declared.counts.Expansion.{Expansion}
 use Rattle.rl_read.specs.Taken.{Unread, TakesBytes}
 use Rattle.rl_world.specs.Input.{Gives, Input}
 use Rattle.rl_world.specs.Levels.{WorldLevels}
 use Rattle.rl_world.specs.declared.world.World.{World}
 use Rattle.rl_world.specs.declared.stop.Stop.{Stop}
-use Rattle.rl_read.specs.Frames.{IsKeptByReading, IsReadyToRead, frames_in, frames_of, frames_kept}
+use Rattle.rl_read.specs.Frames.{AreReadyToMake, CanMake, IsKeptByReading, IsReadyToRead, frames_in, frames_of, frames_kept}
 use Rattle.rl_world.specs.Walks.{kept_above}
 use Rattle.rl_world.specs.declared.stop.Stop.TheVariants as stop
 use Rattle.rl_read.specs.Given.{IsGiven, WantsTurn, is_counted, is_fault}
@@ -20,7 +23,6 @@ use Rattle.rl_read.specs.declared.frames.Group.{Group}
 use Rattle.rl_read.specs.declared.frames.Group.TheVariants as group
 use Rattle.rl_read.specs.declared.read.ReadFault.{ReadFault}
 use Rattle.rl_read.specs.declared.read.ReadFault.TheVariants as fault
-use Rattle.rl_syms.specs.Table.{IsTable}
 use Rattle.std.specs.List.{AllByRecursion}
 use Rattle.rl_read.proofs.Counted.{tick_counted}
 use Rattle.rl_read.proofs.FormedTaken.{takes_first, takes_then}
@@ -40,8 +42,39 @@ passed_frames base old new g e = ap (λ (l : WorldLevels). frames_of g (frames_k
 pub passed_stock : (old new : World) → IsPassed old new → stock_of new ≡ record (stock_of old) { counts = new.counts }
 passed_stock old new e = ap (λ (w : World). stock_of w) e
 
-pub passed_ready : (base : ℕ) (old new : World) (g : Group) → IsPassed old new → IsReadyToRead base old g → IsReadyToRead base new g
-passed_ready base old new g e r = subst (λ (w : World). IsReadyToRead base w g) (sym e) (record { table = r.table; above = r.above; kept = r.kept; group_is = r.group_is; root = r.root })
+-- a turn changes nothing of what counts
+counted_again : (aside : Option Aside) (e f : Expansion) (mark : Option ℕ) → IsMakingCounted aside (Some e) mark → IsMakingCounted aside (Some f) mark
+counted_again None e f mark h = tt
+counted_again (Some a) e f None h = absurd h
+counted_again (Some a) e f (Some mark) h = tt
+
+counted_ticked : (c : WorldCounts) (opening : Option ℕ) (e : Option Expansion) (mark : Option ℕ) → c.outermost ≡ e → IsMakingCounted c.aside e mark → IsMakingCounted (ticked_at opening e c).aside (ticked_at opening e c).outermost mark
+counted_ticked c (Some n) e mark is h = subst (λ (e : Option Expansion). IsMakingCounted c.aside e mark) (sym is) h
+counted_ticked c None None mark is h = subst (λ (e : Option Expansion). IsMakingCounted c.aside e mark) (sym is) h
+counted_ticked c None (Some e) mark is h = counted_again c.aside e (record e { turns = e.turns + 1 }) mark h
+
+-- where the counts are as they were, or one turn was taken, objects may be made as before
+able_same : (old new : World) → IsPassed old new → new.counts ≡ old.counts → CanMake old → CanMake new
+able_same old new e same able = subst (λ (w : World). CanMake w) (sym e) (subst (λ (c : WorldCounts). AreReadyToMake old.cells old.syms.head c) (sym same) able)
+
+able_ticked : AreBoundsKept → (old new : World) → IsPassed old new → new.counts ≡ ticked old.counts → CanMake old → CanMake new
+able_ticked law old new e is able =
+    subst (λ (w : World). CanMake w) (sym e) (subst (λ (c : WorldCounts). AreReadyToMake old.cells old.syms.head c) (sym is)
+    (record { table = able.table; bounds = law.ticked old.counts old.cells able.bounds; counted = counted_ticked old.counts old.counts.opening old.counts.outermost old.cells.mark refl able.counted }))
+
+able_given : AreBoundsKept → (turns : Bool) (old new : World) (b : Option ℕ) → IsGiven turns old new b → IsPassed old new → CanMake old → CanMake new
+able_given law true old new (Some b) g e able = able_ticked law old new e g.counted able
+able_given law true old new None g e able = able_same old new e g able
+able_given law false old new b g e able = able_same old new e g able
+
+pub passed_ready : AreBoundsKept → (turns : Bool) (base : ℕ) (old new : World) (g : Group) (b : Option ℕ) → IsGiven turns old new b → IsPassed old new → IsReadyToRead base old g → IsReadyToRead base new g
+passed_ready law turns base old new g b given e r =
+    let able : AreReadyToMake old.cells old.syms.head new.counts = subst (λ (w : World). AreReadyToMake w.cells w.syms.head new.counts) e (able_given law turns old new b given e r.able) in
+    subst (λ (w : World). IsReadyToRead base w g) (sym e) (record { able = able; above = r.above; kept = r.kept; group_is = r.group_is; root = r.root })
+
+-- no byte was given
+pub passed_able : (base : ℕ) (old new : World) (g : Group) → new.counts ≡ old.counts → IsPassed old new → IsReadyToRead base old g → CanMake new
+passed_able base old new g same e r = able_same old new e same r.able
 
 -- the counts are as they were
 pub passed_same : (old new : World) → IsPassed old new → new.counts ≡ old.counts → stock_of new ≡ stock_of old
@@ -238,9 +271,9 @@ not_a_write s counted e = let clash : is_counted stop.Write ≡ true = subst (λ
 pub kept_first : (base : ℕ) (w : World) → base ≡ length w.levels.walk → kept_above base w.levels ≡ []
 kept_first base w e = let nothing : length w.levels.walk - base ≡ 0 = omega (arith, e) in ap (λ n. take n w.levels.walk) nothing
 
-pub ready_first : (base : ℕ) (w : World) → base ≡ length w.levels.walk → IsTable w.cells.cells w.syms.head → IsReadyToRead base w group.Root
-ready_first base w e table = record {
-  table = table;
+pub ready_first : (base : ℕ) (w : World) → base ≡ length w.levels.walk → CanMake w → IsReadyToRead base w group.Root
+ready_first base w e able = record {
+  able = able;
   above = omega (arith, e);
   kept = subst (λ (ts : List (ℕ × ℕ × ℕ)). AllByRecursion (IsKeptByReading w.cells.cells) ts) (sym (kept_first base w e)) tt;
   group_is = tt;

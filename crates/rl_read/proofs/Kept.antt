@@ -1,8 +1,7 @@
 -- What reading keeps on the walk.
-use Rattle.std.proofs.Common.{◌≡◌, ◌≢◌, ℕ, suc, ◌-◌, ◌≤◌, Bool, true, List, [], ◌∷◌, length, refl, sym, ap, ◌∙◌, arith}
+use Rattle.std.proofs.Common.{◌≡◌, ◌≢◌, ℕ, suc, ◌-◌, ◌≤◌, Bool, true, List, [], ◌∷◌, length, refl, sym, ap, subst, ◌∙◌, arith}
 use Rattle.std.specs.List.{AllByRecursion}
 use Rattle.rl_cells.specs.Cell.{Cell}
-use Rattle.rl_syms.specs.Table.{IsTable}
 use Rattle.rl_tags.specs.Tagged.{Tagged}
 use Rattle.rl_text.specs.Maker.{Maker}
 use Rattle.rl_text.specs.Reader.{ReaderFrame, is_inner, left}
@@ -11,7 +10,7 @@ use Rattle.rl_world.specs.declared.world.World.{World}
 use Rattle.rl_world.specs.declared.stop.Stop.{Stop}
 use Rattle.rl_read.specs.Stock.{Stock, in_stock, level_left, stock_of}
 use Rattle.rl_read.specs.Stock as stock
-use Rattle.rl_read.specs.Frames.{IsGroup, IsKeptByReading, IsReadyToRead, behind_it, group_weight, frames_in, frames_kept, frames_of, group_in, is_inner_group}
+use Rattle.rl_read.specs.Frames.{CanMake, IsGroup, IsKeptByReading, IsReadyToRead, behind_it, group_weight, frames_in, frames_kept, frames_of, group_in, is_inner_group}
 use Rattle.rl_read.specs.declared.frames.Chain.{Chain}
 use Rattle.rl_read.specs.declared.frames.Phase.TheVariants as phase
 use Rattle.rl_read.specs.declared.frames.Group.{Group}
@@ -87,14 +86,17 @@ popped_left base old new t above inner made turns =
 
 -- ---- what is ready
 
+-- where levels alone have changed, objects may be made as before
+able_left : (old new : World) → new ≡ record old { levels = new.levels } → CanMake old → CanMake new
+able_left old new e able = subst CanMake (sym e) able
+
 -- all is ready for what was kept
-pub ready_popped : (base : ℕ) (old new : World) (t : ℕ × ℕ × ℕ) (g : Group) → IsTable old.cells.cells old.syms.head → AllByRecursion (IsKeptByReading old.cells.cells) (kept_above base old.levels) → new ≡ record old { levels = new.levels } → kept_above base old.levels ≡ t ∷ kept_above base new.levels → base ≤ length new.levels.walk → g ≡ group_in t → IsReadyToRead base new g
-ready_popped base old new t g table kept world above l is =
+pub ready_popped : (base : ℕ) (old new : World) (t : ℕ × ℕ × ℕ) (g : Group) → CanMake old → AllByRecursion (IsKeptByReading old.cells.cells) (kept_above base old.levels) → new ≡ record old { levels = new.levels } → kept_above base old.levels ≡ t ∷ kept_above base new.levels → base ≤ length new.levels.walk → g ≡ group_in t → IsReadyToRead base new g
+ready_popped base old new t g able kept world above l is =
     let cells : new.cells ≡ old.cells = ap (λ (w : World). w.cells) world in
-    let syms : new.syms ≡ old.syms = ap (λ (w : World). w.syms) world in
     let first = kept_first base old.cells.cells old.levels new.levels t above kept in
     record {
-      table = rw (cells, syms) table;
+      able = able_left old new world able;
       above = l;
       kept = rw cells first.1;
       group_is = rw (cells, is) first.0.group_is;
@@ -105,10 +107,9 @@ ready_popped base old new t g table kept world above l is =
 pub ready_pushed : (base : ℕ) (old new : World) (t : ℕ × ℕ × ℕ) (g h : Group) → IsReadyToRead base old g → new ≡ record old { levels = new.levels } → new.levels.walk ≡ t ∷ old.levels.walk → kept_above base new.levels ≡ t ∷ kept_above base old.levels → group_in t ≡ g → is_inner_group g ≡ true → IsKeptByReading old.cells.cells t → IsGroup new.cells.cells h → h ≢ group.Root → IsReadyToRead base new h
 ready_pushed base old new t g h r world walk above is inner kept group_is inside =
     let cells : new.cells ≡ old.cells = ap (λ (w : World). w.cells) world in
-    let syms : new.syms ≡ old.syms = ap (λ (w : World). w.syms) world in
     let long : length new.levels.walk ≡ suc (length old.levels.walk) = ap length walk in
     record {
-      table = rw (cells, syms) r.table;
+      able = able_left old new world r.able;
       above = omega (arith, long, r.above);
       kept = rw (cells, above) (kept, r.kept);
       group_is = group_is;

@@ -61,6 +61,7 @@ pub trait Bytes {
         ensures same { takes_turns self.new ≡ takes_turns self.old }
         ensures kept { kept self.new ≡ kept self.old }
         ensures world { w.new ≡ record w.old { counts = w.new.counts; output = record w.old.output { waiting = w.new.output.waiting }; input = w.new.input } }
+        ensures err { OnErr result (w.new.counts ≡ w.old.counts) }
         ensures leaves { takes_turns self.old ≡ false → w.new ≡ w.old };
 
     /// Puts back the byte that was given last.

@@ -1,6 +1,6 @@
 //! Laws of reading in a world. A law is the contract of a function that does nothing.
 ghost use Rattle.rl_read.specs.ReadingKeepsCells.{ReadingKeepsCells};
-ghost use Rattle.rl_read.specs.Laws.{MeansDatum, PairsAreData, ReadsData, ReadsText};
+ghost use Rattle.rl_read.specs.Laws.{AreMakingLaws, MeansDatum, PairsAreData, ReadsData, ReadsText};
 
 use rl_cells::laws::{objects_are_added, objects_are_changed};
 use rl_syms::laws::{
@@ -11,6 +11,7 @@ use rl_text::laws::{
     blank_text_has_none, related_makers_end_related, unreadable_at_first_byte,
     what_is_found_is_spelled,
 };
+use rl_world::laws::{bounds_are_kept, room_is_enough};
 use std::marker::Brand;
 
 /// What is read in a world is what Lisp text says: a form is read only where the bytes begin with a spelling, and what is
@@ -57,6 +58,16 @@ pub fn what_is_read_is_the_datum()
     others_leave_identifiers();
     names_enter();
     names_are_identifiers();
+}
+
+/// What making rests on: names stay a table, the bounds of counts and of cells agree, and where there is room the cells have it.
+pub(crate) fn making_is_kept()
+    ensures { AreMakingLaws }
+{
+    table_is_kept();
+    others_leave_identifiers();
+    bounds_are_kept();
+    room_is_enough();
 }
 
 /// Reading leaves the cells that stood as they were, however the text ends, also where it is refused or reading stops.

@@ -13,7 +13,8 @@ forms-preserved c =
     let before = slice_left c.forms.text in
     let now = slice_left c.read_form.new.text in
     record {
-      running = read_running c.forms.world c.read_form.new.w c.forms.invariant.running c.in-Ok.ensures.table c.in-Ok.ensures.keeps;
+      running = read_running c.forms.world c.read_form.new.w c.forms.invariant.running c.in-Ok.ensures.able.table c.in-Ok.ensures.keeps;
+      able = c.in-Ok.ensures.able;
       known = rw c.in_ok-push-in-Ok.ensures.items (read_known c.what_is_read_is_the_datum.ensures c.forms.world c.read_form.new.w c.in-Ok.form before now _ c.forms.invariant.running (slice_told c.forms.text c.read_form.new.text (IsRead c.forms.world c.read_form.new.w c.in-Ok.form) c.in-Ok.ensures.ok) c.forms.invariant.known);
       read = read_more c.what_is_read_is_the_datum.ensures c.what_is_found_is_spelled.ensures c.forms.world c.read_form.new.w c.in-Ok.form c.args.bytes.now before now c.forms.forms.items c.push.new.self.items c.forms.invariant.running (slice_told c.forms.text c.read_form.new.text (IsRead c.forms.world c.read_form.new.w c.in-Ok.form) c.in-Ok.ensures.ok) c.forms.invariant.known c.in_ok-push-in-Ok.ensures.items c.forms.invariant.read;
       output = read_output c.forms.world c.read_form.new.w c.in-Ok.ensures.keeps (c.in-Ok.ensures.printed (λ e. cc)) ∙ c.forms.invariant.output;
@@ -25,7 +26,7 @@ returns-in-Err-End-clause-read c =
 
 pub returns-in-Err-End-clause-forms : goal.returns-in-Err-End-clause-forms
 returns-in-Err-End-clause-forms c = record {
-  running = read_running c.forms.world c.read_form.new.w c.forms.invariant.running c.in-Err-End.ensures.table c.in-Err-End.ensures.keeps;
+  running = read_running c.forms.world c.read_form.new.w c.forms.invariant.running c.in-Err-End.ensures.able.table c.in-Err-End.ensures.keeps;
   known = end_known c.reading_is_of_text.ensures c.forms.world c.read_form.new.w (slice_left c.forms.text) c.forms.forms.items (slice_told c.forms.text c.read_form.new.text (λ before now. IsEnd c.forms.world c.read_form.new.w before) (c.in-Err-End.ensures.end cc)) c.forms.invariant.known;
   output = read_output c.forms.world c.read_form.new.w c.in-Err-End.ensures.keeps (c.in-Err-End.ensures.printed (λ e. cc)) ∙ c.forms.invariant.output;
 }

@@ -24,7 +24,7 @@ returns-clause-left c =
 pub returns-clause-ready : goal.returns-clause-ready
 returns-clause-ready c =
     let l = left_more c.args.base c.args.w.now.levels c.walk_pop-a.new.self.levels _ c.requires.above (λ e. c.if-walk_len-base.false (omega (arith, c.walk_len.ensures, e))) c.walk_pop-a.ensures.popped in
-    ready_popped c.args.base c.args.w.now c.walk_pop-a.new.self _ c.group_of.result c.requires.table c.requires.kept (levels_alone c.args.w.now c.walk_pop-a.new.self _ c.walk_pop-a.ensures.left) (c.walk_pop-a.ensures.above c.args.base l) l c.group_of.ensures
+    ready_popped c.args.base c.args.w.now c.walk_pop-a.new.self _ c.group_of.result c.requires.able c.requires.kept (levels_alone c.args.w.now c.walk_pop-a.new.self _ c.walk_pop-a.ensures.left) (c.walk_pop-a.ensures.above c.args.base l) l c.group_of.ensures
 
 pub returns-clause-steady : goal.returns-clause-steady
 returns-clause-steady c =

@@ -29,3 +29,9 @@ returns-in-Err-tick-clause-stop g c =
       counts = ap (λ (x : World). x.counts) same ∙ counts;
       given = takes_some _ _ c.in-Ok.b (sym c.is_some.ensures ∙ c.if-is_some.true) (subst at (sym (ap (λ (x : World). x.input) same)) takes);
     })
+
+pub returns-in-Err-clause-err : goal.returns-in-Err-clause-err
+returns-in-Err-clause-err g c = ap (λ (x : World). x.counts) c.input_byte.ensures.world
+
+pub returns-in-Err-tick-clause-err : goal.returns-in-Err-tick-clause-err
+returns-in-Err-tick-clause-err g c = ap (λ (x : World). x.counts) c.in-Err-tick.ensures.err ∙ ap (λ (x : World). x.counts) c.input_byte.ensures.world
