@@ -1,5 +1,5 @@
 -- The world as it begins is one in opening, and at the end of opening it shows a run that begins.
-use Rattle.std.proofs.Common.{◌≡◌, ℕ, ◌-◌, ◌^◌, ◌<◌, ◌≤◌, List, [], ◌∷◌, ◌++◌, length, Option, Some, None, refl, sym, ap, subst, ◌∙◌, arith, length-append}
+use Rattle.std.proofs.Common.{◌≡◌, ℕ, ◌-◌, ◌^◌, ◌<◌, ◌≤◌, false, List, [], ◌∷◌, ◌++◌, length, Option, Some, None, refl, sym, ap, subst, ◌∙◌, arith, length-append}
 use Rattle.rl_tags.specs.Opening.{byte_names, names_at_opening, opening_rows, place_of}
 use Rattle.rl_tags.specs.Tagged.{Tagged, IdAt}
 use Rattle.rl_tags.specs.Ids.{emsg_star_id, t_id}
@@ -63,7 +63,7 @@ opened_numbers law ids cells texts head t o i l = record {
   number = opened_number law ids cells texts head o i l;
 }
 
-names_long : length names_at_opening ≡ 422
+pub names_long : length names_at_opening ≡ 422
 unfolding opening_rows byte_names
 names_long = refl
 
@@ -89,6 +89,8 @@ pub record Begins (w : World) (turns bound nest : ℕ) : Type 0 where
   pub counts : w.counts ≡ counts_at_opening turns bound
   pub levels : w.levels ≡ record { bound = nest; level = 0; walk = []; aside = None }
   pub made : w.syms.made ≡ 0
+  pub output : w.output ≡ record { waiting = []; column = 0; line_length = 80 }
+  pub input : w.input ≡ record { back = None; given = 0; ended = false }
 
 pub world_opens : (law : AreCellLaws) (ids : AreIdentifiers) (w : World) (turns bound nest : ℕ) → turns ≤ 2 ^ 59 - 1 → Begins w turns bound nest → IsWorld w
 world_opens law ids w turns bound nest few b =

@@ -8,7 +8,6 @@ use Rattle.rl_tags.specs.Tagged.{Tagged, Number, IdAt, StrAt, PairAt, VectorAt, 
 use Rattle.rl_tags.specs.declared.Tag.TheVariants as tag
 use Rattle.rl_tree.specs.Value.{Value, Id, Str}
 use Rattle.rl_tree.specs.Name.{Name}
-use Rattle.rl_tree.specs.declared.held.VarKind.{VarKind}
 use Rattle.rl_cells.specs.Cell as cell
 use Rattle.rl_cells.specs.Cell.{Cell, BlockCell, StrCell, IsClosed, cell_at, cost_of, is_id_cell, is_live, is_str, bytes_of, words_in}
 use Rattle.rl_syms.specs.Contents.{ids_before, value_of}
@@ -27,14 +26,14 @@ use Rattle.rl_world.specs.declared.world.World.{World}
 use Rattle.rl_meaning.specs.State.{State}
 use Rattle.rl_meaning.specs.State as meaning
 use Rattle.rl_meaning.specs.Outcome.{Outcome, Done, made_symbol, room, string_cost}
-use Rattle.rl_meaning.specs.Symbols.{interned, interned_at, new_symbol, symbol_at, nil_value_of_state}
+use Rattle.rl_meaning.specs.Symbols.{interned, interned_at, new_symbol, symbol_at}
 use Rattle.rl_meaning.specs.Variables.{Nearest, nearest}
 use Rattle.rl_state.specs.CellLaws.{AreCellLaws}
-use Rattle.rl_state.specs.ShownState.{ShowsState, ShowsSymbols, counts_in, definition_in, expansion_in, given_in, is_listed, option_value_in, seen_of, symbol_meant, turns_in, value_seen}
+use Rattle.rl_state.specs.ShownState.{ShowsState, ShowsSymbols, counts_in, expansion_in, given_in, is_listed, option_value_in, seen_of, symbol_meant, turns_in, value_seen}
 use Rattle.rl_state.specs.Beside.{StaysBeside}
 use Rattle.rl_state.specs.Worlds.{AreRunCounts, HasNumber, IsWorld, ObjectsAlone, WorldGrows}
 use Rattle.rl_state.specs.Ending.{MeansValue}
-use Rattle.rl_state.proofs.Kept.{SameValues, alike_stood, id_inside, named_same, number_same, same_id, symbol_like, value_stood}
+use Rattle.rl_state.proofs.Kept.{SameValues, alike_stood, blank_symbol, id_inside, named_same, number_same, same_id, symbol_like, value_stood}
 use Rattle.rl_state.proofs.Room.{left, left_behind, left_in, room_done, room_full, roomed_in}
 use Rattle.rl_state.proofs.Made.{expanding_kept, expanding_roomed, expansion_kept, running_made, taken_made}
 use Rattle.rl_state.proofs.Finding.{among_listed, false_unless, free_name, listed_among}
@@ -187,17 +186,7 @@ module _ (law : AreCellLaws) (w : World) (name : Name) (link after : Option Tagg
   blank = law.naming.blank w.cells name link
 
   symbol_there : (top : Option Value) → top ≡ None → symbol_meant new_cells after place top ≡ entered_symbol
-  unfolding symbol_meant
-  symbol_there top e =
-      ap (λ t. made (name_in_cells new_cells place) (is_listed place (ids_from new_cells after)) t (value_of new_cells (symbol_in_cells new_cells place).plist) (definition_in new_cells (symbol_in_cells new_cells place).definition) (symbol_in_cells new_cells place).kind) e
-      ∙ ap (λ x. made x (is_listed place (ids_from new_cells after)) None (value_of new_cells (symbol_in_cells new_cells place).plist) (definition_in new_cells (symbol_in_cells new_cells place).definition) (symbol_in_cells new_cells place).kind) gains.name_is
-      ∙ ap (λ x. made name x None (value_of new_cells (symbol_in_cells new_cells place).plist) (definition_in new_cells (symbol_in_cells new_cells place).definition) (symbol_in_cells new_cells place).kind) gains.here
-      ∙ ap (λ x. made name listed None x (definition_in new_cells (symbol_in_cells new_cells place).definition) (symbol_in_cells new_cells place).kind) (ap (value_of new_cells) blank.plist ∙ ap Id gains.table.first)
-      ∙ ap (λ x. made name listed None nil_value_of_state (definition_in new_cells x) (symbol_in_cells new_cells place).kind) blank.definition
-      ∙ ap (λ x. made name listed None nil_value_of_state None x) blank.kind
-    where
-      made : Name → Bool → Option Value → Value → Option meaning.Definition → VarKind → meaning.Symbol
-      made name listed top plist definition kind = record { name = name; interned = listed; top = top; properties = plist; definition = definition; kind = kind }
+  symbol_there top e = ap (symbol_meant new_cells after place) e ∙ blank_symbol new_cells after place name listed gains.table gains.name_is gains.here blank
 
   at_end : (s : State) → symbol_at (with_entered s) (length s.symbols) ≡ entered_symbol
   at_end s = get_or-append_seam s.symbols entered_symbol [] (new_symbol [] false)

@@ -16,3 +16,4 @@ pub mod TiedRuns
 pub mod Finding
 pub mod Entering
 pub mod Beginning
+pub mod BareShown

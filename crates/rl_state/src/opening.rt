@@ -1,5 +1,5 @@
 //! Opening: the world as it begins, and as a run begins.
-ghost use Rattle.std.specs.Prelude.{◌≡◌, ◌≤◌, ◌<◌, ◌-◌, ◌^◌, ℕ, List, None, Some, IfOk, [], false, length};
+ghost use Rattle.std.specs.Prelude.{◌≡◌, ◌≤◌, ◌<◌, ◌↔◌, ◌-◌, ◌^◌, ℕ, List, None, Some, IfOk, [], false, length};
 ghost use Rattle.rl_tags.specs.Opening.{names_at_opening, place_of};
 ghost use Rattle.rl_tags.specs.Tagged.{IdAt};
 ghost use Rattle.rl_syms.specs.Made.{IsOpening};
@@ -9,6 +9,7 @@ ghost use Rattle.rl_world.specs.Counts.{counts_at_opening};
 ghost use Rattle.rl_world.specs.OpeningCells.{AreOpeningCells};
 ghost use Rattle.rl_meaning.specs.State.{State, Files};
 ghost use Rattle.rl_meaning.specs.Run.{Limits as RunLimits, started};
+ghost use Rattle.rl_state.specs.BareStates.{IsUnset};
 ghost use Rattle.rl_state.specs.ShownState.{ShowsState};
 ghost use Rattle.rl_state.specs.Worlds.{HasNumber, IsWorld, ObjectsAlone, WorldGrows};
 
@@ -26,6 +27,7 @@ pub fn open(alloc: Global, limits: Limits) -> Result<World, OutOfMemory>
     requires nest { limits.nest ≤ 500000 }
     requires turns { limits.turns ≤ 2 ^ 59 - 1 }
     ensures world { IfOk result (λ w. IsWorld w) }
+    ensures shown { IfOk result (λ w. (s : State) → ShowsState w s ↔ IsUnset s) }
     ensures opening { IfOk result (λ w. IsOpening w.cells limits.cells) }
     ensures names { IfOk result (λ w. (i : ℕ) → i < length names_at_opening → IsNamed w.cells.cells w.syms.head (made_name i) (IdAt (place_of i))) }
     ensures numbers { IfOk result (λ w. (i : ℕ) → i < length names_at_opening → HasNumber w.cells.cells (IdAt (place_of i)) i) }
