@@ -15,3 +15,5 @@ pub mod TiedBacks
 pub mod TiedRuns
 pub mod Finding
 pub mod Entering
+pub mod Digits
+pub mod Gensyms
