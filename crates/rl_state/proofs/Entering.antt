@@ -5,36 +5,37 @@ use Rattle.std.proofs.lemmas.Bool.{eqb-true, leb-true, leb-false}
 use Rattle.std.proofs.lemmas.List.{get_or_append_left}
 use Rattle.std.proofs.Math.Seq.{get_or-append_seam}
 use Rattle.rl_tags.specs.Tagged.{Tagged, Number, IdAt, StrAt, PairAt, VectorAt, BigAt, FunAt, index_of}
+use Rattle.rl_tags.specs.declared.Tag.TheVariants as tag
 use Rattle.rl_tree.specs.Value.{Value, Id, Str}
 use Rattle.rl_tree.specs.Name.{Name}
-use Rattle.rl_tree.specs.declared.held.VarKind.{VarKind}
 use Rattle.rl_cells.specs.Cell as cell
-use Rattle.rl_cells.specs.Cell.{Cell, StrCell, IsClosed, cell_at, cost_of, is_id_cell, is_live, is_str, bytes_of, used_of, words_in}
+use Rattle.rl_cells.specs.Cell.{Cell, BlockCell, StrCell, IsClosed, cell_at, cost_of, is_id_cell, is_live, is_str, bytes_of, words_in}
 use Rattle.rl_syms.specs.Contents.{ids_before, value_of}
 use Rattle.rl_syms.specs.Frame.{Adds}
 use Rattle.rl_syms.specs.Laws.{AreIdentifiers}
-use Rattle.rl_syms.specs.Made.{Enters, Finds, id_cost, new_id, with_id}
+use Rattle.rl_syms.specs.Made.{Enters, Finds, id_cost, new_id, new_words, with_id}
 use Rattle.rl_syms.specs.Opened.{IsBlank}
 use Rattle.rl_syms.specs.Table as table
 use Rattle.rl_syms.specs.Table.{IsFree, IsTable, SymbolCells, ids_from, is_id, name_in_cells, nil_value, symbol_in_cells}
 use Rattle.rl_syms.specs.declared.table.Syms.{Syms}
 use Rattle.rl_world.specs.Counts as counted
-use Rattle.rl_world.specs.Counts.{room_stop, roomed, with_cells}
+use Rattle.rl_world.specs.Counts.{cells_bound_at, cells_taken, room_stop, roomed, with_cells}
+use Rattle.rl_world.specs.declared.counts.Expansion as expansion
 use Rattle.rl_world.specs.declared.stop.Stop as stops
 use Rattle.rl_world.specs.declared.world.World.{World}
 use Rattle.rl_meaning.specs.State.{State}
 use Rattle.rl_meaning.specs.State as meaning
 use Rattle.rl_meaning.specs.Outcome.{Outcome, Done, made_symbol, room, string_cost}
-use Rattle.rl_meaning.specs.Symbols.{interned, interned_at, new_symbol, symbol_at, nil_value_of_state}
+use Rattle.rl_meaning.specs.Symbols.{interned, interned_at, new_symbol, symbol_at}
 use Rattle.rl_meaning.specs.Variables.{Nearest, nearest}
 use Rattle.rl_state.specs.CellLaws.{AreCellLaws}
-use Rattle.rl_state.specs.ShownState.{ShowsState, ShowsSymbols, counts_in, definition_in, expansion_in, is_listed, option_value_in, seen_of, symbol_meant, value_seen}
+use Rattle.rl_state.specs.ShownState.{ShowsState, ShowsSymbols, counts_in, expansion_in, given_in, is_listed, option_value_in, seen_of, symbol_meant, turns_in, value_seen}
 use Rattle.rl_state.specs.Beside.{StaysBeside}
 use Rattle.rl_state.specs.Worlds.{AreRunCounts, HasNumber, IsWorld, ObjectsAlone, WorldGrows}
 use Rattle.rl_state.specs.Ending.{MeansValue}
-use Rattle.rl_state.proofs.Kept.{SameValues, alike_stood, id_inside, named_same, number_same, same_id, symbol_like, value_stood}
-use Rattle.rl_state.proofs.Room.{left, left_in, room_done, room_full, roomed_in}
-use Rattle.rl_state.proofs.Made.{expanding_kept, expanding_roomed, expansion_kept}
+use Rattle.rl_state.proofs.Kept.{SameValues, alike_stood, blank_symbol, id_inside, named_same, number_same, same_id, symbol_like, value_stood}
+use Rattle.rl_state.proofs.Room.{left, left_behind, left_in, room_done, room_full, roomed_in}
+use Rattle.rl_state.proofs.Made.{expanding_kept, expanding_roomed, expansion_kept, running_made, taken_made}
 use Rattle.rl_state.proofs.Finding.{among_listed, false_unless, free_name, listed_among}
 
 -- what is known of the cells with a new identifier: whether it is interned, and how many were made by GENSYM then
@@ -110,24 +111,32 @@ module _ (law : AreCellLaws) (w : World) (name : Name) (link after : Option Tagg
   numbered_stands : (id : Tagged) (n : ℕ) → HasNumber old_cells id n → HasNumber new_cells id n
   numbered_stands id n h = record { is_id = gains.adds.ids id h.is_id; number = named_same old_cells new_cells id same h.is_id ∙ h.number }
 
-  counted_entered : AreRunCounts (with_id w.cells name nil_value link) entered_counts
-  counted_entered = record {
-    opened = i.running.opened;
-    together = i.running.together;
-    counted = (i.running.counted.0 + cost_of (StrCell name) + 3, rw (i.running.counted.1, i.running.unmarked) refl);
-    unmarked = i.running.unmarked;
-    bound = i.running.bound;
-    few = i.running.few;
-  }
+  -- the string of the name, and then the block
+  abbrev block : Cell
+  block = BlockCell tag.Id (new_words (StrAt (length old_cells)) nil_value link)
 
-  used_entered : used_of (with_id w.cells name nil_value link) ≡ used_of w.cells + id_cost name
-  used_entered =
-      let a : used_of (with_id w.cells name nil_value link) ≡ i.running.counted.0 + cost_of (StrCell name) + 3 = rw (i.running.counted.1, i.running.unmarked) refl in
-      let b : used_of w.cells ≡ i.running.counted.0 = rw i.running.counted.1 refl in
-      a ∙ three i.running.counted.0 (cost_of (StrCell name)) ∙ ap (λ n. n + id_cost name) (sym b)
+  text_running : AreRunCounts (cell.grown w.cells (StrCell name)) (roomed w.counts (cost_of (StrCell name)))
+  text_running = running_made law w.cells w.counts (StrCell name) (omega arith) i.running
+
+  cells_added : with_cells 3 (with_cells (cost_of (StrCell name)) w.counts.outermost) ≡ with_cells (id_cost name) w.counts.outermost
+  cells_added = go w.counts.outermost
     where
       three : (n c : ℕ) → n + c + 3 ≡ n + (c + 3)
       three n c = omega arith
+
+      go : (e : Option expansion.Expansion) → with_cells 3 (with_cells (cost_of (StrCell name)) e) ≡ with_cells (id_cost name) e
+      go None = refl
+      go (Some e) = ap (λ n. Some (record e { cells = n })) (three e.cells (cost_of (StrCell name)))
+
+  counted_entered : AreRunCounts (with_id w.cells name nil_value link) entered_counts
+  counted_entered = subst (λ e. AreRunCounts (with_id w.cells name nil_value link) (record w.counts { outermost = e })) cells_added
+      (running_made law (cell.grown w.cells (StrCell name)) (roomed w.counts (cost_of (StrCell name))) block (omega arith) text_running)
+
+  taken_entered : cells_taken w.counts.opening (with_id w.cells name nil_value link) ≡ cells_taken w.counts.opening w.cells + id_cost name
+  taken_entered =
+      let text = taken_made law w.cells w.counts (StrCell name) (omega arith) i.running in
+      let words = taken_made law (cell.grown w.cells (StrCell name)) (roomed w.counts (cost_of (StrCell name))) block (omega arith) text_running in
+      omega (arith, text, words)
 
   more_made : step w.syms.made ≤ ids_before new_cells (length new_cells)
   more_made = let many = law.naming.many w.cells name link in let few = gains.few in omega (arith, many, few)
@@ -154,10 +163,13 @@ module _ (law : AreCellLaws) (w : World) (name : Name) (link after : Option Tagg
   counts_entered : roomed_in w.cells w.counts (id_cost name) ≡ counts_in (with_id w.cells name nil_value link) entered_counts
   counts_entered =
       let k = w.counts in
+      let given = given_in k.opening k.bound in
+      let turns = turns_in k.opening k.bound k.turns in
+      let bound = cells_bound_at k.opening k.cells_bound in
       let now = left_in (with_id w.cells name nil_value link) entered_counts counted_entered in
       let expands = expansion_kept old_cells new_cells k.open_count (with_cells (id_cost name) k.outermost) same (expanding_roomed old_cells (id_cost name) k.outermost i.expanding) in
-      sym (now ∙ ap (λ n. left k.bound (k.bound - k.turns) (k.cells_bound - n) (expansion_in new_cells k.open_count (with_cells (id_cost name) k.outermost))) used_entered
-      ∙ ap (λ e. left k.bound (k.bound - k.turns) (k.cells_bound - (used_of w.cells + id_cost name)) e) expands)
+      sym (now ∙ ap (λ n. left given turns (bound - n) (expansion_in new_cells k.open_count (with_cells (id_cost name) k.outermost))) taken_entered
+      ∙ ap (λ e. left_behind w.cells k (id_cost name) e) expands)
 
   -- ---- the new symbol
 
@@ -174,17 +186,7 @@ module _ (law : AreCellLaws) (w : World) (name : Name) (link after : Option Tagg
   blank = law.naming.blank w.cells name link
 
   symbol_there : (top : Option Value) → top ≡ None → symbol_meant new_cells after place top ≡ entered_symbol
-  unfolding symbol_meant
-  symbol_there top e =
-      ap (λ t. made (name_in_cells new_cells place) (is_listed place (ids_from new_cells after)) t (value_of new_cells (symbol_in_cells new_cells place).plist) (definition_in new_cells (symbol_in_cells new_cells place).definition) (symbol_in_cells new_cells place).kind) e
-      ∙ ap (λ x. made x (is_listed place (ids_from new_cells after)) None (value_of new_cells (symbol_in_cells new_cells place).plist) (definition_in new_cells (symbol_in_cells new_cells place).definition) (symbol_in_cells new_cells place).kind) gains.name_is
-      ∙ ap (λ x. made name x None (value_of new_cells (symbol_in_cells new_cells place).plist) (definition_in new_cells (symbol_in_cells new_cells place).definition) (symbol_in_cells new_cells place).kind) gains.here
-      ∙ ap (λ x. made name listed None x (definition_in new_cells (symbol_in_cells new_cells place).definition) (symbol_in_cells new_cells place).kind) (ap (value_of new_cells) blank.plist ∙ ap Id gains.table.first)
-      ∙ ap (λ x. made name listed None nil_value_of_state (definition_in new_cells x) (symbol_in_cells new_cells place).kind) blank.definition
-      ∙ ap (λ x. made name listed None nil_value_of_state None x) blank.kind
-    where
-      made : Name → Bool → Option Value → Value → Option meaning.Definition → VarKind → meaning.Symbol
-      made name listed top plist definition kind = record { name = name; interned = listed; top = top; properties = plist; definition = definition; kind = kind }
+  symbol_there top e = ap (symbol_meant new_cells after place) e ∙ blank_symbol new_cells after place name listed gains.table gains.name_is gains.here blank
 
   at_end : (s : State) → symbol_at (with_entered s) (length s.symbols) ≡ entered_symbol
   at_end s = get_or-append_seam s.symbols entered_symbol [] (new_symbol [] false)

@@ -17,3 +17,5 @@ pub mod Finding
 pub mod Entering
 pub mod Digits
 pub mod Gensyms
+pub mod Beginning
+pub mod BareShown

@@ -22,10 +22,10 @@ use Rattle.rl_meaning.specs.State as meaning
 use Rattle.rl_meaning.specs.Symbols as symbols
 use Rattle.rl_meaning.specs.Variables.{nearest}
 use Rattle.rl_meaning.specs.Symbols.{with_symbol, with_top, message_id, new_symbol}
-use Rattle.rl_state.specs.ShownState.{ShowsState, ShowsSymbols, counts_in, is_listed, definition_in, number_in, option_value_in, pointer_named, value_seen, seen_of, symbol_meant}
+use Rattle.rl_state.specs.ShownState.{ShowsState, ShowsSymbols, is_listed, definition_in, number_in, option_value_in, pointer_named, value_seen, seen_of, symbol_meant}
 use Rattle.rl_state.specs.Worlds.{IsWorld, HasNumber, ObjectsAlone, WorldGrows, SeenOtherwise}
 use Rattle.rl_state.proofs.Kept.{AlikeShown, all_ids_same, id_cell, named_same, number_same, symbol_like}
-use Rattle.rl_state.proofs.Made.{expanding_kept, expansion_kept, made_stays}
+use Rattle.rl_state.proofs.Made.{counts_changed, expanding_kept, made_stays, running_changed}
 
 -- ---- cells that keep their meaning
 
@@ -139,7 +139,7 @@ set_grows law w new id y i t sets =
           string = λ n d l. string_kept old new (slice_index_or w.texts n d) m (i.texts.string n d l);
           text = λ n d l. bytes_kept old new (slice_index_or w.texts n d) m ∙ i.texts.text n d l;
         };
-        running = record { opened = i.running.opened; together = i.running.together; counted = i.running.counted; unmarked = i.running.unmarked; bound = i.running.bound; few = i.running.few };
+        running = running_changed w.cells w.counts new m.long i.running;
         levels = i.levels;
         made = made_stays law w new (λ k. ids_kept old new k m) i;
         expanding = expanding_kept old new w.counts.outermost sets.ids i.expanding;
@@ -153,7 +153,7 @@ set_shown : (w : World) (new : List Cell) (s t : State) → KeepsMeaning w.cells
 set_shown w new s t m i shown y store counts gensyms outside free bound = record {
   store = store ∙ shown.store ∙ sym m.store;
   symbols = record { many = y.many; symbols = y.symbols; values = y.values };
-  counts = counts ∙ shown.counts ∙ sym (ap (λ e. record (counts_in w.cells w.counts) { expansion = e }) (expansion_kept w.cells.cells new w.counts.open_count w.counts.outermost (λ v l. m.values v) i.expanding));
+  counts = counts ∙ shown.counts ∙ sym (counts_changed w.cells w.counts new m.long (λ v l. m.values v) i.expanding);
   gensyms = gensyms ∙ shown.gensyms;
   column = ap (λ (o : meaning.Outside). o.column) outside ∙ shown.column;
   line_length = ap (λ (o : meaning.Outside). o.line_length) outside ∙ shown.line_length;

@@ -8,6 +8,7 @@ mod levels;
 mod names;
 mod natives;
 mod objects;
+mod opening;
 mod outside;
 mod turns;
 mod variables;
@@ -22,6 +23,7 @@ pub use natives::{car, cons, length, rplaca};
 pub use objects::{
     integer, pair, parts, place, places, set_car, set_cdr, set_place, string, vector,
 };
+pub use opening::{open, opened};
 pub use outside::{flush, next_byte, peek, put_back, put_byte};
 pub use turns::turn;
 pub use variables::{cell, set_cell};

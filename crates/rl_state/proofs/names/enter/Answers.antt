@@ -7,7 +7,7 @@ pub intern-requires-clause-table : goal.intern-requires-clause-table
 intern-requires-clause-table c = table_counted c.args.w.now c.room.new.self _ c.in-Ok.ensures.counted c.requires.world.table
 
 pub unwrap-requires : goal.unwrap-requires
-unwrap-requires c = ok_with_room c.intern.result _ c.intern.ensures.no_room (has_counted c.args.w.now c.room.new.self _ _ c.in-Ok.ensures.counted c.requires.world (rw c.identifier_cost.ensures at c.in-Ok.ensures.ok))
+unwrap-requires c = ok_with_room c.intern.result _ c.intern.ensures.no_room (has_counted c.cells_are_known.ensures.enough c.args.w.now c.room.new.self _ _ c.in-Ok.ensures.counted c.requires.world (rw c.identifier_cost.ensures at c.in-Ok.ensures.ok))
 
 pub returns-in-Ok-clause-means : goal.returns-in-Ok-clause-means
 returns-in-Ok-clause-means c s shown =

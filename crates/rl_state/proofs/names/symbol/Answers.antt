@@ -9,7 +9,7 @@ pub loose-requires-clause-table : goal.loose-requires-clause-table
 loose-requires-clause-table c = table_counted c.args.w.now c.room.new.self _ c.in-Ok.ensures.counted c.requires.world.table
 
 pub unwrap-requires : goal.unwrap-requires
-unwrap-requires c = c.loose.ensures.full ∙ has_counted c.args.w.now c.room.new.self _ _ c.in-Ok.ensures.counted c.requires.world (rw c.identifier_cost.ensures at c.in-Ok.ensures.ok)
+unwrap-requires c = c.loose.ensures.full ∙ has_counted c.cells_are_known.ensures.enough c.args.w.now c.room.new.self _ _ c.in-Ok.ensures.counted c.requires.world (rw c.identifier_cost.ensures at c.in-Ok.ensures.ok)
 
 pub returns-in-Ok-clause-means : goal.returns-in-Ok-clause-means
 returns-in-Ok-clause-means c s shown =

@@ -34,6 +34,11 @@ loop-p-preserved c =
           (walks_on s _ c.loop-p.w c.turn.new.w c.loop-p.n c.loop-p.at c.in-Some.p (c.loop-p.invariant.walking s shown) c.in-Some.ensures.means c.in_default-turn.ensures.means c.turn.ensures.grows live);
     }
 
+pub overflow_add-n : goal.overflow_add-n
+overflow_add-n c =
+    let falls = c.in_default-turn.ensures.falls in
+    omega (arith, falls, few_left c.args.w.now.cells c.args.w.now.counts c.requires.world.running, c.loop-p.invariant.count)
+
 pub count-requires : goal.count-requires
 count-requires c = omega (arith, few_left c.args.w.now.cells c.args.w.now.counts c.requires.world.running, c.loop-p.invariant.count)
 
