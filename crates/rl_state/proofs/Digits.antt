@@ -35,13 +35,14 @@ padded_digits (suc w) n l h =
         let one : length (decimal n) ≡ 1 = ap length (decimal_digit n small) in
         let zero_is : decimal 0 ≡ 48 ∷ [] = decimal_digit 0 (omega arith) in
         let more : w + 1 ≡ suc w = omega arith in
+        let front : replicate w 48 ++ 48 ∷ [] ≡ replicate (suc w) 48 = replicate-append-replicate w 1 48 ∙ ap (λ k. replicate k 48) more in
         let less : suc w - 1 ≡ w = omega arith in
         let less_now : suc (suc w) - 1 ≡ suc w = omega arith in
         ap (λ z. replicate (suc w - length (decimal z)) 48 ++ decimal z ++ (48 + n % 10) ∷ []) none
         ∙ ap (λ ds. replicate (suc w - length ds) 48 ++ ds ++ (48 + n % 10) ∷ []) zero_is
         ∙ ap (λ k. replicate k 48 ++ 48 ∷ [] ++ (48 + n % 10) ∷ []) less
         ∙ ap (λ d. replicate w 48 ++ 48 ∷ [] ++ (48 + d) ∷ []) last
-        ∙ ap (λ z. z ++ (48 + n) ∷ []) (replicate-append-replicate w 1 48 ∙ ap (λ k. replicate k 48) more)
+        ∙ ap (λ z. z ++ (48 + n) ∷ []) front
         ∙ sym (ap (λ k. replicate (suc (suc w) - k) 48 ++ decimal n) one ∙ ap (λ k. replicate k 48 ++ decimal n) less_now ∙ ap (λ ds. replicate (suc w) 48 ++ ds) (decimal_digit n small))
     go false e =
         let large = ltb-false n 10 e in

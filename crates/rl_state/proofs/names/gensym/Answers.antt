@@ -9,7 +9,7 @@ gensym-requires c = record { table = table_counted c.args.w.now c.room.new.self 
 pub unwrap-requires : goal.unwrap-requires
 unwrap-requires c =
     let few = few_made c.cells_are_known.ensures c.args.w.now c.places-places.result c.requires c.places-places.ensures c.places-places.type_inv in
-    gensym_fits c.args.w.now c.room.new.self c.gensym.result few c.in-Ok.ensures.counted c.gensym.ensures.no_room (has_counted c.args.w.now c.room.new.self _ _ c.in-Ok.ensures.counted c.requires c.in-Ok.ensures.ok)
+    gensym_fits c.args.w.now c.room.new.self c.gensym.result few c.in-Ok.ensures.counted c.gensym.ensures.no_room (has_counted c.cells_are_known.ensures.enough c.args.w.now c.room.new.self _ _ c.in-Ok.ensures.counted c.requires c.in-Ok.ensures.ok)
 
 pub returns-in-Ok-clause-means : goal.returns-in-Ok-clause-means
 returns-in-Ok-clause-means c =
