@@ -18,7 +18,7 @@ pub use identifiers::{
     definition, kind, name, properties, set_definition, set_kind, set_properties,
 };
 pub use levels::{deeper, shallower};
-pub use names::{identifier, symbol};
+pub use names::{gensym, identifier, symbol};
 pub use natives::{car, cons, length, rplaca};
 pub use objects::{
     integer, pair, parts, place, places, set_car, set_cdr, set_place, string, vector,

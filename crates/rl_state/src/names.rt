@@ -4,6 +4,7 @@ ghost use Rattle.rl_cells.specs.Cell.{is_live};
 ghost use Rattle.rl_syms.specs.Made.{id_cost};
 ghost use Rattle.rl_syms.specs.Table.{IsFree, is_id};
 ghost use Rattle.rl_meaning.specs.State.{State};
+ghost use Rattle.rl_meaning.specs.Atoms.{gensym as making};
 ghost use Rattle.rl_meaning.specs.Outcome.{made_symbol};
 ghost use Rattle.rl_meaning.specs.Symbols.{interned, new_symbol};
 ghost use Rattle.rl_state.specs.ShownState.{ShowsState};
@@ -52,6 +53,29 @@ pub fn symbol(w: &mut World, name: &[u8]) -> Result<Val, Stop>
         Ok(()) => {
             w.cells.is_closed();
             Ok(w.syms.loose(&mut w.cells, name).unwrap())
+        }
+        Err(why) => Err(why),
+    }
+}
+
+/// A new identifier that is not interned, with the next of the names G0001, G0002 and so on. After a stop the objects are
+/// as before.
+pub fn gensym(w: &mut World) -> Result<Val, Stop>
+    requires { IsWorld w.old }
+    ensures means { (s : State) → ShowsState w.old s → MeansValue s (making s) result w.new }
+    ensures live { IfOk result (λ v. IsTrue (is_live w.new.cells.cells v)) }
+    ensures id { IfOk result (λ v. IsTrue (is_id w.new.cells.cells v)) }
+    ensures grows { WorldGrows w.old w.new }
+    ensures rest { ObjectsAlone w.old w.new }
+{
+    cells_are_known();
+    names_are_identifiers();
+    // There are fewer identifiers than cells, so the name is one of 16 bytes at most, and takes two cells.
+    let _places = w.cells.places();
+    match w.room(5) {
+        Ok(()) => {
+            w.cells.is_closed();
+            Ok(w.syms.gensym(&mut w.cells).unwrap())
         }
         Err(why) => Err(why),
     }

@@ -13,8 +13,10 @@ ghost use Rattle.rl_tags.specs.Tagged.{Number};
 use crate::errors::fail;
 use crate::objects::{pair, parts, set_car};
 use crate::turns::turn;
+use rl_meaning::laws::walks_are_unbounded;
 use rl_tags::Val;
 use rl_world::{NStep, World};
+use std::marker::Brand;
 
 /// CONS, as a native.
 pub fn cons(w: &mut World, a: Val, d: Val) -> NStep
@@ -83,6 +85,7 @@ pub fn length(w: &mut World, u: Val) -> NStep
     ensures grows { WorldGrows w.old w.new }
     ensures rest { ObjectsAlone w.old w.new }
 {
+    walks_are_unbounded::<Brand>();
     let mut n: u64 = 0;
     let mut at = u;
     while let Some(p) = parts(w, at) {
