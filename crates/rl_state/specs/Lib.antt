@@ -6,3 +6,4 @@ pub mod Ending
 pub mod Descents
 pub mod StateOfWorld
 pub mod Ties
+pub mod TiesLaws

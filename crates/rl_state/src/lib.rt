@@ -20,6 +20,6 @@ pub use levels::{deeper, shallower};
 pub use names::identifier;
 pub use natives::{car, cons, length, rplaca};
 pub use objects::{pair, parts, place, places, set_car, set_cdr, set_place, string, vector};
-pub use outside::{flush, next_byte, peek, put_back, put_byte};
+pub use outside::{flush, next_byte, note_byte, peek, put_back, put_byte};
 pub use turns::turn;
 pub use variables::{cell, set_cell};
