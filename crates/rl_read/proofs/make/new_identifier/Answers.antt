@@ -9,7 +9,7 @@ use Rattle.rl_read.proofs.StopsAreCounted.{room_counted}
 use Rattle.rl_read.proofs.make.new_identifier.Goals as goal
 
 pub returns-in-Err-clause-stop : goal.returns-in-Err-clause-stop
-returns-in-Err-clause-stop c = identifier_stopped c.args.name.now (stock_of c.args.w.now) c.in-Err.s (rw (← id_cost_is c.args.name.now) c.in-Err.ensures.stop)
+returns-in-Err-clause-stop c = rw c.in-Err.ensures.err (identifier_stopped c.args.name.now (stock_of c.args.w.now) c.in-Err.s (rw (← id_cost_is c.args.name.now) c.in-Err.ensures.stop))
 
 pub returns-in-Err-clause-counted : goal.returns-in-Err-clause-counted
 returns-in-Err-clause-counted c = room_counted c.args.w.now.counts _ _ c.in-Err.s c.in-Err.ensures.stop

@@ -9,7 +9,7 @@ use Rattle.rl_read.proofs.StopsAreCounted.{room_counted}
 use Rattle.rl_read.proofs.make.string.Goals as goal
 
 pub returns-in-Err-clause-stop : goal.returns-in-Err-clause-stop
-returns-in-Err-clause-stop c = object_stopped (λ n. StrAt n) (StrCell c.args.bytes.now) (stock_of c.args.w.now) c.in-Err.s c.in-Err.ensures.stop
+returns-in-Err-clause-stop c = rw c.in-Err.ensures.err (object_stopped (λ n. StrAt n) (StrCell c.args.bytes.now) (stock_of c.args.w.now) c.in-Err.s c.in-Err.ensures.stop)
 
 pub returns-in-Err-clause-counted : goal.returns-in-Err-clause-counted
 returns-in-Err-clause-counted c = room_counted c.args.w.now.counts _ _ c.in-Err.s c.in-Err.ensures.stop

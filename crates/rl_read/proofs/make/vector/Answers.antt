@@ -22,8 +22,9 @@ returns-then-n-gt-MOST_PLACES-clause-stop c = vector_many (chain_of c.args.chain
 
 pub returns-in-Err-clause-stop : goal.returns-in-Err-clause-stop
 returns-in-Err-clause-stop c =
-    vector_lacks (chain_of c.args.chain.now) (stock_of c.args.w.now) c.first_of-list.result c.count-n.result c.in-Err.s c.first_of-list.ensures c.count-n.ensures (omega arith)
-    (object_stopped (λ n. VectorAt n) (VectorCell (elements_from 2147483649 c.args.w.now.cells.cells c.first_of-list.result)) (stock_of c.args.w.now) c.in-Err.s (rw (← c.count-n.ensures) c.in-Err.ensures.stop))
+    rw c.in-Err.ensures.err
+    (vector_lacks (chain_of c.args.chain.now) (stock_of c.args.w.now) (stock_of c.args.w.now) c.first_of-list.result c.count-n.result c.in-Err.s c.first_of-list.ensures c.count-n.ensures (omega arith)
+    (object_stopped (λ n. VectorAt n) (VectorCell (elements_from 2147483649 c.args.w.now.cells.cells c.first_of-list.result)) (stock_of c.args.w.now) c.in-Err.s (rw (← c.count-n.ensures) c.in-Err.ensures.stop)))
 
 pub returns-in-Err-clause-counted : goal.returns-in-Err-clause-counted
 returns-in-Err-clause-counted c = room_counted c.args.w.now.counts c.args.w.now.cells (1 + (c.count-n.result + 1) / 2) c.in-Err.s c.in-Err.ensures.stop

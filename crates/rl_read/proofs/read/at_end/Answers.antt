@@ -28,10 +28,6 @@ returns-in_default-clause-syntax c = λ j is.
     (both.0, refusal_same c.word_at_end.new.w _ _ _ (λ t. word_ends t c.args.mode c.args.word.now.items (frames_in c.args.base c.args.w.now c.args.group) (stock_of c.args.w.now) ends) both.1)
 
 pub returns-in_default-clause-stop : goal.returns-in_default-clause-stop
-returns-in_default-clause-stop c = λ s is.
+returns-in_default-clause-stop c = λ s is t.
     let ends = may_end_else c.args.mode c.in_default.not-Gap c.in_default.not-Comment c.in_default.not-Escape c.in_default.not-Text in
-    let stopped = c.word_at_end.ensures.stop s is in
-    record {
-      made = stopped.made;
-      stopped = λ t. word_ends t c.args.mode c.args.word.now.items (frames_in c.args.base c.args.w.now c.args.group) (stock_of c.args.w.now) ends ∙ stopped.stopped t;
-    }
+    word_ends t c.args.mode c.args.word.now.items (frames_in c.args.base c.args.w.now c.args.group) (stock_of c.args.w.now) ends ∙ c.word_at_end.ensures.stop s is t

@@ -22,4 +22,4 @@ returns-in-Special-clause-ok c =
 
 pub returns-in-Special-clause-stop : goal.returns-in-Special-clause-stop
 returns-in-Special-clause-stop c =
-    halts_same c.at_special.result _ _ (λ t. ap (λ (class : byte.Class). reader.at_class (in_stock t) class c.args.b (frames_in c.args.base c.args.w.now c.args.group) (stock_of c.args.w.now)) (sym c.in-Special.ensures)) c.at_special.ensures.stop
+    halts_same c.at_special.result _ _ _ (λ t. ap (λ (class : byte.Class). reader.at_class (in_stock t) class c.args.b (frames_in c.args.base c.args.w.now c.args.group) (stock_of c.args.w.now)) (sym c.in-Special.ensures)) c.at_special.ensures.stop

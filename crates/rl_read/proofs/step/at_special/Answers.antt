@@ -19,4 +19,4 @@ returns-in-Ok-clause-step c = c.goes_after.ensures.ready c.args.base c.atom_ende
 pub returns-in-Err-clause-stop : goal.returns-in-Err-clause-stop
 returns-in-Err-clause-stop c =
     let admitted : reader.admits (frames_in c.args.base c.args.w.now c.args.group) ≡ true = admits_ready c.args.base c.args.w.now c.args.group c.requires.ready ∙ (sym c.admits.ensures ∙ c.if-not-admits.false) in
-    (c.in-Err.ensures.stop.0, λ t. special_taken t c.args.b (frames_in c.args.base c.args.w.now c.args.group) (stock_of c.args.w.now) admitted ∙ ap reader.goes_after (c.in-Err.ensures.stop.1 t))
+    λ t. special_taken t c.args.b (frames_in c.args.base c.args.w.now c.args.group) (stock_of c.args.w.now) admitted ∙ ap reader.goes_after (c.in-Err.ensures.stop t)

@@ -12,7 +12,7 @@ returns-in-Ok-clause-ok c =
 
 pub returns-in-Ok-clause-stop : goal.returns-in-Ok-clause-stop
 returns-in-Ok-clause-stop c =
-    lacks_same c.value_ended.result _ _ (λ t. atom_goes t c.args.base c.args.w.now c.make_atom.new.w (atom_meant c.args.a) c.in-Ok.v c.args.group c.in-Ok.ensures.ok c.make_atom.ensures.making) c.value_ended.ensures.stop
+    lacks_same c.value_ended.result _ _ _ (λ t. atom_goes t c.args.base c.args.w.now c.make_atom.new.w (atom_meant c.args.a) c.in-Ok.v c.args.group c.in-Ok.ensures.ok c.make_atom.ensures.making) c.value_ended.ensures.stop
 
 pub returns-in-Ok-clause-reading : goal.returns-in-Ok-clause-reading
 returns-in-Ok-clause-reading c =

@@ -15,7 +15,7 @@ returns-in-Inside-clause-ok c =
 
 pub returns-in-Inside-clause-stop : goal.returns-in-Inside-clause-stop
 returns-in-Inside-clause-stop c =
-    halts_same c.at_gap.result _ _
+    halts_same c.at_gap.result _ _ _
     (λ t. inside_before t c.args.b (word_atom c.args.mode c.args.word.now.items) (frames_in c.args.base c.args.w.now c.args.group) (frames_in c.args.base c.word_ended.new.w c.in-Inside.group) (stock_of c.args.w.now) (stock_of c.word_ended.new.w) (c.in-Ok.ensures.ok t ∙ ap (ended_of c.args.base c.word_ended.new.w) c.in-Inside.is))
     c.at_gap.ensures.stop
 

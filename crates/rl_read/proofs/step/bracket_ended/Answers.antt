@@ -13,4 +13,4 @@ returns-in-Ok-clause-step c = c.goes_after.ensures.ready c.args.base c.value_end
 
 pub returns-in-Err-clause-stop : goal.returns-in-Err-clause-stop
 returns-in-Err-clause-stop c =
-    (c.in-Err.ensures.stop.0, λ t. ap goes_after (bracket_around t c.args.base c.args.w.now c.around-outer.new.w c.args.v c.args.group.now c.around-outer.result c.around-outer.ensures.frames (c.around-outer.ensures.left t) ∙ c.in-Err.ensures.stop.1 t))
+    λ t. ap goes_after (bracket_around t c.args.base c.args.w.now c.around-outer.new.w c.args.v c.args.group.now c.around-outer.result c.around-outer.ensures.frames (c.around-outer.ensures.left t) ∙ c.in-Err.ensures.stop t)

@@ -16,7 +16,7 @@ returns-then-owed-eq0-clause-ok c =
 
 pub returns-then-owed-eq0-clause-stop : goal.returns-then-owed-eq0-clause-stop
 returns-then-owed-eq0-clause-stop c =
-    halts_same c.bracket_ended.result _ _ (λ t. whole_closes t c.args.base c.args.w.now c.args.group.now c.args.l.now c.args.owed c.args.phase.now c.requires.list c.if-owed-eq0.true c.requires.undotted
+    halts_same c.bracket_ended.result _ _ _ (λ t. whole_closes t c.args.base c.args.w.now c.args.group.now c.args.l.now c.args.owed c.args.phase.now c.requires.list c.if-owed-eq0.true c.requires.undotted
     ∙ ap (λ (v : Tagged). reader.goes_after (reader.value_ended (in_stock t) v (frames_around c.args.base c.args.w.now c.args.group.now) (reader.left (in_stock t) (frames_around c.args.base c.args.w.now c.args.group.now) (stock_of c.args.w.now)))) (sym c.first_of.ensures))
     c.bracket_ended.ensures.stop
 

@@ -33,10 +33,9 @@ returns-in-Ok c =
 
 pub returns-in-Err : goal.returns-in-Err
 returns-in-Err c =
-    let lacks = c.in-Err.ensures.stop in
     record {
       ok = tt;
-      stop = (lacks.0, λ t. list_lacks c.args.phase c.in_default.not-Dotted t c.args.v (chain_of c.args.l) c.args.owed _ c.in-Err.s (stock_of c.args.w.now) lacks.0 lacks.1);
+      stop = λ t. list_lacks c.args.phase c.in_default.not-Dotted t c.args.v (chain_of c.args.l) c.args.owed _ c.in-Err.s (stock_of c.args.w.now) (stock_of c.extended.new.w) c.in-Err.ensures.stop;
       counted = c.in-Err.ensures.counted;
       ended = tt;
       able = c.extended.ensures.able;

@@ -13,6 +13,6 @@ returns-then-b-ne33-clause-ok c =
 
 pub returns-then-b-ne33-clause-stop : goal.returns-then-b-ne33-clause-stop
 returns-then-b-ne33-clause-stop c =
-    halts_same c.before-then-b-ne33.result _ _
+    halts_same c.before-then-b-ne33.result _ _ _
     (λ t. name_before t c.args.b c.args.word.now.items (frames_in c.args.base c.args.w.now c.args.group) (stock_of c.args.w.now) (sym c.is_name_byte.ensures ∙ c.if-is_name_byte.false) c.if-b-ne33.true)
     c.before-then-b-ne33.ensures.stop

@@ -26,7 +26,7 @@ returns-in-List-clause-ok c =
 
 pub returns-in-List-clause-stop : goal.returns-in-List-clause-stop
 returns-in-List-clause-stop c =
-    lacks_same c.in_list.result _ _ (λ t. ap (λ (g : Group). reader.value_ended (in_stock t) c.args.v (frames_in c.args.base c.args.w.now g) (stock_of c.args.w.now)) c.in-List.is) c.in_list.ensures.stop
+    lacks_same c.in_list.result _ _ _ (λ t. ap (λ (g : Group). reader.value_ended (in_stock t) c.args.v (frames_in c.args.base c.args.w.now g) (stock_of c.args.w.now)) c.in-List.is) c.in_list.ensures.stop
 
 pub returns-in_default-clause-ok : goal.returns-in_default-clause-ok
 returns-in_default-clause-ok c t =

@@ -12,4 +12,4 @@ returns-clause-ok c =
 
 pub returns-clause-stop : goal.returns-clause-stop
 returns-clause-stop c =
-    lacks_same c.value_ended.result _ _ (λ t. ap (λ (v : Tagged). reader.value_ended (in_stock t) v (frames_in c.args.base c.args.w.now c.args.group) (stock_of c.args.w.now)) (sym c.number.ensures)) c.value_ended.ensures.stop
+    lacks_same c.value_ended.result _ _ _ (λ t. ap (λ (v : Tagged). reader.value_ended (in_stock t) v (frames_in c.args.base c.args.w.now c.args.group) (stock_of c.args.w.now)) (sym c.number.ensures)) c.value_ended.ensures.stop

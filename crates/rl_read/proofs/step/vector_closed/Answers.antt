@@ -13,7 +13,7 @@ returns-clause-ok c =
 
 pub returns-clause-stop : goal.returns-clause-stop
 returns-clause-stop c =
-    halts_same c.bracket_ended.result _ _ (λ t. vector_closes t c.args.base c.args.w.now c.vector.new.w c.args.group.now c.args.c.now c.in-Ok.v c.requires.vector c.in-Ok.ensures.ok c.vector.ensures.making) c.bracket_ended.ensures.stop
+    halts_same c.bracket_ended.result _ _ _ (λ t. vector_closes t c.args.base c.args.w.now c.vector.new.w c.args.group.now c.args.c.now c.in-Ok.v c.requires.vector c.in-Ok.ensures.ok c.vector.ensures.making) c.bracket_ended.ensures.stop
 
 pub returns-clause-reading : goal.returns-clause-reading
 returns-clause-reading c = reading_trans c.args.base c.args.w.now c.vector.new.w c.bracket_ended.new.w (reading_of_making c.args.base c.args.w.now c.vector.new.w c.vector.ensures.making) c.bracket_ended.ensures.reading
