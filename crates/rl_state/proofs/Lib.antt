@@ -16,3 +16,7 @@ pub mod TiedBacks
 pub mod TiedRuns
 pub mod Finding
 pub mod Entering
+pub mod Digits
+pub mod Gensyms
+pub mod Beginning
+pub mod BareShown

@@ -7,10 +7,12 @@ ghost use Rattle.rl_state.specs.Ties.{EachWorldTies, ToldAtStart};
 ghost use Rattle.rl_state.specs.TiesLaws.{OutputGrows, RunsAreTied, TakingsCompose};
 ghost use Rattle.rl_state.specs.CellLaws.{AreCellLaws};
 
+use rl_cells::laws::objects_are_added;
 use rl_syms::laws::{
     identifiers_are_numbered, meaning_of_change, meaning_of_making, meaning_of_naming,
     meaning_of_reading, names_enter, others_leave_identifiers, table_is_kept,
 };
+use rl_world::laws::{bounds_are_kept, room_is_enough};
 use std::marker::Brand;
 
 /// What is known of cells.
@@ -25,6 +27,9 @@ pub(crate) fn cells_are_known()
     identifiers_are_numbered();
     names_enter();
     meaning_of_naming();
+    objects_are_added();
+    bounds_are_kept();
+    room_is_enough();
 }
 
 /// A world determines a state but for what is beside it.
