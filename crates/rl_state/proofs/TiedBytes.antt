@@ -21,7 +21,7 @@ use Rattle.rl_state.proofs.ToldOn.{told_first, told_through, told_mapped, out_fo
 
 shows_put : (w x : World) (b : ℕ) (s : State) → x ≡ record w { output = record w.output { waiting = x.output.waiting; column = x.output.column } } → x.output.column ≡ column_with w.output.column b → ShowsState w s → ShowsState x (print_mark (b ∷ []) s)
 shows_put w x b s e column h = subst (λ (y : World). ShowsState y (print_mark (b ∷ []) s)) (sym e)
-    (shows_outer w (record w.output { waiting = x.output.waiting; column = x.output.column }) w.notes w.input s (print_mark (b ∷ []) s).outside s.watched (ap (λ c. column_with c b) h.column ∙ sym column) h.line_length h.taken h)
+    (shows_outer w w.levels (record w.output { waiting = x.output.waiting; column = x.output.column }) w.notes w.input s (print_mark (b ∷ []) s).outside s.watched (ap (λ c. column_with c b) h.column ∙ sym column) h.line_length h.taken h)
 
 pub put : (at : ToldAtStart) (w x : World) (b : ℕ) (o p n m i j : Option (List ℕ)) (coming : List ℕ) (s : State)
     → x ≡ record w { output = record w.output { waiting = x.output.waiting; column = x.output.column } } → x.output.column ≡ column_with w.output.column b
@@ -45,7 +45,7 @@ put_cut at w x b o p n m i j coming s q f h = record {
 pub put_note : (at : ToldAtStart) (w x : World) (b : ℕ) (o p n m i j : Option (List ℕ)) (coming : List ℕ) (s : State)
     → x ≡ record w { notes = x.notes } → p ≡ o → j ≡ i → Follows n w.notes m x.notes (b ∷ []) → Ties at (and_told w o n i) coming s → Ties at (and_told x p m j) coming (with_noted (b ∷ []) s)
 put_note at w x b o p n m i j coming s e q k f h = record {
-  shows = subst (λ (y : World). ShowsState y (with_noted (b ∷ []) s)) (sym e) (shows_outer w w.output x.notes w.input s (with_noted (b ∷ []) s).outside s.watched h.shows.column h.shows.line_length h.shows.taken h.shows);
+  shows = subst (λ (y : World). ShowsState y (with_noted (b ∷ []) s)) (sym e) (shows_outer w w.levels w.output x.notes w.input s (with_noted (b ∷ []) s).outside s.watched h.shows.column h.shows.line_length h.shows.taken h.shows);
   output = out_kept at.out o p w.output.waiting x.output.waiting s.outside.output q (ap (λ (y : World). y.output.waiting) e) h.output;
   notes = out_follows at.notes n m w.notes x.notes s.outside.notes (b ∷ []) h.notes f;
   input = h.input ∙ ap (λ (y : World). with_back y.input.back coming) (sym e);
@@ -65,7 +65,7 @@ put_note_cut at w x b o p n m i j coming s q f h = record {
 pub flushed : (at : ToldAtStart) (w x : World) (o p n m i j : Option (List ℕ)) (coming : List ℕ) (s : State) → x ≡ record w { output = record w.output { waiting = [] }; notes = [] }
     → j ≡ i → Follows o w.output.waiting p [] [] → Follows n w.notes m [] [] → Ties at (and_told w o n i) coming s → Ties at (and_told x p m j) coming s
 flushed at w x o p n m i j coming s e k f g h = record {
-  shows = subst (λ (y : World). ShowsState y s) (sym e) (shows_outer w (record w.output { waiting = [] }) [] w.input s s.outside s.watched h.shows.column h.shows.line_length h.shows.taken h.shows);
+  shows = subst (λ (y : World). ShowsState y s) (sym e) (shows_outer w w.levels (record w.output { waiting = [] }) [] w.input s s.outside s.watched h.shows.column h.shows.line_length h.shows.taken h.shows);
   output = out_flushed at.out o p w.output.waiting x.output.waiting s.outside.output h.output f (ap (λ (y : World). y.output.waiting) e);
   notes = out_flushed at.notes n m w.notes x.notes s.outside.notes h.notes g (ap (λ (y : World). y.notes) e);
   input = h.input ∙ ap (λ (y : World). with_back y.input.back coming) (sym e);
@@ -162,8 +162,8 @@ count_next None s given f h e = e
 count_next (Some c) s given f h e = count_after s.outside.taken s.outside.input c f.0 f.1 h ∙ ap (λ n. min (n + 1) (2 ^ 64 - 1)) e
 
 shows_taken : (w x : World) (b : Option ℕ) (s : State) → x ≡ record w { output = record w.output { waiting = [] }; input = x.input } → (after_byte b s).outside.taken ≡ x.input.given → ShowsState w s → ShowsState x (after_byte b s)
-shows_taken w x None s e t h = subst (λ (y : World). ShowsState y s) (sym e) (shows_outer w (record w.output { waiting = [] }) w.notes x.input s s.outside s.watched h.column h.line_length t h)
-shows_taken w x (Some c) s e t h = subst (λ (y : World). ShowsState y (after_byte (Some c) s)) (sym e) (shows_outer w (record w.output { waiting = [] }) w.notes x.input s (after_byte (Some c) s).outside s.watched h.column h.line_length t h)
+shows_taken w x None s e t h = subst (λ (y : World). ShowsState y s) (sym e) (shows_outer w w.levels (record w.output { waiting = [] }) w.notes x.input s s.outside s.watched h.column h.line_length t h)
+shows_taken w x (Some c) s e t h = subst (λ (y : World). ShowsState y (after_byte (Some c) s)) (sym e) (shows_outer w w.levels (record w.output { waiting = [] }) w.notes x.input s (after_byte (Some c) s).outside s.watched h.column h.line_length t h)
 
 output_stays : (b : Option ℕ) (s : State) → (after_byte b s).outside.output ≡ s.outside.output
 output_stays None s = refl
@@ -208,7 +208,7 @@ next w x b o p n m i j e place gives none back unread unended f q =
 -- ---- a state for each world
 
 pub coming_shows : WorldIsShown → (w : World) (coming : List ℕ) → ShowsState w (with_coming w coming)
-coming_shows shown w coming = let h = shown w in shows_outer w w.output w.notes w.input (state_in w) (with_coming w coming).outside (state_in w).watched h.column h.line_length h.taken h
+coming_shows shown w coming = let h = shown w in shows_outer w w.levels w.output w.notes w.input (state_in w) (with_coming w coming).outside (state_in w).watched h.column h.line_length h.taken h
 
 pub is_tied : WorldIsShown → EachWorldTies
 unfolding state_in
