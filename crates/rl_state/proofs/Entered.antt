@@ -1,12 +1,12 @@
 -- Levels are entered and left: the world shows the same states.
-use Rattle.std.proofs.Common.{◌≡◌, ℕ, ◌+◌, ◌-◌, ◌≤◌, Bool, true, false, nat_le, cond, Option, Some, None, Ok, Err, refl, sym, ap, subst, ◌∙◌, arith}
+use Rattle.std.proofs.Common.{◌≡◌, ℕ, ◌+◌, ◌-◌, ◌≤◌, Bool, true, false, nat_le, cond, Some, None, Ok, Err, refl, sym, ap, subst, ◌∙◌, arith}
 use Rattle.std.proofs.lemmas.Bool.{leb-true, leb-false, le-leb, lt-leb}
 use Rattle.rl_world.specs.Levels.{WorldLevels, enter_stop}
 use Rattle.rl_world.specs.declared.stop.Stop as stops
 use Rattle.rl_world.specs.declared.stop.Stop.TheVariants as stop
 use Rattle.rl_world.specs.declared.world.World.{World}
 use Rattle.rl_meaning.specs.State.{State}
-use Rattle.rl_meaning.specs.Outcome.{Done, Stopped, Depth, in_levels, deeper}
+use Rattle.rl_meaning.specs.Outcome.{Done, Stopped, in_levels, deeper}
 use Rattle.rl_state.specs.ShownState.{ShowsState}
 use Rattle.rl_state.specs.Worlds.{IsWorld, WorldGrows}
 use Rattle.rl_state.specs.Ending.{stop_in}
@@ -29,7 +29,7 @@ shows_levels w l s h = record {
 }
 
 world_levels : (w : World) (l : WorldLevels) → IsWorld w → l.level ≤ l.bound → IsWorld (with_levels w l)
-world_levels w l i h = record { table = i.table; t = i.t; message = i.message; texts = i.texts; running = i.running; levels = h; expanding = i.expanding }
+world_levels w l i h = record { table = i.table; t = i.t; message = i.message; texts = i.texts; running = i.running; levels = h; made = i.made; expanding = i.expanding }
 
 pub levels_grow : (w x : World) (l : WorldLevels) → x ≡ record w { levels = l } → IsWorld w → l.level ≤ l.bound → WorldGrows w x
 levels_grow w x l e i h = subst (λ y. WorldGrows w y) (sym e) (record { world = world_levels w l i h; live = λ v h. h; values = λ v h. refl })

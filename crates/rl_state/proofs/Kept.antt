@@ -1,11 +1,10 @@
 -- What is shown of identifiers stays where cells keep it: numbers, names, chains and the meaning of what lives.
-use Rattle.std.proofs.Common.{◌≡◌, ℕ, zero, suc, ◌+◌, ◌<◌, ◌≤◌, ◌%◌, Bool, true, false, nat_le, cond, List, [], ◌∷◌, length, get_or, Option, Some, None, refl, sym, ap, ◌∙◌, arith}
+use Rattle.std.proofs.Common.{◌≡◌, ℕ, zero, suc, ◌+◌, ◌<◌, ◌%◌, Bool, true, false, nat_le, cond, List, [], ◌∷◌, length, get_or, Option, Some, None, refl, sym, ap, ◌∙◌, arith}
 use Rattle.std.specs.Prelude.{IsSome}
 use Rattle.std.specs.List.{list_all}
 use Rattle.std.proofs.Math.ListN.{get_or-eq_default}
 use Rattle.std.proofs.lemmas.Bool.{and_parts, leb-true, leb-false}
 use Rattle.rl_tags.specs.Tagged.{Tagged, Number, IdAt, StrAt, PairAt, VectorAt, BigAt, FunAt, index_of, tagged_of}
-use Rattle.rl_tags.specs.declared.Tag.TheVariants as tag
 use Rattle.rl_tree.specs.Value.{Value, Id}
 use Rattle.rl_tree.specs.declared.held.Kind.{Kind}
 use Rattle.rl_tree.specs.declared.held.VarKind.{VarKind}
@@ -14,10 +13,12 @@ use Rattle.rl_syms.specs.Contents.{ids_before, value_of}
 use Rattle.rl_syms.specs.Numbers.{IdentifiersAreNumbered}
 use Rattle.rl_syms.specs.Table as table
 use Rattle.rl_syms.specs.Table.{IsTable, SymbolCells, chain, ids_from, is_id, held_in, kind_in_word, next_at, of_kind, rank_of, symbol_in_cells}
-use Rattle.rl_syms.specs.Frame.{KeepsIdentifiers, words_of_id}
+use Rattle.rl_syms.specs.Frame.{KeepsIdentifiers}
 use Rattle.rl_syms.specs.Laws.{IsKept}
+use Rattle.rl_syms.specs.Opened.{IsBlank}
 use Rattle.rl_meaning.specs.State.{State}
 use Rattle.rl_meaning.specs.State as meaning
+use Rattle.rl_meaning.specs.Symbols.{new_symbol, nil_value_of_state}
 use Rattle.rl_state.specs.ShownState.{ShowsSymbols, is_listed, definition_in, number_in, option_value_in, pointer_named, symbol_meant}
 
 -- ---- identifiers
@@ -166,6 +167,18 @@ symbol_like old new before after k top a =
     ∙ ap (λ x. symbol_from top (table.name_in_cells old k) (is_listed k (ids_from old before)) x (definition_in new y.definition) y.kind) a.plist
     ∙ ap (λ x. symbol_from top (table.name_in_cells old k) (is_listed k (ids_from old before)) (value_of old z.plist) x y.kind) a.definition
     ∙ ap (λ x. symbol_from top (table.name_in_cells old k) (is_listed k (ids_from old before)) (value_of old z.plist) (definition_in old z.definition) x) a.kind
+
+-- a blank identifier is a new symbol
+pub blank_symbol : (cells : List Cell) (head : Option Tagged) (k : ℕ) (name : List ℕ) (listed : Bool) → IsTable cells head → table.name_in_cells cells k ≡ name → is_listed k (ids_from cells head) ≡ listed → IsBlank (symbol_in_cells cells k)
+    → symbol_meant cells head k None ≡ new_symbol name listed
+unfolding symbol_meant
+blank_symbol cells head k name listed t named among blank =
+    let y = symbol_in_cells cells k in
+    ap (λ x. symbol_from None x (is_listed k (ids_from cells head)) (value_of cells y.plist) (definition_in cells y.definition) y.kind) named
+    ∙ ap (λ x. symbol_from None name x (value_of cells y.plist) (definition_in cells y.definition) y.kind) among
+    ∙ ap (λ x. symbol_from None name listed x (definition_in cells y.definition) y.kind) (ap (value_of cells) blank.plist ∙ ap Id t.first)
+    ∙ ap (λ x. symbol_from None name listed nil_value_of_state (definition_in cells x) y.kind) blank.definition
+    ∙ ap (λ x. symbol_from None name listed nil_value_of_state None x) blank.kind
 
 -- the cells of the identifier are the same, and what lives means the same
 pub alike_stood : (old new : List Cell) (before after : Option Tagged) (k : ℕ) → IsTable old before → IsClosed old → SameValues old new → ((v : Tagged) → is_str old v ≡ true → bytes_of new v ≡ bytes_of old v)

@@ -8,6 +8,7 @@ pub mod Walking
 pub mod Once
 pub mod Totals
 pub mod Entered
+pub mod Outer
 pub mod ToldOn
 pub mod Takings
 pub mod TiedBytes
@@ -15,3 +16,7 @@ pub mod TiedBacks
 pub mod TiedRuns
 pub mod Finding
 pub mod Entering
+pub mod Digits
+pub mod Gensyms
+pub mod Beginning
+pub mod BareShown

@@ -7,7 +7,7 @@ use Rattle.rl_tags.specs.Tagged.{Tagged, Number, IdAt, StrAt, PairAt, VectorAt, 
 use Rattle.rl_tags.specs.declared.Tag.TheVariants as tag
 use Rattle.rl_tree.specs.Value.{Value, Ref, Object, Pair, Vector, changed_store}
 use Rattle.rl_cells.specs.Cell.{Cell, PairCell, VectorCell, IsClosed, changed_at, is_live, is_pair, is_vector, car_of, cdr_of, vector_of}
-use Rattle.rl_syms.specs.Contents.{value_of, store_of, number_at}
+use Rattle.rl_syms.specs.Contents.{value_of, number_at}
 use Rattle.rl_syms.specs.Laws.{ChangesObject, IsRead}
 use Rattle.rl_state.specs.CellLaws.{AreCellLaws}
 use Rattle.rl_syms.specs.Frame.{KeepsIdentifiers}
@@ -18,11 +18,11 @@ use Rattle.rl_world.specs.declared.stop.NStep as steps
 use Rattle.rl_meaning.specs.Outcome.{Outcome}
 use Rattle.rl_meaning.specs.Lists.{with_pair}
 use Rattle.rl_meaning.specs.Symbols.{pair_at, parts_of, places_of, vector_at}
-use Rattle.rl_state.specs.ShownState.{ShowsState, counts_in}
+use Rattle.rl_state.specs.ShownState.{ShowsState}
 use Rattle.rl_state.specs.Worlds.{IsWorld, ObjectsAlone, WorldGrows}
 use Rattle.rl_meaning.specs.Copying.{with_object}
 use Rattle.rl_state.proofs.Kept.{symbols_kept}
-use Rattle.rl_state.proofs.Made.{expanding_kept, expansion_kept, world_kept}
+use Rattle.rl_state.proofs.Made.{counts_changed, expanding_kept, running_changed, world_kept}
 use Rattle.rl_state.specs.Ending.{MeansAnswer}
 
 pub pair_shown : (law : IsRead) (w : World) (v : Tagged) → is_pair w.cells.cells v ≡ true → (s : State) → ShowsState w s → pair_at s (value_of w.cells.cells v) ≡ Some (value_of w.cells.cells (car_of w.cells.cells v), value_of w.cells.cells (cdr_of w.cells.cells v))
@@ -79,14 +79,14 @@ with_list w cells = record w { cells = record w.cells { cells = cells } }
 
 -- cells in which one object is another, and that leave blocks
 pub record Alters (old new : List Cell) (r : ℕ) (o : Object) : Type 0 where
+  pub long : length new ≡ length old
   pub keeps : KeepsIdentifiers old new
   pub changes : ChangesObject old new r o
 
 object_grows : (law : AreCellLaws) (w : World) (new : List Cell) (r : ℕ) (o : Object) → Alters w.cells.cells new r o → IsWorld w → WorldGrows w (with_list w new)
 object_grows law w new r o a i =
-    let run = i.running in
     record {
-      world = world_kept law.kept w (record w.cells { cells = new }) w.counts a.keeps (λ v l. a.changes.values v) (record { opened = run.opened; together = run.together; counted = run.counted; unmarked = run.unmarked; bound = run.bound; few = run.few })
+      world = world_kept law w (record w.cells { cells = new }) w.counts a.keeps (λ v l. a.changes.values v) (running_changed w.cells w.counts new a.long i.running)
           (expanding_kept w.cells.cells new w.counts.outermost (λ v h. law.kept.ids w.cells.cells new v a.keeps ∙ h) i.expanding) i;
       live = a.keeps.live;
       values = λ v l. a.changes.values v;
@@ -100,7 +100,7 @@ object_shown law w new r o a i closed s shown =
     record {
       store = ap (λ x. changed_store x r o) shown.store ∙ sym a.changes.store;
       symbols = record { many = kept.many; symbols = kept.symbols; values = kept.values };
-      counts = shown.counts ∙ sym (ap (λ e. record (counts_in w.cells w.counts) { expansion = e }) (expansion_kept cells new w.counts.open_count w.counts.outermost (λ v l. a.changes.values v) i.expanding));
+      counts = shown.counts ∙ sym (counts_changed w.cells w.counts new a.long (λ v l. a.changes.values v) i.expanding);
       gensyms = shown.gensyms;
       column = shown.column;
       line_length = shown.line_length;
@@ -137,6 +137,15 @@ second_same p q e = let f : p ≡ q = cc in ap (λ (p : Value × Value). p.1) f
 places_same : (xs ys : List Value) → Some xs ≡ Some ys → xs ≡ ys
 places_same xs ys e = cc
 
+changed_long : (cells : List Cell) (v : Tagged) (c : Cell) → length (changed_at cells v c) ≡ length cells
+changed_long cells (Number k) c = refl
+changed_long cells (IdAt k) c = length-set cells k c
+changed_long cells (StrAt k) c = length-set cells k c
+changed_long cells (PairAt k) c = length-set cells k c
+changed_long cells (VectorAt k) c = length-set cells k c
+changed_long cells (BigAt k) c = length-set cells k c
+changed_long cells (FunAt k) c = length-set cells k c
+
 -- a change of the pair that is named
 abbrev changed_pair : List Cell → Tagged → Tagged → Tagged → List Cell
 changed_pair cells p a d = changed_at cells p (PairCell a d)
@@ -146,7 +155,7 @@ pub car_altered : (law : AreCellLaws) (w : World) (cs : cell.CellStore) (p v : T
     → IsAltered w (record w { cells = cs }) (changed_at w.cells.cells p (PairCell v (cdr_of w.cells.cells p))) (number_at w.cells.cells (index_of p)) (Pair (value_of w.cells.cells v) (value_of w.cells.cells (cdr_of w.cells.cells p)))
 car_altered law w cs p v h closed e = record {
   is = altered_is w cs _ e;
-  alters = record { keeps = law.blocks.pair w.cells.cells p v (cdr_of w.cells.cells p) h; changes = law.changes.car w.cells.cells p v h };
+  alters = record { long = changed_long w.cells.cells p (PairCell v (cdr_of w.cells.cells p)); keeps = law.blocks.pair w.cells.cells p v (cdr_of w.cells.cells p) h; changes = law.changes.car w.cells.cells p v h };
   closed = closed;
 }
 
@@ -155,7 +164,7 @@ pub cdr_altered : (law : AreCellLaws) (w : World) (cs : cell.CellStore) (p v : T
     → IsAltered w (record w { cells = cs }) (changed_at w.cells.cells p (PairCell (car_of w.cells.cells p) v)) (number_at w.cells.cells (index_of p)) (Pair (value_of w.cells.cells (car_of w.cells.cells p)) (value_of w.cells.cells v))
 cdr_altered law w cs p v h closed e = record {
   is = altered_is w cs _ e;
-  alters = record { keeps = law.blocks.pair w.cells.cells p (car_of w.cells.cells p) v h; changes = law.changes.cdr w.cells.cells p v h };
+  alters = record { long = changed_long w.cells.cells p (PairCell (car_of w.cells.cells p) v); keeps = law.blocks.pair w.cells.cells p (car_of w.cells.cells p) v h; changes = law.changes.cdr w.cells.cells p v h };
   closed = closed;
 }
 
@@ -164,7 +173,7 @@ pub place_altered : (law : AreCellLaws) (w : World) (cs : cell.CellStore) (v x :
     → IsAltered w (record w { cells = cs }) (changed_at w.cells.cells v (VectorCell (slice_set (vector_of w.cells.cells v) i x))) (number_at w.cells.cells (index_of v)) (Vector (slice_set (map (value_of w.cells.cells) (vector_of w.cells.cells v)) i (value_of w.cells.cells x)))
 place_altered law w cs v x i h closed e = record {
   is = altered_is w cs _ e;
-  alters = record { keeps = law.blocks.vector w.cells.cells v (slice_set (vector_of w.cells.cells v) i x) h (length-set (vector_of w.cells.cells v) i x); changes = law.changes.place w.cells.cells v x i h };
+  alters = record { long = changed_long w.cells.cells v (VectorCell (slice_set (vector_of w.cells.cells v) i x)); keeps = law.blocks.vector w.cells.cells v (slice_set (vector_of w.cells.cells v) i x) h (length-set (vector_of w.cells.cells v) i x); changes = law.changes.place w.cells.cells v x i h };
   closed = closed;
 }
 

@@ -7,7 +7,8 @@ use Rattle.rl_syms.specs.Table.{is_id}
 use Rattle.rl_cells.specs.Cell.{Cell, has_room, room_in, used_of}
 use Rattle.rl_cells.specs.Cell as cell
 use Rattle.rl_world.specs.Counts as counted
-use Rattle.rl_world.specs.Counts.{cells_stop, room_stop, room_stop_at, roomed, tick_stop, tick_stop_at, ticked, count_turns_left, turns_left_at, with_cells}
+use Rattle.rl_world.specs.Bounds.{AreBoundsKept, BoundsAgree, IsMakingCounted, RoomIsEnough}
+use Rattle.rl_world.specs.Counts.{cells_bound_at, cells_stop, cells_taken, room_stop, room_stop_at, roomed, tick_stop, tick_stop_at, ticked, count_turns_left, turns_left_at, with_cells}
 use Rattle.rl_world.specs.declared.counts.Expansion as expansion
 use Rattle.rl_world.specs.declared.stop.Stop as stops
 use Rattle.rl_world.specs.declared.stop.Stop.TheVariants as stop
@@ -15,17 +16,21 @@ use Rattle.rl_world.specs.declared.world.World.{World}
 use Rattle.rl_meaning.specs.State.{State, Counts, Expansion}
 use Rattle.rl_meaning.specs.Outcome.{Outcome, Done, Stopped, Cells, room, turn, cells_within, expansion_within, run_room, run_turn, expansion_turn}
 use Rattle.rl_syms.specs.Contents.{ids_before}
-use Rattle.rl_state.specs.ShownState.{ShowsState, counts_in, expansion_in}
+use Rattle.rl_state.specs.ShownState.{ShowsState, counts_in, expansion_in, given_in, turns_in}
 use Rattle.rl_state.specs.Worlds.{IsWorld, AreRunCounts, WorldGrows}
-use Rattle.rl_state.specs.Beside.{StaysBeside}
 use Rattle.rl_state.specs.Ending.{StopsWith, MeansDone, stop_in}
 
--- what is left in a run
+-- what is left of turns and cells
 abbrev pub left : ℕ → ℕ → ℕ → Option Expansion → Counts
 left g t c e = record { given = g; turns = t; cells = Some c; expansion = e }
 
-pub left_in : (c : cell.CellStore) (k : counted.WorldCounts) → AreRunCounts c k → counts_in c k ≡ left k.bound (k.bound - k.turns) (k.cells_bound - used_of c) (expansion_in c.cells k.open_count k.outermost)
-left_in c k r = rw (r.opened, r.together) refl
+-- the turns and the cells that are left, with the cells that a new object takes
+abbrev pub left_behind : cell.CellStore → counted.WorldCounts → ℕ → Option Expansion → Counts
+left_behind c k cost e = left (given_in k.opening k.bound) (turns_in k.opening k.bound k.turns) (cells_bound_at k.opening k.cells_bound - (cells_taken k.opening c + cost)) e
+
+pub left_in : (c : cell.CellStore) (k : counted.WorldCounts) → AreRunCounts c k
+    → counts_in c k ≡ left (given_in k.opening k.bound) (turns_in k.opening k.bound k.turns) (cells_bound_at k.opening k.cells_bound - cells_taken k.opening c) (expansion_in c.cells k.open_count k.outermost)
+left_in c k r = rw r.together refl
 
 abbrev with_counts : State → Counts → State
 with_counts s q = record s { counts = q }
@@ -103,44 +108,28 @@ room_full_at {A} g cells inner (Some e) used cost bound t s next why p h = go (n
 
 -- what is left behind an object of this cost
 abbrev pub roomed_in : cell.CellStore → counted.WorldCounts → ℕ → Counts
-roomed_in c k cost = left k.bound (k.bound - k.turns) (k.cells_bound - (used_of c + cost)) (expansion_in c.cells k.open_count (with_cells cost k.outermost))
+roomed_in c k cost = left_behind c k cost (expansion_in c.cells k.open_count (with_cells cost k.outermost))
 
 pub room_done : {A : Type 0} (c : cell.CellStore) (k : counted.WorldCounts) (cost : ℕ) (s : State) (next : State → Outcome A) → AreRunCounts c k → s.counts ≡ counts_in c k → room_stop k c cost ≡ None
     → room cost s next ≡ next (record s { counts = roomed_in c k cost })
 room_done {A} c k cost s next r e h =
-    let stop : room_stop_at k.outermost None (used_of c) cost k.cells_bound ≡ None = rw (r.opened, r.together) at h in
-    ap (λ q. room cost (with_counts s q) next) (e ∙ left_in c k r) ∙ room_done_at k.bound c.cells k.open_count k.outermost (used_of c) cost k.cells_bound (k.bound - k.turns) s next stop
+    let taken = cells_taken k.opening c in
+    let bound = cells_bound_at k.opening k.cells_bound in
+    let stop : room_stop_at k.outermost None taken cost bound ≡ None = rw r.together at h in
+    ap (λ q. room cost (with_counts s q) next) (e ∙ left_in c k r) ∙ room_done_at (given_in k.opening k.bound) c.cells k.open_count k.outermost taken cost bound (turns_in k.opening k.bound k.turns) s next stop
 
 pub room_full : {A : Type 0} (c : cell.CellStore) (k : counted.WorldCounts) (cost : ℕ) (s : State) (next : State → Outcome A) (why : stops.Stop) → AreRunCounts c k → s.counts ≡ counts_in c k → 0 < cost → room_stop k c cost ≡ Some why
     → StopsWith s (room cost s next) (stop_in c.cells why)
 room_full {A} c k cost s next why r e p h =
-    let stop : room_stop_at k.outermost None (used_of c) cost k.cells_bound ≡ Some why = rw (r.opened, r.together) at h in
-    let f = room_full_at k.bound c.cells k.open_count k.outermost (used_of c) cost k.cells_bound (k.bound - k.turns) s next why p stop in
+    let taken = cells_taken k.opening c in
+    let bound = cells_bound_at k.opening k.cells_bound in
+    let stop : room_stop_at k.outermost None taken cost bound ≡ Some why = rw r.together at h in
+    let f = room_full_at (given_in k.opening k.bound) c.cells k.open_count k.outermost taken cost bound (turns_in k.opening k.bound k.turns) s next why p stop in
     record { state = f.state; is = ap (λ q. room cost (with_counts s q) next) (e ∙ left_in c k r) ∙ f.is; good = f.good }
 
 -- where room is counted, the cells have it
-cells_fit : (used cost bound : ℕ) → cells_stop None used cost bound ≡ None → nat_le (used + cost) bound ≡ true
-cells_fit used cost bound h = go (nat_le (used + cost) bound) refl h
-  where
-    go : (b : Bool) → nat_le (used + cost) bound ≡ b → cond b None (Some stop.Cells) ≡ None → nat_le (used + cost) bound ≡ true
-    go true e h = e
-    go false e h = absurd (cc)
-
-room_fits_at : (outer : Option expansion.Expansion) (used cost bound : ℕ) → room_stop_at outer None used cost bound ≡ None → nat_le (used + cost) bound ≡ true
-room_fits_at None used cost bound h = cells_fit used cost bound h
-room_fits_at (Some e) used cost bound h = go (nat_le (e.cells + cost) 1000000) h
-  where
-    go : (b : Bool) → cond b (cells_stop None used cost bound) (Some (stop.Expansion e.name)) ≡ None → nat_le (used + cost) bound ≡ true
-    go true h = cells_fit used cost bound h
-    go false h = absurd (cc)
-
-pub room_fits : (c : cell.CellStore) (k : counted.WorldCounts) (cost : ℕ) → AreRunCounts c k → room_stop k c cost ≡ None → has_room c cost ≡ true
-room_fits c k cost r h =
-    let stop : room_stop_at k.outermost None (used_of c) cost k.cells_bound ≡ None = rw (r.opened, r.together) at h in
-    let fits = room_fits_at k.outermost (used_of c) cost k.cells_bound stop in
-    let used : used_of c ≡ r.counted.0 = rw r.counted.1 refl in
-    ap (λ m. room_in c.count m (length c.cells) c.bound cost) r.unmarked ∙ ap (λ n. room_in n None (length c.cells) c.bound cost) r.counted.1
-    ∙ ap (λ u. nat_le (u + cost) c.bound) (sym used) ∙ ap (λ b. nat_le (used_of c + cost) b) (sym r.bound) ∙ fits
+pub room_fits : RoomIsEnough → (c : cell.CellStore) (k : counted.WorldCounts) (cost : ℕ) → AreRunCounts c k → room_stop k c cost ≡ None → has_room c cost ≡ true
+room_fits enough c k cost r h = enough k c cost r.bounds (subst (λ a. IsMakingCounted a k.outermost c.mark) (sym r.together) tt) h
 
 -- ---- turns
 
@@ -203,34 +192,63 @@ turn_full_at {A} g cells inner (Some x) turns bound c s next why h = go (nat_lt 
           good = record { functions = record { functions = refl; compilation = refl }; bindings = record { entries = refl; hidden = λ i b h. refl }; outside = refl };
         }
 
-running_ticked_at : (c : cell.CellStore) (k : counted.WorldCounts) (e : Option expansion.Expansion) → AreRunCounts c k → AreRunCounts c (counted.ticked_at None e k)
-running_ticked_at c k None r = record { opened = r.opened; together = r.together; counted = r.counted; unmarked = r.unmarked; bound = r.bound; few = r.few }
-running_ticked_at c k (Some e) r = record { opened = r.opened; together = r.together; counted = r.counted; unmarked = r.unmarked; bound = r.bound; few = r.few }
+-- the counts of a run, and those of opening
+left_run : (c : cell.CellStore) (k : counted.WorldCounts) → AreRunCounts c k → k.opening ≡ None → counts_in c k ≡ left k.bound (k.bound - k.turns) (k.cells_bound - used_of c) (expansion_in c.cells k.open_count k.outermost)
+left_run c k r o = rw (o, r.together) refl
 
-running_ticked : (c : cell.CellStore) (k : counted.WorldCounts) → AreRunCounts c k → AreRunCounts c (ticked k)
-running_ticked c k r = subst (λ o. AreRunCounts c (counted.ticked_at o k.outermost k)) (sym r.opened) (running_ticked_at c k k.outermost r)
+left_opening : (c : cell.CellStore) (k : counted.WorldCounts) (n : ℕ) → AreRunCounts c k → k.opening ≡ Some n → counts_in c k ≡ left 1000000 (1000000 - n) (65536 - length c.cells) None
+left_opening c k n r o = rw (o, r.together, r.unexpanded n o) refl
 
--- the counts after a turn
-ticked_at_in : (c : cell.CellStore) (k : counted.WorldCounts) (e : Option expansion.Expansion) → AreRunCounts c k → k.outermost ≡ e → counts_in c (counted.ticked_at None e k) ≡ left k.bound (k.bound - turns_after e k.turns) (k.cells_bound - used_of c) (expansion_in c.cells k.open_count (outer_after e))
-ticked_at_in c k None r is = rw (r.opened, r.together, is) refl
-ticked_at_in c k (Some x) r is = rw (r.opened, r.together) refl
+running_ticked_at : (c : cell.CellStore) (k : counted.WorldCounts) (o : Option ℕ) (e : Option expansion.Expansion) → AreRunCounts c k → k.opening ≡ o → BoundsAgree (counted.ticked_at o e k) c → AreRunCounts c (counted.ticked_at o e k)
+running_ticked_at c k (Some n) e r is b = record { bounds = b; together = r.together; unexpanded = λ m h. r.unexpanded n is; untaken = λ m h. r.untaken n is; few = r.few }
+running_ticked_at c k None (Some e) r is b = record { bounds = b; together = r.together; unexpanded = λ m h. absurd (let f : None ≡ Some m = sym is ∙ h in cc); untaken = r.untaken; few = r.few }
+running_ticked_at c k None None r is b = record { bounds = b; together = r.together; unexpanded = r.unexpanded; untaken = λ m h. absurd (let f : None ≡ Some m = sym is ∙ h in cc); few = r.few }
 
-ticked_in : (c : cell.CellStore) (k : counted.WorldCounts) → AreRunCounts c k → counts_in c (ticked k) ≡ left k.bound (k.bound - turns_after k.outermost k.turns) (k.cells_bound - used_of c) (expansion_in c.cells k.open_count (outer_after k.outermost))
-ticked_in c k r = ap (λ o. counts_in c (counted.ticked_at o k.outermost k)) r.opened ∙ ticked_at_in c k k.outermost r refl
+running_ticked : AreBoundsKept → (c : cell.CellStore) (k : counted.WorldCounts) → AreRunCounts c k → AreRunCounts c (ticked k)
+running_ticked law c k r = running_ticked_at c k k.opening k.outermost r refl (law.ticked k c r.bounds)
+
+-- the counts after a turn, of a run and of opening
+ticked_at_in : (c : cell.CellStore) (k : counted.WorldCounts) (e : Option expansion.Expansion) → AreRunCounts c k → k.opening ≡ None → k.outermost ≡ e
+    → counts_in c (counted.ticked_at None e k) ≡ left k.bound (k.bound - turns_after e k.turns) (k.cells_bound - used_of c) (expansion_in c.cells k.open_count (outer_after e))
+ticked_at_in c k None r o is = rw (o, r.together, is) refl
+ticked_at_in c k (Some x) r o is = rw (o, r.together) refl
+
+ticked_run : (c : cell.CellStore) (k : counted.WorldCounts) → AreRunCounts c k → k.opening ≡ None
+    → counts_in c (ticked k) ≡ left k.bound (k.bound - turns_after k.outermost k.turns) (k.cells_bound - used_of c) (expansion_in c.cells k.open_count (outer_after k.outermost))
+ticked_run c k r o = ap (λ o. counts_in c (counted.ticked_at o k.outermost k)) o ∙ ticked_at_in c k k.outermost r o refl
+
+ticked_opening : (c : cell.CellStore) (k : counted.WorldCounts) (n : ℕ) → AreRunCounts c k → k.opening ≡ Some n → counts_in c (ticked k) ≡ left 1000000 (1000000 - (n + 1)) (65536 - length c.cells) None
+ticked_opening c k n r o =
+    let after : counts_in c (counted.ticked_at (Some n) k.outermost k) ≡ left 1000000 (1000000 - (n + 1)) (65536 - length c.cells) None = rw (r.together, r.unexpanded n o) refl in
+    ap (λ o. counts_in c (counted.ticked_at o k.outermost k)) o ∙ after
 
 pub turn_done : {A : Type 0} (c : cell.CellStore) (k : counted.WorldCounts) (s : State) (next : State → Outcome A) → AreRunCounts c k → s.counts ≡ counts_in c k → tick_stop k ≡ None
     → turn s next ≡ next (record s { counts = counts_in c (ticked k) })
-turn_done {A} c k s next r e h =
-    let stop : tick_stop_at None k.outermost k.turns k.bound ≡ None = rw r.opened at h in
-    ap (λ q. turn (with_counts s q) next) (e ∙ left_in c k r) ∙ turn_done_at k.bound c.cells k.open_count k.outermost k.turns k.bound (k.cells_bound - used_of c) s next stop
-    ∙ ap (λ q. next (with_counts s q)) (sym (ticked_in c k r))
+turn_done {A} c k s next r e h = go k.opening refl
+  where
+    go : (o : Option ℕ) → k.opening ≡ o → turn s next ≡ next (record s { counts = counts_in c (ticked k) })
+    go None o =
+        let stop : tick_stop_at None k.outermost k.turns k.bound ≡ None = rw o at h in
+        ap (λ q. turn (with_counts s q) next) (e ∙ left_run c k r o) ∙ turn_done_at k.bound c.cells k.open_count k.outermost k.turns k.bound (k.cells_bound - used_of c) s next stop
+        ∙ ap (λ q. next (with_counts s q)) (sym (ticked_run c k r o))
+    go (Some n) o =
+        let stop : tick_stop_at None None n 1000000 ≡ None = rw o at h in
+        ap (λ q. turn (with_counts s q) next) (e ∙ left_opening c k n r o) ∙ turn_done_at 1000000 c.cells k.open_count None n 1000000 (65536 - length c.cells) s next stop
+        ∙ ap (λ q. next (with_counts s q)) (sym (ticked_opening c k n r o))
 
 pub turn_full : {A : Type 0} (c : cell.CellStore) (k : counted.WorldCounts) (s : State) (next : State → Outcome A) (why : stops.Stop) → AreRunCounts c k → s.counts ≡ counts_in c k → tick_stop k ≡ Some why
     → StopsWith s (turn s next) (stop_in c.cells why)
-turn_full {A} c k s next why r e h =
-    let stop : tick_stop_at None k.outermost k.turns k.bound ≡ Some why = rw r.opened at h in
-    let f = turn_full_at k.bound c.cells k.open_count k.outermost k.turns k.bound (k.cells_bound - used_of c) s next why stop in
-    record { state = f.state; is = ap (λ q. turn (with_counts s q) next) (e ∙ left_in c k r) ∙ f.is; good = f.good }
+turn_full {A} c k s next why r e h = go k.opening refl
+  where
+    go : (o : Option ℕ) → k.opening ≡ o → StopsWith s (turn s next) (stop_in c.cells why)
+    go None o =
+        let stop : tick_stop_at None k.outermost k.turns k.bound ≡ Some why = rw o at h in
+        let f = turn_full_at k.bound c.cells k.open_count k.outermost k.turns k.bound (k.cells_bound - used_of c) s next why stop in
+        record { state = f.state; is = ap (λ q. turn (with_counts s q) next) (e ∙ left_run c k r o) ∙ f.is; good = f.good }
+    go (Some n) o =
+        let stop : tick_stop_at None None n 1000000 ≡ Some why = rw o at h in
+        let f = turn_full_at 1000000 c.cells k.open_count None n 1000000 (65536 - length c.cells) s next why stop in
+        record { state = f.state; is = ap (λ q. turn (with_counts s q) next) (e ∙ left_opening c k n r o) ∙ f.is; good = f.good }
 
 pub turn_means : (w x : World) → x ≡ record w { counts = ticked w.counts } → IsWorld w → tick_stop w.counts ≡ None → (s : State) → ShowsState w s → MeansDone s (turn s (λ t. Done tt t)) (Ok tt) x
 turn_means w x e i h s shown = subst (λ y. MeansDone s (turn s (λ t. Done tt t)) (Ok tt) y) (sym e) (record {
@@ -252,16 +270,24 @@ turn_means w x e i h s shown = subst (λ y. MeansDone s (turn s (λ t. Done tt t
   };
 })
 
-expanding_ticked : (cells : List Cell) (k : counted.WorldCounts) → k.opening ≡ None → ForSome k.outermost (λ e. is_id cells e.name ≡ true) → ForSome (ticked k).outermost (λ e. is_id cells e.name ≡ true)
-expanding_ticked cells k o h = subst (λ x. ForSome (counted.ticked_at x k.outermost k).outermost (λ e. is_id cells e.name ≡ true)) (sym o) (go k.outermost refl)
-  where
-    go : (outer : Option expansion.Expansion) → k.outermost ≡ outer → ForSome (counted.ticked_at None outer k).outermost (λ e. is_id cells e.name ≡ true)
-    go None is = h
-    go (Some e) is = λ x same. let q : record e { turns = e.turns + 1 } ≡ x = cc in subst (λ (y : expansion.Expansion). is_id cells y.name ≡ true) q (h e is)
+expanding_ticked_at : (cells : List Cell) (k : counted.WorldCounts) (o : Option ℕ) (outer : Option expansion.Expansion) → k.outermost ≡ outer → ForSome k.outermost (λ e. is_id cells e.name ≡ true)
+    → ForSome (counted.ticked_at o outer k).outermost (λ e. is_id cells e.name ≡ true)
+expanding_ticked_at cells k (Some n) outer is h = h
+expanding_ticked_at cells k None None is h = h
+expanding_ticked_at cells k None (Some e) is h = λ x same. let q : record e { turns = e.turns + 1 } ≡ x = cc in subst (λ (y : expansion.Expansion). is_id cells y.name ≡ true) q (h e is)
 
-pub turn_grows : (w x : World) → x ≡ record w { counts = ticked w.counts } → IsWorld w → WorldGrows w x
-turn_grows w x e i = subst (λ y. WorldGrows w y) (sym e) (record {
-  world = record { table = i.table; t = i.t; message = i.message; texts = i.texts; running = running_ticked w.cells w.counts i.running; levels = i.levels; expanding = expanding_ticked w.cells.cells w.counts i.running.opened i.expanding };
+pub turn_grows : AreBoundsKept → (w x : World) → x ≡ record w { counts = ticked w.counts } → IsWorld w → WorldGrows w x
+turn_grows law w x e i = subst (λ y. WorldGrows w y) (sym e) (record {
+  world = record {
+    table = i.table;
+    t = i.t;
+    message = i.message;
+    texts = i.texts;
+    running = running_ticked law w.cells w.counts i.running;
+    levels = i.levels;
+    made = i.made;
+    expanding = expanding_ticked_at w.cells.cells w.counts w.counts.opening w.counts.outermost refl i.expanding;
+  };
   live = λ v h. h;
   values = λ v h. refl;
 })
@@ -271,35 +297,33 @@ turn_stops w x why e i h s shown = subst (λ y. MeansDone s (turn s (λ t. Done 
 
 -- ---- the turns that are left
 
-falls_at : (k : counted.WorldCounts) (e : Option expansion.Expansion) → k.opening ≡ None → k.outermost ≡ e → tick_stop_at None e k.turns k.bound ≡ None → turns_left_at None e k.turns k.bound ≡ count_turns_left (counted.ticked_at None e k) + 1
-falls_at k None o is h =
-    let now : count_turns_left (counted.ticked_at None None k) ≡ k.bound - (k.turns + 1) = ap (λ x. turns_left_at x k.outermost (k.turns + 1) k.bound) o ∙ ap (λ x. turns_left_at None x (k.turns + 1) k.bound) is in
-    let l : k.turns < k.bound = go (nat_lt k.turns k.bound) refl h in
-    omega (arith, now, l)
+below_stop : (taken bound : ℕ) (why : stops.Stop) → cond (nat_lt taken bound) None (Some why) ≡ None → taken < bound
+below_stop taken bound why h = go (nat_lt taken bound) refl h
   where
-    go : (b : Bool) → nat_lt k.turns k.bound ≡ b → cond b None (Some stop.Turns) ≡ None → k.turns < k.bound
-    go true is h = ltb-true k.turns k.bound is
-    go false is h = absurd (cc)
-falls_at k (Some x) o is h =
-    let now : count_turns_left (counted.ticked_at None (Some x) k) ≡ 100000 - (x.turns + 1) = ap (λ y. turns_left_at y (Some (record x { turns = x.turns + 1 })) k.turns k.bound) o in
-    let l : x.turns < 100000 = go (nat_lt x.turns 100000) refl h in
-    omega (arith, now, l)
-  where
-    go : (b : Bool) → nat_lt x.turns 100000 ≡ b → cond b None (Some (stop.Expansion x.name)) ≡ None → x.turns < 100000
-    go true is h = ltb-true x.turns 100000 is
+    go : (b : Bool) → nat_lt taken bound ≡ b → cond b None (Some why) ≡ None → taken < bound
+    go true is h = ltb-true taken bound is
     go false is h = absurd (cc)
 
-pub turn_falls : (w x : World) → x ≡ record w { counts = ticked w.counts } → IsWorld w → tick_stop w.counts ≡ None → count_turns_left w.counts ≡ count_turns_left x.counts + 1
-turn_falls w x e i h =
-    let k = w.counts in
-    let o = i.running.opened in
-    let stop : tick_stop_at None k.outermost k.turns k.bound ≡ None = rw o at h in
-    let f = falls_at k k.outermost o refl stop in
-    ap (λ y. turns_left_at y k.outermost k.turns k.bound) o ∙ f ∙ ap (λ y. count_turns_left (counted.ticked_at y k.outermost k) + 1) (sym o) ∙ ap (λ (y : World). count_turns_left y.counts + 1) (sym e)
+falls_at : (k : counted.WorldCounts) (o : Option ℕ) (e : Option expansion.Expansion) → k.opening ≡ o → k.outermost ≡ e → tick_stop_at o e k.turns k.bound ≡ None → turns_left_at o e k.turns k.bound ≡ count_turns_left (counted.ticked_at o e k) + 1
+falls_at k (Some n) e o is h =
+    let l = below_stop n 1000000 stop.Turns h in
+    omega (arith, l)
+falls_at k None None o is h =
+    let now : count_turns_left (counted.ticked_at None None k) ≡ k.bound - (k.turns + 1) = ap (λ x. turns_left_at x k.outermost (k.turns + 1) k.bound) o ∙ ap (λ x. turns_left_at None x (k.turns + 1) k.bound) is in
+    let l = below_stop k.turns k.bound stop.Turns h in
+    omega (arith, now, l)
+falls_at k None (Some x) o is h =
+    let now : count_turns_left (counted.ticked_at None (Some x) k) ≡ 100000 - (x.turns + 1) = ap (λ y. turns_left_at y (Some (record x { turns = x.turns + 1 })) k.turns k.bound) o in
+    let l = below_stop x.turns 100000 (stop.Expansion x.name) h in
+    omega (arith, now, l)
+
+pub turn_falls : (w x : World) → x ≡ record w { counts = ticked w.counts } → tick_stop w.counts ≡ None → count_turns_left w.counts ≡ count_turns_left x.counts + 1
+turn_falls w x e h = falls_at w.counts w.counts.opening w.counts.outermost refl refl h ∙ ap (λ (y : World). count_turns_left y.counts + 1) (sym e)
 
 pub few_left : (c : cell.CellStore) (k : counted.WorldCounts) → AreRunCounts c k → count_turns_left k ≤ 2 ^ 59 - 1
-few_left c k r = subst (λ o. turns_left_at o k.outermost k.turns k.bound ≤ 2 ^ 59 - 1) (sym r.opened) (go k.outermost)
+few_left c k r = go k.opening k.outermost
   where
-    go : (e : Option expansion.Expansion) → turns_left_at None e k.turns k.bound ≤ 2 ^ 59 - 1
-    go None = let f = r.few in omega (arith, f)
-    go (Some e) = omega arith
+    go : (o : Option ℕ) (e : Option expansion.Expansion) → turns_left_at o e k.turns k.bound ≤ 2 ^ 59 - 1
+    go (Some n) e = omega arith
+    go None None = let f = r.few in omega (arith, f)
+    go None (Some e) = omega arith

@@ -1,5 +1,5 @@
 -- One identifier has something else: all that cells mean stays, and what is shown of that identifier changes alone.
-use Rattle.std.proofs.Common.{◌≡◌, ◌≢◌, ℕ, ◌-◌, ◌<◌, ◌≤◌, Bool, true, false, ◌==◌, List, [], length, Option, Some, None, refl, sym, ap, subst, ◌∙◌}
+use Rattle.std.proofs.Common.{◌≡◌, ◌≢◌, ℕ, ◌<◌, ◌≤◌, Bool, true, false, ◌==◌, List, [], length, Option, Some, None, refl, sym, ap, subst, ◌∙◌}
 use Rattle.std.specs.Prelude.{slice_index_or}
 use Rattle.std.proofs.lemmas.Bool.{eqb-true, eqb-false}
 use Rattle.std.proofs.lemmas.List.{get_or-set_same, get_or-set_other, length-set}
@@ -22,10 +22,10 @@ use Rattle.rl_meaning.specs.State as meaning
 use Rattle.rl_meaning.specs.Symbols as symbols
 use Rattle.rl_meaning.specs.Variables.{nearest}
 use Rattle.rl_meaning.specs.Symbols.{with_symbol, with_top, message_id, new_symbol}
-use Rattle.rl_state.specs.ShownState.{ShowsState, ShowsSymbols, counts_in, is_listed, definition_in, number_in, option_value_in, pointer_named, value_seen, seen_of, symbol_meant}
+use Rattle.rl_state.specs.ShownState.{ShowsState, ShowsSymbols, is_listed, definition_in, number_in, option_value_in, pointer_named, value_seen, seen_of, symbol_meant}
 use Rattle.rl_state.specs.Worlds.{IsWorld, HasNumber, ObjectsAlone, WorldGrows, SeenOtherwise}
 use Rattle.rl_state.proofs.Kept.{AlikeShown, all_ids_same, id_cell, named_same, number_same, symbol_like}
-use Rattle.rl_state.proofs.Made.{expanding_kept, expansion_kept}
+use Rattle.rl_state.proofs.Made.{counts_changed, expanding_kept, made_stays, running_changed}
 
 -- ---- cells that keep their meaning
 
@@ -126,8 +126,8 @@ with_list w cells = record w { cells = record w.cells { cells = cells } }
 numbered_kept : (old new : List Cell) (id : Tagged) (i : ℕ) → KeepsMeaning old new → ((v : Tagged) → is_id old v ≡ true → is_id new v ≡ true) → HasNumber old id i → HasNumber new id i
 numbered_kept old new id i m ids n = record { is_id = ids id n.is_id; number = named_same old new id (λ v l. m.values v) n.is_id ∙ n.number }
 
-pub set_grows : (w : World) (new : List Cell) (id : Tagged) (y : SymbolCells) → IsWorld w → IsTable new w.syms.head → Sets w.cells.cells new id y → WorldGrows w (with_list w new)
-set_grows w new id y i t sets =
+pub set_grows : (law : IdentifiersAreNumbered) (w : World) (new : List Cell) (id : Tagged) (y : SymbolCells) → IsWorld w → IsTable new w.syms.head → Sets w.cells.cells new id y → WorldGrows w (with_list w new)
+set_grows law w new id y i t sets =
     let old = w.cells.cells in
     let m = sets.rest in
     record {
@@ -139,8 +139,9 @@ set_grows w new id y i t sets =
           string = λ n d l. string_kept old new (slice_index_or w.texts n d) m (i.texts.string n d l);
           text = λ n d l. bytes_kept old new (slice_index_or w.texts n d) m ∙ i.texts.text n d l;
         };
-        running = record { opened = i.running.opened; together = i.running.together; counted = i.running.counted; unmarked = i.running.unmarked; bound = i.running.bound; few = i.running.few };
+        running = running_changed w.cells w.counts new m.long i.running;
         levels = i.levels;
+        made = made_stays law w new (λ k. ids_kept old new k m) i;
         expanding = expanding_kept old new w.counts.outermost sets.ids i.expanding;
       };
       live = λ v h. m.live v ∙ h;
@@ -152,7 +153,7 @@ set_shown : (w : World) (new : List Cell) (s t : State) → KeepsMeaning w.cells
 set_shown w new s t m i shown y store counts gensyms outside free bound = record {
   store = store ∙ shown.store ∙ sym m.store;
   symbols = record { many = y.many; symbols = y.symbols; values = y.values };
-  counts = counts ∙ shown.counts ∙ sym (ap (λ e. record (counts_in w.cells w.counts) { expansion = e }) (expansion_kept w.cells.cells new w.counts.open_count w.counts.outermost (λ v l. m.values v) i.expanding));
+  counts = counts ∙ shown.counts ∙ sym (counts_changed w.cells w.counts new m.long (λ v l. m.values v) i.expanding);
   gensyms = gensyms ∙ shown.gensyms;
   column = ap (λ (o : meaning.Outside). o.column) outside ∙ shown.column;
   line_length = ap (λ (o : meaning.Outside). o.line_length) outside ∙ shown.line_length;
@@ -340,8 +341,8 @@ field_set w cs names id y e f t sets = record {
   sets = sets;
 }
 
-pub field_grows : (w x : World) (id : Tagged) (y : SymbolCells) → IsFieldSet w x id y → IsWorld w → WorldGrows w x
-field_grows w x id y s i = subst (λ z. WorldGrows w z) (sym s.is) (set_grows w x.cells.cells id y i s.table s.sets)
+pub field_grows : (law : IdentifiersAreNumbered) (w x : World) (id : Tagged) (y : SymbolCells) → IsFieldSet w x id y → IsWorld w → WorldGrows w x
+field_grows law w x id y s i = subst (λ z. WorldGrows w z) (sym s.is) (set_grows law w x.cells.cells id y i s.table s.sets)
 
 pub field_rest : (w x : World) (id : Tagged) (y : SymbolCells) → IsFieldSet w x id y → ObjectsAlone w x
 field_rest w x id y s = record { rest = subst (λ (z : World). z ≡ record w { cells = z.cells; syms = z.syms; counts = z.counts }) (sym s.is) refl }

@@ -1,7 +1,9 @@
 -- What is known of cells: the laws of the crates below, together.
+use Rattle.rl_cells.specs.Laws.{IsAdded}
 use Rattle.rl_syms.specs.Laws.{ChangesMeaning, IsKept, IsRead, LeaveIdentifiers, MakesMeaning, NamesEnter}
 use Rattle.rl_syms.specs.Readings.{NamingMeans}
 use Rattle.rl_syms.specs.Numbers.{IdentifiersAreNumbered}
+use Rattle.rl_world.specs.Bounds.{AreBoundsKept, RoomIsEnough}
 
 pub record AreCellLaws : Type 0 where
   pub kept : IsKept
@@ -12,3 +14,6 @@ pub record AreCellLaws : Type 0 where
   pub numbered : IdentifiersAreNumbered
   pub enters : NamesEnter
   pub naming : NamingMeans
+  pub added : IsAdded
+  pub bounds : AreBoundsKept
+  pub enough : RoomIsEnough

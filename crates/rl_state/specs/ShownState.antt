@@ -1,5 +1,5 @@
 -- The states that a world may stand for: what a world determines of a state. Functions, bindings, what is watched, files, and what was read and printed are no part of a world.
-use Rattle.std.specs.Prelude.{◌≡◌, ◌≤◌, ℕ, ◌-◌, ◌%◌, ◌/◌, ◌^◌, ◌==◌, Bool, true, false, ◌||◌, List, [], ◌∷◌, length, Option, Some, None}
+use Rattle.std.specs.Prelude.{◌≡◌, ◌≤◌, ℕ, ◌-◌, ◌==◌, Bool, true, false, ◌||◌, List, [], ◌∷◌, length, Option, Some, None}
 use Rattle.rl_tags.specs.Tagged.{Tagged, index_of}
 use Rattle.rl_tree.specs.Value.{Value, Fun}
 use Rattle.rl_tree.specs.declared.held.Kind.{Kind}
@@ -14,7 +14,7 @@ use Rattle.rl_world.specs.declared.world.World.{World}
 use Rattle.rl_meaning.specs.State.{State, Symbol, Definition, Pointer, Counts, Expansion}
 use Rattle.rl_meaning.specs.Symbols.{symbol_at, message_id}
 use Rattle.rl_meaning.specs.Variables.{Nearest, nearest}
-use Rattle.rl_syms.specs.Contents.{ids_before, funs_before, value_of, store_of}
+use Rattle.rl_syms.specs.Contents.{ids_before, value_of, store_of}
 
 -- ---- identifiers
 
@@ -68,10 +68,10 @@ abbrev pub turns_in : Option ℕ → ℕ → ℕ → ℕ
 turns_in None bound turns = bound - turns
 turns_in (Some ticks) bound turns = 1000000 - ticks
 
--- opening has no bound on cells, and no expansion for a compilation
-abbrev pub cells_in : Option ℕ → Option Aside → ℕ → ℕ → Option ℕ
-cells_in None None bound used = Some (bound - used)
-cells_in _ _ bound used = None
+-- the cells that are left, of opening or of the run; where a compilation expands there is no bound
+abbrev pub cells_in : Option Aside → ℕ → ℕ → Option ℕ
+cells_in None taken bound = Some (bound - taken)
+cells_in (Some aside) taken bound = None
 
 -- opening has 1000000 turns
 abbrev pub given_in : Option ℕ → ℕ → ℕ
@@ -82,7 +82,7 @@ abbrev pub counts_in : cell.CellStore → counted.WorldCounts → Counts
 counts_in c k = record {
   given = given_in k.opening k.bound;
   turns = turns_in k.opening k.bound k.turns;
-  cells = cells_in k.opening k.aside k.cells_bound (used_of c);
+  cells = cells_in k.aside (counted.cells_taken k.opening c) (counted.cells_bound_at k.opening k.cells_bound);
   expansion = expansion_in c.cells k.open_count k.outermost;
 }
 

@@ -1,10 +1,11 @@
--- Worlds of a run, and what stays as a run goes on.
+-- Worlds in opening or of a run, and what stays as they go on.
 use Rattle.std.specs.Prelude.{◌≡◌, ◌≢◌, length, Option, ◌≤◌, ◌-◌, ◌^◌, ℕ, true, List, Some, None}
 use Rattle.std.specs.Option.{ForSome}
 use Rattle.rl_tags.specs.Tagged.{Tagged, index_of}
 use Rattle.rl_tags.specs.Ids.{t_id, emsg_star_id}
 use Rattle.rl_cells.specs.Cell.{Cell, CellStore, is_live}
 use Rattle.rl_syms.specs.Table.{IsTable, is_id}
+use Rattle.rl_world.specs.Bounds.{BoundsAgree}
 use Rattle.rl_world.specs.Counts.{WorldCounts}
 use Rattle.rl_world.specs.Errors.{AreTexts}
 use Rattle.rl_world.specs.declared.world.World.{World}
@@ -15,13 +16,12 @@ use Rattle.rl_meaning.specs.State.{State}
 use Rattle.rl_meaning.specs.Symbols.{symbol_at, message_id}
 use Rattle.rl_meaning.specs.Variables.{Nearest, nearest}
 
--- the run counts, and no compilation expands
+-- in opening or in a run: counts and cells agree, no compilation expands, and so no spare cells are in use, and in opening no expansion is open and no turn of the run was taken
 pub record AreRunCounts (c : CellStore) (k : WorldCounts) : Type 0 where
-  pub opened : k.opening ≡ None
+  pub bounds : BoundsAgree k c
   pub together : k.aside ≡ None
-  pub counted : (n : ℕ) × (c.count ≡ Some n)
-  pub unmarked : c.mark ≡ None
-  pub bound : k.cells_bound ≡ c.bound
+  pub unexpanded : (ticks : ℕ) → k.opening ≡ Some ticks → k.outermost ≡ None
+  pub untaken : (ticks : ℕ) → k.opening ≡ Some ticks → k.turns ≡ 0
   -- numbers of turns are small integers
   pub few : k.bound ≤ 2 ^ 59 - 1
 
@@ -37,6 +37,8 @@ pub record IsWorld (w : World) : Type 0 where
   pub texts : AreTexts w.cells.cells w.texts 14
   pub running : AreRunCounts w.cells w.counts
   pub levels : w.levels.level ≤ w.levels.bound
+  -- as many identifiers were made by GENSYM as there are at most
+  pub made : w.syms.made ≤ ids_before w.cells.cells (length w.cells.cells)
   -- what is expanded is a name
   pub expanding : ForSome w.counts.outermost (λ e. is_id w.cells.cells e.name ≡ true)
 

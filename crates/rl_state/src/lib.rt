@@ -8,6 +8,7 @@ mod levels;
 mod names;
 mod natives;
 mod objects;
+mod opening;
 mod outside;
 mod turns;
 mod variables;
@@ -17,9 +18,12 @@ pub use identifiers::{
     definition, kind, name, properties, set_definition, set_kind, set_properties,
 };
 pub use levels::{deeper, shallower};
-pub use names::identifier;
+pub use names::{gensym, identifier, symbol};
 pub use natives::{car, cons, length, rplaca};
-pub use objects::{pair, parts, place, places, set_car, set_cdr, set_place, string, vector};
-pub use outside::{flush, next_byte, peek, put_back, put_byte};
+pub use objects::{
+    integer, pair, parts, place, places, set_car, set_cdr, set_place, string, vector,
+};
+pub use opening::{open, opened};
+pub use outside::{flush, next_byte, note_byte, peek, put_back, put_byte};
 pub use turns::turn;
 pub use variables::{cell, set_cell};

@@ -1,10 +1,12 @@
 //! Identifiers by their names.
-ghost use Rattle.std.specs.Prelude.{◌≡◌, ◌≤◌, IfOk, IsTrue, length};
+ghost use Rattle.std.specs.Prelude.{◌≡◌, ◌≤◌, IfOk, IsTrue, false, length};
 ghost use Rattle.rl_cells.specs.Cell.{is_live};
 ghost use Rattle.rl_syms.specs.Made.{id_cost};
 ghost use Rattle.rl_syms.specs.Table.{IsFree, is_id};
 ghost use Rattle.rl_meaning.specs.State.{State};
-ghost use Rattle.rl_meaning.specs.Symbols.{interned};
+ghost use Rattle.rl_meaning.specs.Atoms.{gensym as making};
+ghost use Rattle.rl_meaning.specs.Outcome.{made_symbol};
+ghost use Rattle.rl_meaning.specs.Symbols.{interned, new_symbol};
 ghost use Rattle.rl_state.specs.ShownState.{ShowsState};
 ghost use Rattle.rl_state.specs.Worlds.{IsWorld, ObjectsAlone, WorldGrows};
 ghost use Rattle.rl_state.specs.Ending.{MeansValue};
@@ -31,6 +33,51 @@ pub fn identifier(w: &mut World, name: &[u8]) -> Result<Val, Stop>
     match w.syms.find(&w.cells, name) {
         Some(id) => Ok(id),
         None => enter(w, name),
+    }
+}
+
+/// A new identifier of this name of 1 to 255 bytes that is not interned. After a stop the objects are as before.
+pub fn symbol(w: &mut World, name: &[u8]) -> Result<Val, Stop>
+    requires world { IsWorld w.old }
+    requires some { 1 ≤ length name.now }
+    requires short { length name.now ≤ 255 }
+    ensures means { (s : State) → ShowsState w.old s → MeansValue s (made_symbol (new_symbol name.now false) s) result w.new }
+    ensures live { IfOk result (λ v. IsTrue (is_live w.new.cells.cells v)) }
+    ensures id { IfOk result (λ v. IsTrue (is_id w.new.cells.cells v)) }
+    ensures grows { WorldGrows w.old w.new }
+    ensures rest { ObjectsAlone w.old w.new }
+{
+    cells_are_known();
+    names_are_identifiers();
+    match w.room(identifier_cost(name)) {
+        Ok(()) => {
+            w.cells.is_closed();
+            Ok(w.syms.loose(&mut w.cells, name).unwrap())
+        }
+        Err(why) => Err(why),
+    }
+}
+
+/// A new identifier that is not interned, with the next of the names G0001, G0002 and so on. After a stop the objects are
+/// as before.
+pub fn gensym(w: &mut World) -> Result<Val, Stop>
+    requires { IsWorld w.old }
+    ensures means { (s : State) → ShowsState w.old s → MeansValue s (making s) result w.new }
+    ensures live { IfOk result (λ v. IsTrue (is_live w.new.cells.cells v)) }
+    ensures id { IfOk result (λ v. IsTrue (is_id w.new.cells.cells v)) }
+    ensures grows { WorldGrows w.old w.new }
+    ensures rest { ObjectsAlone w.old w.new }
+{
+    cells_are_known();
+    names_are_identifiers();
+    // There are fewer identifiers than cells, so the name is one of 16 bytes at most, and takes two cells.
+    let _places = w.cells.places();
+    match w.room(5) {
+        Ok(()) => {
+            w.cells.is_closed();
+            Ok(w.syms.gensym(&mut w.cells).unwrap())
+        }
+        Err(why) => Err(why),
     }
 }
 

@@ -1,9 +1,9 @@
 //! Pairs, strings and vectors: they are made, taken apart and changed.
-ghost use Rattle.std.specs.Prelude.{◌≡◌, ◌<◌, ◌≤◌, IsTrue, IfOk, List, OnSome, Some, length, option_map, replicate, slice_get, slice_set};
+ghost use Rattle.std.specs.Prelude.{◌≡◌, ◌<◌, ◌≤◌, ◌≤ℤ◌, IsTrue, IfOk, List, OnSome, Some, length, negsuc, option_map, pos, replicate, slice_get, slice_set};
 ghost use Rattle.std.specs.Option.{ForSome};
 ghost use Rattle.rl_tags.specs.Ids.{nil_id};
-ghost use Rattle.rl_tree.specs.Value.{Value, Pair, Vector};
-ghost use Rattle.rl_cells.specs.Cell.{StrCell, VectorCell, cost_of, is_live, is_pair, is_vector, vector_of};
+ghost use Rattle.rl_tree.specs.Value.{Value, Int, Pair, Vector};
+ghost use Rattle.rl_cells.specs.Cell.{Cell, StrCell, VectorCell, cost_of, is_live, is_pair, is_vector, vector_of};
 ghost use Rattle.rl_meaning.specs.State.{State};
 ghost use Rattle.rl_meaning.specs.Outcome.{made_pair, made_string};
 ghost use Rattle.rl_meaning.specs.Atoms.{made_places};
@@ -17,6 +17,16 @@ ghost use Rattle.rl_state.specs.Ending.{MeansValue, parts_in};
 use crate::laws::cells_are_known;
 use rl_tags::{Tag, Val};
 use rl_world::{Stop, World};
+
+/// An integer of 60 bits.
+pub fn integer(n: i64) -> Val
+    requires low { negsuc 576460752303423487 ≤ℤ n }
+    requires high { n ≤ℤ pos 576460752303423487 }
+    ensures means { (cells : List Cell) → value_of cells result ≡ Int n }
+    ensures live { (cells : List Cell) → IsTrue (is_live cells result) }
+{
+    Val::small(n)
+}
 
 /// A new pair. After a stop the objects are as before.
 pub fn pair(w: &mut World, a: Val, d: Val) -> Result<Val, Stop>

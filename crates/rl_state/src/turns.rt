@@ -7,6 +7,7 @@ ghost use Rattle.rl_state.specs.Worlds.{IsWorld, WorldGrows, ObjectsAlone};
 ghost use Rattle.rl_state.specs.Ending.{MeansDone};
 ghost use Rattle.rl_world.specs.Counts.{count_turns_left};
 
+use rl_world::laws::bounds_are_kept;
 use rl_world::{Stop, World};
 
 /// Takes a turn.
@@ -17,6 +18,7 @@ pub fn turn(w: &mut World) -> Result<(), Stop>
     ensures grows { WorldGrows w.old w.new }
     ensures rest { ObjectsAlone w.old w.new }
 {
+    bounds_are_kept();
     match w.tick() {
         Ok(()) => Ok(()),
         Err(why) => Err(why),

@@ -7,3 +7,5 @@ mod cells;
 mod names;
 #[cfg(test)]
 mod numbers;
+#[cfg(test)]
+mod world;

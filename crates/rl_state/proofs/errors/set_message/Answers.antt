@@ -17,4 +17,4 @@ returns-clause-shows c s shown =
 pub returns-clause-grows : goal.returns-clause-grows
 returns-clause-grows c =
     subst (λ w. WorldGrows c.args.w.now w) (set_final c.args.w.now c.set_value.new.c c.set_value.new.self c.set_value.ensures.store c.set_value.ensures.same)
-    (set_grows c.args.w.now c.set_value.new.c.cells emsg_star_id _ c.requires.world (subst (λ (y : Syms). IsTable c.set_value.new.c.cells y.head) c.set_value.ensures.same c.set_value.ensures.table) c.set_value.ensures.sets)
+    (set_grows c.identifiers_are_numbered.ensures c.args.w.now c.set_value.new.c.cells emsg_star_id _ c.requires.world (subst (λ (y : Syms). IsTable c.set_value.new.c.cells y.head) c.set_value.ensures.same c.set_value.ensures.table) c.set_value.ensures.sets)

@@ -6,12 +6,12 @@ use Rattle.rl_syms.specs.Contents.{value_of}
 use Rattle.rl_state.proofs.Room.{few_left}
 use Rattle.rl_state.proofs.Made.{rest_trans}
 use Rattle.rl_state.proofs.Steps.{grows_trans}
-use Rattle.rl_state.proofs.Walking.{Walking, walks_on, walks_to_end, walks_to_stop}
+use Rattle.rl_state.proofs.Walking.{Counting, counts_on, counts_to_end, counts_to_stop}
 use Rattle.rl_state.proofs.natives.length.Goals as goal
 
 pub returns-in-Err-clause-means : goal.returns-in-Err-clause-means
 returns-in-Err-clause-means c s shown =
-    walks_to_stop s _ c.loop-p.w c.turn.new.w c.loop-p.n c.loop-p.at c.in-Some.p c.in-Err.why (c.loop-p.invariant.walking s shown) c.in-Some.ensures.means c.in-Err.ensures.means
+    counts_to_stop c.walks_are_unbounded.ensures s _ c.loop-p.w c.turn.new.w c.loop-p.n c.loop-p.at c.in-Some.p c.in-Err.why (c.loop-p.invariant.walking s shown) c.in-Some.ensures.means c.in-Err.ensures.means
 
 pub returns-in-Err-clause-grows : goal.returns-in-Err-clause-grows
 returns-in-Err-clause-grows c = grows_trans _ _ _ c.loop-p.invariant.grows c.turn.ensures.grows
@@ -30,9 +30,14 @@ loop-p-preserved c =
       count = omega (arith, falls, c.loop-p.invariant.count);
       grows = grows_trans _ _ _ c.loop-p.invariant.grows c.turn.ensures.grows;
       rest = rest_trans _ _ _ c.loop-p.invariant.rest c.turn.ensures.rest;
-      walking = λ s shown. subst (λ n. Walking s (value_of c.args.w.now.cells.cells c.args.u) c.turn.new.w n c.in-Some.p.1) next
-          (walks_on s _ c.loop-p.w c.turn.new.w c.loop-p.n c.loop-p.at c.in-Some.p (c.loop-p.invariant.walking s shown) c.in-Some.ensures.means c.in_default-turn.ensures.means c.turn.ensures.grows live);
+      walking = λ s shown. subst (λ n. Counting s (value_of c.args.w.now.cells.cells c.args.u) c.turn.new.w n c.in-Some.p.1) next
+          (counts_on c.walks_are_unbounded.ensures s _ c.loop-p.w c.turn.new.w c.loop-p.n c.loop-p.at c.in-Some.p (c.loop-p.invariant.walking s shown) c.in-Some.ensures.means c.in_default-turn.ensures.means c.turn.ensures.grows live);
     }
+
+pub overflow_add-n : goal.overflow_add-n
+overflow_add-n c =
+    let falls = c.in_default-turn.ensures.falls in
+    omega (arith, falls, few_left c.args.w.now.cells c.args.w.now.counts c.requires.world.running, c.loop-p.invariant.count)
 
 pub count-requires : goal.count-requires
 count-requires c = omega (arith, few_left c.args.w.now.cells c.args.w.now.counts c.requires.world.running, c.loop-p.invariant.count)
@@ -40,4 +45,4 @@ count-requires c = omega (arith, few_left c.args.w.now.cells c.args.w.now.counts
 pub returns-clause-means : goal.returns-clause-means
 returns-clause-means c s shown =
     subst (λ n. MeansAnswer s (list_length (value_of c.args.w.now.cells.cells c.args.u) s) (step.Done n) c.loop-p.w) (sym c.count.ensures)
-    (walks_to_end s _ c.loop-p.w c.loop-p.n c.loop-p.at (c.loop-p.invariant.walking s shown) c.in_default.ensures.means)
+    (counts_to_end c.walks_are_unbounded.ensures s _ c.loop-p.w c.loop-p.n c.loop-p.at (c.loop-p.invariant.walking s shown) c.in_default.ensures.means)

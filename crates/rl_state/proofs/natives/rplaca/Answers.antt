@@ -18,6 +18,9 @@ returns-in-Some-clause-means c s shown =
     of_pair s u (λ parts s. Done u (changing u (with_object u (Pair v parts.1) s))) _ (step.Done c.args.u) c.set_car.new.w (c.in-Some.ensures.means s shown)
     (record { state = changing u t; is = ap (λ x. Done x (changing u t)) (sym (c.set_car.ensures.grows.values c.args.u c.requires.u_live)); good = record { shows = shows_changing c.set_car.new.w u t (c.set_car.ensures.shows s (value_of c.args.w.now.cells.cells c.in-Some._p.0) d shown (c.in-Some.ensures.means s shown)); stays = stays_changing u (Pair v d) s } })
 
+pub returns-in-Some-clause-live : goal.returns-in-Some-clause-live
+returns-in-Some-clause-live c = c.set_car.ensures.grows.live c.args.u c.requires.u_live
+
 pub returns-in-None-clause-means : goal.returns-in-None-clause-means
 returns-in-None-clause-means c s shown =
     let u = value_of c.args.w.now.cells.cells c.args.u in

@@ -1,4 +1,4 @@
-use Rattle.std.proofs.Common.{refl, ◌∙◌}
+use Rattle.std.proofs.Common.{refl, ◌∙◌, arith}
 use Rattle.rl_cells.specs.Cell.{PairCell}
 use Rattle.rl_state.proofs.Made.{has_counted, live_counted, made_ends, pair_ends, pair_stops, rest_made, rest_refl}
 use Rattle.rl_state.proofs.objects.pair.Goals as goal
@@ -10,7 +10,7 @@ pub cons-requires-clause-cdr_live : goal.cons-requires-clause-cdr_live
 cons-requires-clause-cdr_live c = live_counted c.args.w.now c.room.new.self _ c.args.d c.in-Ok.ensures.counted c.requires.d_live
 
 pub unwrap-requires : goal.unwrap-requires
-unwrap-requires c = c.cons.ensures.full ∙ has_counted c.args.w.now c.room.new.self _ _ c.in-Ok.ensures.counted c.requires.world c.in-Ok.ensures.ok
+unwrap-requires c = c.cons.ensures.full ∙ has_counted c.cells_are_known.ensures.enough c.args.w.now c.room.new.self _ _ c.in-Ok.ensures.counted c.requires.world c.in-Ok.ensures.ok
 
 pub returns-in-Ok-clause-means : goal.returns-in-Ok-clause-means
 returns-in-Ok-clause-means c =
@@ -20,7 +20,7 @@ returns-in-Ok-clause-means c =
 pub returns-in-Ok-clause-grows : goal.returns-in-Ok-clause-grows
 returns-in-Ok-clause-grows c =
     made_ends c.cells_are_known.ensures c.args.w.now c.room.new.self c.cons.new.self (PairCell c.args.a c.args.d)
-    c.in-Ok.ensures.counted (rw c.unwrap.ensures at c.cons.ensures.ok) refl c.requires.world
+    c.in-Ok.ensures.counted (rw c.unwrap.ensures at c.cons.ensures.ok) refl (omega arith) c.requires.world
 
 pub returns-in-Ok-clause-rest : goal.returns-in-Ok-clause-rest
 returns-in-Ok-clause-rest c = rest_made c.args.w.now c.room.new.self c.cons.new.self _ c.in-Ok.ensures.counted

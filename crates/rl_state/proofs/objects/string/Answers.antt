@@ -1,10 +1,10 @@
-use Rattle.std.proofs.Common.{refl, ◌∙◌}
+use Rattle.std.proofs.Common.{refl, ◌∙◌, arith}
 use Rattle.rl_cells.specs.Cell.{StrCell}
 use Rattle.rl_state.proofs.Made.{has_counted, made_ends, string_ends, string_stops, rest_made, rest_refl}
 use Rattle.rl_state.proofs.objects.string.Goals as goal
 
 pub unwrap-requires : goal.unwrap-requires
-unwrap-requires c = c.string.ensures.full ∙ has_counted c.args.w.now c.room.new.self _ _ c.in-Ok.ensures.counted c.requires.world (rw c.string_cost.ensures at c.in-Ok.ensures.ok)
+unwrap-requires c = c.string.ensures.full ∙ has_counted c.cells_are_known.ensures.enough c.args.w.now c.room.new.self _ _ c.in-Ok.ensures.counted c.requires.world (rw c.string_cost.ensures at c.in-Ok.ensures.ok)
 
 pub returns-in-Ok-clause-means : goal.returns-in-Ok-clause-means
 returns-in-Ok-clause-means c =
@@ -14,7 +14,7 @@ returns-in-Ok-clause-means c =
 pub returns-in-Ok-clause-grows : goal.returns-in-Ok-clause-grows
 returns-in-Ok-clause-grows c =
     made_ends c.cells_are_known.ensures c.args.w.now c.room.new.self c.string.new.self (StrCell c.args.bytes.now)
-    (rw c.string_cost.ensures at c.in-Ok.ensures.counted) (rw c.unwrap.ensures at c.string.ensures.ok) refl c.requires.world
+    (rw c.string_cost.ensures at c.in-Ok.ensures.counted) (rw c.unwrap.ensures at c.string.ensures.ok) refl (omega arith) c.requires.world
 
 pub returns-in-Ok-clause-rest : goal.returns-in-Ok-clause-rest
 returns-in-Ok-clause-rest c = rest_made c.args.w.now c.room.new.self c.string.new.self _ c.in-Ok.ensures.counted

@@ -1,4 +1,4 @@
-use Rattle.std.proofs.Common.{refl, ◌∙◌}
+use Rattle.std.proofs.Common.{refl, ◌∙◌, arith}
 use Rattle.std.specs.Prelude.{replicate}
 use Rattle.rl_tags.specs.Ids.{nil_id}
 use Rattle.rl_cells.specs.Cell.{VectorCell}
@@ -6,7 +6,7 @@ use Rattle.rl_state.proofs.Made.{has_counted, made_ends, vector_ends, vector_sto
 use Rattle.rl_state.proofs.objects.vector.Goals as goal
 
 pub unwrap-requires : goal.unwrap-requires
-unwrap-requires c = c.vector.ensures.full ∙ (has_counted c.args.w.now c.room.new.self _ _ c.in-Ok.ensures.counted c.requires.world (rw c.vector_cost.ensures at c.in-Ok.ensures.ok))
+unwrap-requires c = c.vector.ensures.full ∙ (has_counted c.cells_are_known.ensures.enough c.args.w.now c.room.new.self _ _ c.in-Ok.ensures.counted c.requires.world (rw c.vector_cost.ensures at c.in-Ok.ensures.ok))
 
 pub returns-in-Ok-clause-means : goal.returns-in-Ok-clause-means
 returns-in-Ok-clause-means c =
@@ -16,7 +16,7 @@ returns-in-Ok-clause-means c =
 pub returns-in-Ok-clause-grows : goal.returns-in-Ok-clause-grows
 returns-in-Ok-clause-grows c =
     made_ends c.cells_are_known.ensures c.args.w.now c.room.new.self c.vector.new.self (VectorCell (replicate c.args.places nil_id))
-    (rw c.vector_cost.ensures at c.in-Ok.ensures.counted) (rw c.unwrap.ensures at c.vector.ensures.ok) refl c.requires.world
+    (rw c.vector_cost.ensures at c.in-Ok.ensures.counted) (rw c.unwrap.ensures at c.vector.ensures.ok) refl (omega arith) c.requires.world
 
 pub returns-in-Ok-clause-rest : goal.returns-in-Ok-clause-rest
 returns-in-Ok-clause-rest c = rest_made c.args.w.now c.room.new.self c.vector.new.self _ c.in-Ok.ensures.counted

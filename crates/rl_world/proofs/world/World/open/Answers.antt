@@ -25,7 +25,8 @@ returns-clause-opened c =
 pub returns-clause-exact : goal.returns-clause-exact
 returns-clause-exact c =
     rw (ap (λ (s : CellStore). s.cells) c.cells-2.view_is) (record {
-      names = c.open.new.c.cells;
+      names = c.open.new.c;
+      first = c.in_ok-syms.ensures.first;
       table = c.in_ok-syms.ensures.table;
       opened = c.in_ok-syms.ensures.opened;
       cells_are = c.make_texts-texts.ensures.made;
