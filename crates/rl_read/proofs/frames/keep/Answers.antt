@@ -1,7 +1,7 @@
 use Rattle.std.proofs.Common.{ap}
 use Rattle.rl_world.specs.declared.world.World.{World}
-use Rattle.rl_read.proofs.Kept.{levels_alone, ready_pushed}
-use Rattle.rl_read.proofs.KeptOpening.{opened_pushed, opened_stops}
+use Rattle.rl_read.proofs.WalkKept.{levels_alone, ready_pushed}
+use Rattle.rl_read.proofs.GroupBegins.{opened_pushed, opened_stops}
 use Rattle.rl_read.proofs.frames.keep.Goals as goal
 
 pub returns-in-Ok-clause-ok : goal.returns-in-Ok-clause-ok

@@ -3,9 +3,9 @@ use Rattle.rl_tags.specs.Tagged.{PairAt}
 use Rattle.rl_cells.specs.Cell.{PairCell, grown}
 use Rattle.rl_world.specs.Counts.{roomed}
 use Rattle.rl_read.specs.Stock.{stock_of}
-use Rattle.rl_read.proofs.MadeStocks.{object_had, object_stopped}
-use Rattle.rl_read.proofs.MadeWorlds.{able_grown, making_grown, room_enough}
-use Rattle.rl_read.proofs.Counted.{room_counted}
+use Rattle.rl_read.proofs.ObjectMade.{object_had, object_stopped}
+use Rattle.rl_read.proofs.MakingKeepsNames.{able_grown, making_grown, room_enough}
+use Rattle.rl_read.proofs.StopsAreCounted.{room_counted}
 use Rattle.rl_read.proofs.make.pair.Goals as goal
 
 pub returns-in-Err-clause-stop : goal.returns-in-Err-clause-stop

@@ -7,11 +7,11 @@ use Rattle.rl_world.specs.Counts.{roomed}
 use Rattle.rl_world.specs.declared.world.World.{World}
 use Rattle.rl_read.specs.Stock.{elements_from, first_of_chain, stock_of}
 use Rattle.rl_read.specs.Frames.{AreReadyToMake, chain_of}
-use Rattle.rl_read.proofs.Counted.{room_counted}
-use Rattle.rl_read.proofs.MadeLists.{elements_counted, elements_few, first_live, vector_few, vector_lacks, vector_many, vector_world}
-use Rattle.rl_read.proofs.MadeStocks.{object_had, object_stopped}
-use Rattle.rl_read.proofs.MadeWorlds.{able_grown, making_grown, room_enough}
-use Rattle.rl_read.proofs.Making.{making_trans}
+use Rattle.rl_read.proofs.StopsAreCounted.{room_counted}
+use Rattle.rl_read.proofs.VectorOfList.{elements_counted, elements_few, first_live, vector_few, vector_lacks, vector_many, vector_world}
+use Rattle.rl_read.proofs.ObjectMade.{object_had, object_stopped}
+use Rattle.rl_read.proofs.MakingKeepsNames.{able_grown, making_grown, room_enough}
+use Rattle.rl_read.proofs.MakingStays.{making_trans}
 use Rattle.rl_read.proofs.make.vector.Goals as goal
 
 pub overflow_add-n : goal.overflow_add-n

@@ -1,8 +1,8 @@
 use Rattle.std.proofs.Common.{◌∙◌}
 use Rattle.rl_read.specs.Stock.{stock_of}
 use Rattle.rl_read.specs.Frames.{frames_in}
-use Rattle.rl_read.proofs.Ended.{between_ends, may_end_else, open_ends, refusal_of, refusal_same, same_place, word_ends}
-use Rattle.rl_read.proofs.Went.{ok_mapped}
+use Rattle.rl_read.proofs.TextEnds.{between_ends, may_end_else, open_ends, refusal_of, refusal_same, same_place, word_ends}
+use Rattle.rl_read.proofs.ElementEnds.{ok_mapped}
 use Rattle.rl_read.proofs.read.at_end.Goals as goal
 
 pub returns-in-Gap-clause-syntax : goal.returns-in-Gap-clause-syntax

@@ -11,13 +11,13 @@ use Rattle.rl_read.specs.Stock.{Stock, in_stock, stock_of}
 use Rattle.rl_read.specs.Frames.{CanMake, frames_in}
 use Rattle.rl_read.specs.Steps.{IsStep, step_of, mode_of}
 use Rattle.rl_read.specs.Reads.{IsRefusedText, IsStoppedText}
-use Rattle.rl_read.proofs.Making.{steady_refl, steady_trans}
-use Rattle.rl_read.proofs.FormedTold.{told_first, told_same, told_waits}
-use Rattle.rl_read.proofs.FormedKeeps.{keeps_refl, keeps_trans, keeps_given, keeps_back, keeps_levels, keeps_read, levels_back, steady_as, read_input, read_waiting, left_input, left_waiting}
-use Rattle.rl_read.proofs.FormedTurns.{goes_left, measure_falls, turns_fall}
-use Rattle.rl_read.proofs.FormedGoing.{going_first, kept_first, ready_first, passed_able, passed_levels, passed_ready, told_on, told_done, told_before, told_refused, told_halted, told_whole, told_none, told_end_refused, told_end_stopped, told_wants, wanted_is_counted, not_a_read, not_a_write, stop_same}
-use Rattle.rl_read.proofs.Ended.{levels_left, same_place}
-use Rattle.rl_read.proofs.Went.{ok_mapped as ok_then}
+use Rattle.rl_read.proofs.MakingStays.{steady_refl, steady_trans}
+use Rattle.rl_read.proofs.ToldByCalls.{told_first, told_same, told_waits}
+use Rattle.rl_read.proofs.ReadingKeeps.{keeps_refl, keeps_trans, keeps_given, keeps_back, keeps_levels, keeps_read, levels_back, steady_as, read_input, read_waiting, left_input, left_waiting}
+use Rattle.rl_read.proofs.MakingTakesNoTurn.{goes_left, measure_falls, turns_fall}
+use Rattle.rl_read.proofs.ByteByByte.{going_first, kept_first, ready_first, passed_able, passed_levels, passed_ready, told_on, told_done, told_before, told_refused, told_halted, told_whole, told_none, told_end_refused, told_end_stopped, told_wants, wanted_is_counted, not_a_read, not_a_write, stop_same}
+use Rattle.rl_read.proofs.TextEnds.{levels_left, same_place}
+use Rattle.rl_read.proofs.ElementEnds.{ok_mapped as ok_then}
 use Rattle.rl_read.proofs.read.read_form.Goals as goal
 use Rattle.rl_read.proofs.read.read_form.Goals.{then-not-used, else-not-used}
 use Rattle.rl_world.specs.declared.world.World.{World}

@@ -3,7 +3,7 @@ use Rattle.rl_text.specs.Reader as reader
 use Rattle.rl_text.specs.Byte as byte
 use Rattle.rl_read.specs.Stock.{in_stock, stock_of}
 use Rattle.rl_read.specs.Frames.{frames_in}
-use Rattle.rl_read.proofs.Went.{halts_same, steps_same, steps_with}
+use Rattle.rl_read.proofs.ElementEnds.{halts_same, steps_same, steps_with}
 use Rattle.rl_read.proofs.step.at_gap.Goals as goal
 
 pub returns-in-Text-clause-step : goal.returns-in-Text-clause-step

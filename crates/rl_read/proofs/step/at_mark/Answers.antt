@@ -4,7 +4,7 @@ use Rattle.rl_read.specs.Stock.{in_stock, stock_of}
 use Rattle.rl_read.specs.Frames.{frames_in}
 use Rattle.rl_text.specs.ByteClass.{mark_of}
 use Rattle.rl_text.specs.declared.bytes.Mark.{Mark}
-use Rattle.rl_read.proofs.Went.{halts_same, steps_same}
+use Rattle.rl_read.proofs.ElementEnds.{halts_same, steps_same}
 use Rattle.rl_read.proofs.step.at_mark.Goals as goal
 
 pub returns-in-Close-clause-ok : goal.returns-in-Close-clause-ok

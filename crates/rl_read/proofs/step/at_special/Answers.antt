@@ -2,8 +2,8 @@ use Rattle.std.proofs.Common.{◌≡◌, true, ap, sym, ◌∙◌, []}
 use Rattle.rl_text.specs.Reader as reader
 use Rattle.rl_read.specs.Stock.{stock_of}
 use Rattle.rl_read.specs.Frames.{frames_in}
-use Rattle.rl_read.proofs.KeptSteps.{admits_ready}
-use Rattle.rl_read.proofs.Went.{special_taken}
+use Rattle.rl_read.proofs.GroupAdmits.{admits_ready}
+use Rattle.rl_read.proofs.ElementEnds.{special_taken}
 use Rattle.rl_read.proofs.step.at_special.Goals as goal
 
 pub returns-in-Ok-clause-ok : goal.returns-in-Ok-clause-ok

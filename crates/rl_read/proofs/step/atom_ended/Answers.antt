@@ -1,6 +1,6 @@
 use Rattle.rl_read.specs.Steps.{atom_meant}
-use Rattle.rl_read.proofs.Making.{ready_stays, reading_of_making, reading_trans}
-use Rattle.rl_read.proofs.Went.{atom_goes, ends_same, lacks_same}
+use Rattle.rl_read.proofs.MakingStays.{ready_stays, reading_of_making, reading_trans}
+use Rattle.rl_read.proofs.ElementEnds.{atom_goes, ends_same, lacks_same}
 use Rattle.rl_read.proofs.step.atom_ended.Goals as goal
 
 pub value_ended-requires-clause-ready : goal.value_ended-requires-clause-ready

@@ -2,9 +2,9 @@ use Rattle.std.proofs.Common.{ap, ◌∙◌}
 use Rattle.rl_read.specs.Stock.{stock_of}
 use Rattle.rl_read.specs.Frames.{frames_in}
 use Rattle.rl_read.specs.Steps.{ended_of, word_atom}
-use Rattle.rl_read.proofs.Making.{reading_trans}
-use Rattle.rl_read.proofs.Went.{halts_same, steps_same}
-use Rattle.rl_read.proofs.BytesBefore.{inside_before}
+use Rattle.rl_read.proofs.MakingStays.{reading_trans}
+use Rattle.rl_read.proofs.ElementEnds.{halts_same, steps_same}
+use Rattle.rl_read.proofs.ByteInWord.{inside_before}
 use Rattle.rl_read.proofs.step.before.Goals as goal
 
 pub returns-in-Inside-clause-ok : goal.returns-in-Inside-clause-ok

@@ -1,6 +1,6 @@
 use Rattle.std.proofs.Common.{ap, ◌∙◌, []}
 use Rattle.rl_text.specs.Reader.{goes_after}
-use Rattle.rl_read.proofs.Closed.{bracket_around}
+use Rattle.rl_read.proofs.BracketsClose.{bracket_around}
 use Rattle.rl_read.proofs.step.bracket_ended.Goals as goal
 
 pub returns-in-Ok-clause-ok : goal.returns-in-Ok-clause-ok

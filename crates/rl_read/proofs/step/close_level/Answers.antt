@@ -3,9 +3,9 @@ use Rattle.rl_tags.specs.Tagged.{Tagged}
 use Rattle.rl_text.specs.Reader as reader
 use Rattle.rl_read.specs.Stock.{in_stock, stock_of}
 use Rattle.rl_read.specs.Frames.{frames_around}
-use Rattle.rl_read.proofs.Closed.{rest_is_ready, whole_closes}
-use Rattle.rl_read.proofs.Making.{reading_of_making}
-use Rattle.rl_read.proofs.Went.{halts_same, steps_same}
+use Rattle.rl_read.proofs.BracketsClose.{rest_is_ready, whole_closes}
+use Rattle.rl_read.proofs.MakingStays.{reading_of_making}
+use Rattle.rl_read.proofs.ElementEnds.{halts_same, steps_same}
 use Rattle.rl_read.proofs.step.close_level.Goals as goal
 
 pub returns-then-owed-eq0-clause-ok : goal.returns-then-owed-eq0-clause-ok

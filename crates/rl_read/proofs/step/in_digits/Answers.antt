@@ -2,8 +2,8 @@ use Rattle.std.proofs.Common.{◌≡◌, false, sym, ◌∙◌}
 use Rattle.rl_tree.specs.Bytes.{is_digit}
 use Rattle.rl_read.specs.Stock.{stock_of}
 use Rattle.rl_read.specs.Frames.{frames_in}
-use Rattle.rl_read.proofs.Went.{halts_same, steps_same}
-use Rattle.rl_read.proofs.BytesBefore.{digits_before, none_else_digits}
+use Rattle.rl_read.proofs.ElementEnds.{halts_same, steps_same}
+use Rattle.rl_read.proofs.ByteInWord.{digits_before, none_else_digits}
 use Rattle.rl_read.proofs.step.in_digits.Goals as goal
 
 pub returns-then-not-is_ascii_digit-clause-ok : goal.returns-then-not-is_ascii_digit-clause-ok

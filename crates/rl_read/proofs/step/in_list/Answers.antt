@@ -4,8 +4,8 @@ use Rattle.rl_read.specs.Stock.{stock_of}
 use Rattle.rl_read.specs.Frames.{chain_of}
 use Rattle.rl_read.specs.declared.frames.Phase.TheVariants as phase
 use Rattle.rl_read.specs.declared.frames.Group.TheVariants as group
-use Rattle.rl_read.proofs.Making.{chain_stays, ready_made}
-use Rattle.rl_read.proofs.Went.{kept_same, list_ended, list_lacks}
+use Rattle.rl_read.proofs.MakingStays.{chain_stays, ready_made}
+use Rattle.rl_read.proofs.ElementEnds.{kept_same, list_ended, list_lacks}
 use Rattle.std.proofs.Common.{sym}
 use Rattle.rl_read.proofs.step.in_list.Goals as goal
 

@@ -1,8 +1,8 @@
 use Rattle.std.proofs.Common.{◌∙◌, sym}
 use Rattle.rl_read.specs.Stock.{stock_of}
 use Rattle.rl_read.specs.Frames.{frames_in}
-use Rattle.rl_read.proofs.Went.{halts_same, steps_same}
-use Rattle.rl_read.proofs.BytesBefore.{name_before}
+use Rattle.rl_read.proofs.ElementEnds.{halts_same, steps_same}
+use Rattle.rl_read.proofs.ByteInWord.{name_before}
 use Rattle.rl_read.proofs.step.in_name.Goals as goal
 
 pub returns-then-b-ne33-clause-ok : goal.returns-then-b-ne33-clause-ok

@@ -4,8 +4,8 @@ use Rattle.rl_read.specs.Stock.{in_stock, stock_of}
 use Rattle.rl_read.specs.Frames.{frames_in}
 use Rattle.rl_read.specs.declared.frames.Group.{Group}
 use Rattle.rl_read.specs.declared.frames.Group.TheVariants as group
-use Rattle.rl_read.proofs.Making.{chain_stays, ready_made}
-use Rattle.rl_read.proofs.Went.{ends_same, group_in_place, lacks_same, root_ended, root_frames}
+use Rattle.rl_read.proofs.MakingStays.{chain_stays, ready_made}
+use Rattle.rl_read.proofs.ElementEnds.{ends_same, group_in_place, lacks_same, root_ended, root_frames}
 use Rattle.rl_read.proofs.step.in_place.Goals as goal
 
 pub returns-in-Ok-clause-ended : goal.returns-in-Ok-clause-ended

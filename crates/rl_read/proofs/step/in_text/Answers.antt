@@ -1,7 +1,7 @@
 use Rattle.rl_read.specs.Stock.{stock_of}
 use Rattle.rl_read.specs.Frames.{frames_in}
-use Rattle.rl_read.proofs.Went.{halts_same, steps_same}
-use Rattle.rl_read.proofs.BytesBefore.{quote_else, text_before}
+use Rattle.rl_read.proofs.ElementEnds.{halts_same, steps_same}
+use Rattle.rl_read.proofs.ByteInWord.{quote_else, text_before}
 use Rattle.rl_read.proofs.step.in_text.Goals as goal
 
 pub returns-else-b-eq34-2 : goal.returns-else-b-eq34-2

@@ -3,7 +3,7 @@ use Rattle.rl_tags.specs.Tagged.{Tagged}
 use Rattle.rl_text.specs.Reader as reader
 use Rattle.rl_read.specs.Stock.{in_stock, stock_of}
 use Rattle.rl_read.specs.Frames.{frames_in}
-use Rattle.rl_read.proofs.Went.{ends_same, lacks_same}
+use Rattle.rl_read.proofs.ElementEnds.{ends_same, lacks_same}
 use Rattle.rl_read.proofs.step.number_ended.Goals as goal
 
 pub returns-clause-ok : goal.returns-clause-ok

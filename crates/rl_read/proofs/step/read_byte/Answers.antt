@@ -4,7 +4,7 @@ use Rattle.rl_read.specs.Stock.{in_stock, stock_of}
 use Rattle.rl_read.specs.Frames.{frames_in}
 use Rattle.rl_read.specs.Steps.{mode_of}
 use Rattle.rl_read.specs.declared.word.Mode.{Mode}
-use Rattle.rl_read.proofs.Went.{halts_same, steps_same}
+use Rattle.rl_read.proofs.ElementEnds.{halts_same, steps_same}
 use Rattle.rl_read.proofs.step.read_byte.Goals as goal
 
 pub returns-in-Comment-clause-ok : goal.returns-in-Comment-clause-ok

@@ -1,6 +1,6 @@
 use Rattle.std.proofs.Common.{rules, sym, ◌∙◌}
-use Rattle.rl_read.proofs.Making.{ready_stays, reading_of_levels, reading_of_making, reading_trans}
-use Rattle.rl_read.proofs.Went.{ends_same, lacks_same, quote_goes, quote_lacks}
+use Rattle.rl_read.proofs.MakingStays.{ready_stays, reading_of_levels, reading_of_making, reading_trans}
+use Rattle.rl_read.proofs.ElementEnds.{ends_same, lacks_same, quote_goes, quote_lacks}
 use Rattle.rl_read.proofs.step.value_ended.Goals as goal
 
 pub returns-in-Err-clause-stop : goal.returns-in-Err-clause-stop

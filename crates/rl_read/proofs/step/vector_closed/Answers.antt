@@ -1,7 +1,7 @@
 use Rattle.std.proofs.Common.{[]}
-use Rattle.rl_read.proofs.Closed.{vector_closes}
-use Rattle.rl_read.proofs.Making.{ready_stays, reading_of_making, reading_trans}
-use Rattle.rl_read.proofs.Went.{halts_same, steps_same}
+use Rattle.rl_read.proofs.BracketsClose.{vector_closes}
+use Rattle.rl_read.proofs.MakingStays.{ready_stays, reading_of_making, reading_trans}
+use Rattle.rl_read.proofs.ElementEnds.{halts_same, steps_same}
 use Rattle.rl_read.proofs.step.vector_closed.Goals as goal
 
 pub bracket_ended-requires-clause-ready : goal.bracket_ended-requires-clause-ready

@@ -2,7 +2,7 @@ use Rattle.std.proofs.Common.{ap, sym, ◌∙◌}
 use Rattle.rl_text.specs.Word as word
 use Rattle.rl_read.specs.Steps.{word_atom}
 use Rattle.rl_read.specs.declared.word.Mode.{Mode}
-use Rattle.rl_read.proofs.Went.{atoms_same, ends_same, lacks_same, quote_mode}
+use Rattle.rl_read.proofs.ElementEnds.{atoms_same, ends_same, lacks_same, quote_mode}
 use Rattle.rl_read.proofs.step.word_ended.Goals as goal
 
 pub returns-in-Name-clause-ok : goal.returns-in-Name-clause-ok

@@ -13,7 +13,7 @@ use Rattle.rl_read.specs.declared.frames.Phase.TheVariants as phase
 use Rattle.rl_read.specs.declared.frames.Group.{Group}
 use Rattle.rl_read.specs.declared.frames.Group.TheVariants as group
 use Rattle.rl_read.specs.declared.frames.Opening.{Opening}
-use Rattle.rl_read.proofs.Kept.{root_frames}
+use Rattle.rl_read.proofs.WalkKept.{root_frames}
 use Rattle.rl_world.specs.Walks.{kept_above}
 
 -- a spelling may stand there

@@ -24,8 +24,8 @@ use Rattle.rl_read.specs.declared.frames.Group.TheVariants as group
 use Rattle.rl_read.specs.declared.read.ReadFault.{ReadFault}
 use Rattle.rl_read.specs.declared.read.ReadFault.TheVariants as fault
 use Rattle.std.specs.List.{AllByRecursion}
-use Rattle.rl_read.proofs.Counted.{tick_counted}
-use Rattle.rl_read.proofs.FormedTaken.{takes_first, takes_then}
+use Rattle.rl_read.proofs.StopsAreCounted.{tick_counted}
+use Rattle.rl_read.proofs.TakenByCalls.{takes_first, takes_then}
 
 -- ---- a byte was given
 

@@ -16,8 +16,8 @@ use Rattle.rl_text.specs.Word.{Atom, Integer, Identifier, String, datum_of_atom}
 use Rattle.rl_world.specs.Counts.{room_stop, roomed}
 use Rattle.rl_world.specs.declared.stop.Stop.{Stop}
 use Rattle.rl_read.specs.Stock.{Stock, and_then_made, atom_made, identifier_at, identifier_made, named_among, object_made, pair_made, quote_made, with_room, with_room_at}
-use Rattle.rl_read.proofs.MadeNames.{longer_with_id}
-use Rattle.rl_read.proofs.Standing.{Heap, IsHeap, Stands, Keeps, keeps_refl, keeps_trans, stands_kept, stands_wider, size}
+use Rattle.rl_read.proofs.NameEntered.{longer_with_id}
+use Rattle.rl_read.proofs.ValueStands.{Heap, IsHeap, Stands, Keeps, keeps_refl, keeps_trans, stands_kept, stands_wider, size}
 
 -- what the crates below say of cells and names
 pub record AreLaws : Type 0 where

@@ -19,7 +19,7 @@ use Rattle.rl_read.specs.declared.frames.Phase.{Phase}
 use Rattle.rl_read.specs.declared.frames.Phase.TheVariants as phase
 use Rattle.rl_read.specs.declared.frames.Group.{Group}
 use Rattle.rl_read.specs.declared.frames.Group.TheVariants as group
-use Rattle.rl_read.proofs.Making.{making_levels}
+use Rattle.rl_read.proofs.MakingStays.{making_levels}
 use Rattle.rl_world.specs.Walks.{kept_above}
 
 -- ---- answers

@@ -14,7 +14,7 @@ use Rattle.rl_read.specs.declared.frames.Group.{Group}
 use Rattle.rl_read.specs.declared.frames.Group.TheVariants as group
 use Rattle.rl_read.specs.declared.frames.Opening.{Opening}
 use Rattle.rl_read.specs.declared.frames.Opening.TheVariants as opening
-use Rattle.rl_read.proofs.Kept.{inner_frames, root_frames}
+use Rattle.rl_read.proofs.WalkKept.{inner_frames, root_frames}
 use Rattle.rl_world.specs.Walks.{kept_above}
 
 -- a list in what takes a level is no list behind a dot
