@@ -19,3 +19,4 @@ pub mod Digits
 pub mod Gensyms
 pub mod Beginning
 pub mod BareShown
+pub mod Printings
