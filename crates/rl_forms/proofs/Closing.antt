@@ -15,7 +15,7 @@ use Rattle.rl_world.specs.Waiting.{Follows, IsCutOff}
 use Rattle.rl_world.specs.declared.world.World.{World}
 use Rattle.rl_print.specs.Laws.{PiecesGoOn}
 use Rattle.rl_forms.specs.BuiltForms.{page_after}
-use Rattle.rl_forms.specs.Meaning.{Meaning, Finished, Unbuilt, data_in, file_meaning, meaning_of_forms, nothing_printed, empty_page, IsUnbuilt}
+use Rattle.rl_forms.specs.Meaning.{Meaning, Finished, Unbuilt, data_in, file_meaning, meaning_of_forms, nothing_printed, empty_page}
 use Rattle.rl_forms.specs.KnownData.{IsBeginning, datum_in}
 use Rattle.rl_forms.specs.SeenForms.{are_built}
 use Rattle.rl_forms.specs.Appended.{Appended, AppendedFront}

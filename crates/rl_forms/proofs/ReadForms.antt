@@ -1,18 +1,23 @@
 -- What reading a form makes of the world, and of what is still to be read.
-use Rattle.std.proofs.Common.{◌≡◌, ℕ, ◌<◌, ◌-◌, List, [], ◌∷◌, ◌++◌, length, map, Option, Some, None, refl, sym, ap, ◌∙◌, append_assoc, false}
+use Rattle.std.proofs.Common.{◌≡◌, ℕ, ◌<◌, ◌-◌, List, [], ◌∷◌, ◌++◌, length, drop, map, Option, Some, None, refl, sym, ap, ◌∙◌, subst, append_assoc, false}
 use Rattle.std.specs.Prelude.{option_map}
 use Rattle.std.specs.List.{All}
 use Rattle.std.proofs.lemmas.List.{append-nil, map-append}
+use Rattle.std.proofs.lemmas.Bool.{eqb-true}
+use Rattle.std.proofs.Math.Seq.{drop-length}
 use Rattle.std.proofs.lemmas.List.Elements.{All-weaker}
 use Rattle.rl_tags.specs.Tagged.{Tagged}
 use Rattle.rl_syms.specs.Table.{IsTable}
 use Rattle.rl_text.specs.Datum.{Datum}
 use Rattle.rl_text.specs.Laws.{FindsSpelled, FindsNone, RefusesFirst}
 use Rattle.rl_text.specs.Reader.{Read, NoneLeft, read_by}
+use Rattle.rl_read.specs.Given.{Slice, slice_left, unread_slice}
+use Rattle.rl_read.specs.Taken.{MayCome, TakesBytes}
 use Rattle.rl_read.specs.Stock.{Stock, in_stock, stock_of}
 use Rattle.rl_read.specs.Reads as reads
 use Rattle.rl_read.specs.Reads.{IsRefusedText}
 use Rattle.rl_read.specs.Laws.{ReadsText, ReadsData, IsNamedStock}
+use Rattle.rl_world.specs.Input.{with_back}
 use Rattle.rl_world.specs.declared.world.World.{World}
 use Rattle.rl_forms.specs.Meaning.{data_in}
 use Rattle.rl_forms.specs.KnownData.{IsKnown, IsRunning, KeepsKnown, datum_in}
@@ -41,6 +46,14 @@ read_running w v is table k = record {
 -- nothing is printed
 pub read_output : (w v : World) → reads.KeepsByReading w v → v.output.waiting ≡ w.output.waiting → v.output ≡ w.output
 read_output w v k e = ap (λ (w : World). w.output) k.world ∙ ap (λ bytes. record w.output { waiting = bytes }) e
+
+-- ---- what is left of a file
+
+-- what holds whatever may come behind the bytes that were taken holds of the bytes that are left
+pub slice_told : (s t : Slice) (P : List ℕ → List ℕ → Type 0) → TakesBytes (unread_slice s) (unread_slice t) P → P (slice_left s) (slice_left t)
+slice_told s t P h =
+    let none : MayCome (unread_slice s) (drop s.at s.bytes) = λ e. ap (λ n. drop n s.bytes) (eqb-true s.at (length s.bytes) e) ∙ drop-length s.bytes in
+    subst (λ bytes. P (with_back s.returned bytes) (slice_left t)) (sym h.told) (h.means (drop t.at t.bytes) (h.dry none))
 
 -- ---- a form
 

@@ -2,6 +2,7 @@
 ghost use Rattle.std.specs.Prelude.{◌≡◌, IfOk, OnErr, is_ok};
 ghost use Rattle.rl_cells.specs.Cell.{has_room};
 ghost use Rattle.rl_text.specs.Datum.{Pair};
+ghost use Rattle.rl_read.specs.Frames.{CanMake};
 ghost use Rattle.rl_forms.specs.KnownData.{IsBeginning, IsKnown, IsRunning, KeepsKnown, StandsForDatum, datum_in};
 ghost use Rattle.rl_forms.specs.SeenValues.{Sees};
 
@@ -9,6 +10,7 @@ use rl_io::OutOfMemory;
 use rl_read::laws::pairs_are_data;
 use rl_syms::laws::{others_leave_identifiers, table_is_kept};
 use rl_tags::{Tag, Val};
+use rl_world::laws::bounds_are_kept;
 use rl_world::{Limits, World};
 use std::alloc::Global;
 
@@ -31,8 +33,10 @@ pub(crate) enum Look {
 
 /// The world as a run begins: opening has ended, and nothing was printed.
 pub(crate) fn open(alloc: Global) -> Result<World, OutOfMemory>
-    ensures { IfOk result IsBeginning }
+    ensures beginning { IfOk result IsBeginning }
+    ensures able { IfOk result CanMake }
 {
+    bounds_are_kept();
     let limits = Limits {
         turns: TURNS,
         cells: CELLS,

@@ -1,5 +1,6 @@
 //! The forms of a file.
 ghost use Rattle.std.specs.Prelude.{◌≡◌, IfOk, IfSome};
+ghost use Rattle.rl_read.specs.Frames.{CanMake};
 ghost use Rattle.rl_forms.specs.Meaning.{data_in};
 ghost use Rattle.rl_forms.specs.KnownData.{IsRunning};
 ghost use Rattle.rl_forms.specs.ReadForms.{AreRead, data_told};
@@ -18,7 +19,8 @@ pub(crate) fn forms_in(
     world: &mut World,
     bytes: &[u8],
 ) -> Result<Option<Vec<Val>>, OutOfMemory>
-    requires { IsRunning world.old }
+    requires running { IsRunning world.old }
+    requires able { CanMake world.old }
     ensures read { IfOk result (λ forms. data_told world.new forms ≡ data_in bytes.now) }
     ensures forms { IfOk result (λ forms. IfSome forms (λ forms. AreRead world.old world.new forms.items)) }
 {

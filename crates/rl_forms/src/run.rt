@@ -2,6 +2,7 @@
 ghost use Rattle.std.specs.Prelude.{◌≡◌, ◌≢◌, ◌≤◌, true, length, IfOk};
 ghost use Rattle.std.specs.List.{All};
 ghost use Rattle.rl_io.specs.Faults.{Rose};
+ghost use Rattle.rl_read.specs.Frames.{CanMake};
 ghost use Rattle.rl_forms.specs.KnownData.{IsBeginning, IsKnown};
 ghost use Rattle.rl_forms.specs.SeenForms.{are_built};
 ghost use Rattle.rl_forms.specs.FileForms.{AreFormsOf, PrintsForms, output_of};
@@ -67,6 +68,7 @@ fn built_forms(
 ) -> Result<Option<Vec<Val>>, OutOfMemory>
     requires short { length file.now ≤ 4096 }
     requires beginning { IsBeginning world.old }
+    requires able { CanMake world.old }
     ensures { IfOk result (λ forms. AreFormsOf file.now world.new forms) }
 {
     let Some(forms) = forms_in(alloc, world, file)? else {

@@ -6,7 +6,6 @@ mod CountsFallInHolding
 mod CountsFallInVariables
 mod CountsFallInNatives
 mod CountsFallInPrinting
-mod Reading
 mod CountsFallInReading
 mod CountsFallInEachNative
 mod SameOutcomes
@@ -20,7 +19,6 @@ mod HoldingUnderWiderBounds
 mod ReachUnderWiderBounds
 mod NativesUnderWiderBounds
 mod PrintingUnderWiderBounds
-mod ReadingTwice
 mod ReadingUnderWiderBounds
 mod EachNativeUnderWiderBounds
 mod WaysUnderWiderBounds

@@ -1,11 +1,11 @@
 -- More turns than are left bound no walk and no comparison: where visits give none back, each pair that is reached has its turn.
 use Rattle.std.proofs.Common.{◌≡◌, ◌≤◌, ◌<◌, ◌==◌, ℕ, zero, suc, Bool, true, false, List, [], ◌∷◌, length, Option, Some, None, refl, ap, ◌∙◌, arith}
 use Rattle.rl_tree.specs.Value.{Value}
-use Rattle.rl_meaning.specs.State.{State, Counts, Expansion}
-use Rattle.rl_meaning.specs.Outcome.{Outcome, Done, Failed, Went, Returned, Stopped, then_do, choose, run_turn, expansion_turn, turn_of, turn, turns_of, turns_left, Levels, in_levels, deeper, descends, pair_turn}
+use Rattle.rl_meaning.specs.State.{State, Expansion}
+use Rattle.rl_meaning.specs.Outcome.{Outcome, Done, Failed, Went, Returned, Stopped, then_do, choose, run_turn, expansion_turn, turn_of, turn, turns_of, turns_left, Levels, in_levels, descends}
 use Rattle.rl_meaning.specs.Symbols.{same, pair_at, vector_at}
 use Rattle.rl_meaning.specs.Constants.{reading_object}
-use Rattle.rl_meaning.specs.Walks.{Further, Goes, Ends, Walked, walk_on, walk_pair, walk_within, walk, Comparison, both, reading_both, places_equal, vectors_equal, objects_equal, equal_at, equal_within, equal}
+use Rattle.rl_meaning.specs.Walks.{Further, Goes, Ends, Walked, walk_on, walk_pair, walk_within, walk, Comparison, both, reading_both, places_equal, vectors_equal, objects_equal, equal_at, equal_within}
 use Rattle.rl_meaning.specs.WalkLaws.{LeavesAtMost, GivesNoTurnsBack, no_turn, AreWalksUnbounded, equal_parts, IsEqualUnbounded}
 use Rattle.rl_meaning.proofs.CountsFall.{IsNoMoreInside, AreNoMore, LeavesNoMore}
 use Rattle.rl_meaning.proofs.CountsFallInWalks.{equal_within_spends, equal_spends}

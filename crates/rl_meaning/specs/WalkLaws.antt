@@ -5,7 +5,7 @@ use Rattle.rl_meaning.specs.State.{State, Expansion}
 use Rattle.rl_meaning.specs.Outcome.{Outcome, Done, Stopped, Stop, Turns, Expands, then_do, turn, turns_left, Levels}
 use Rattle.rl_meaning.specs.Symbols.{pair_at}
 use Rattle.rl_meaning.specs.Constants.{reading_object}
-use Rattle.rl_meaning.specs.Walks.{Further, Walked, walk_on, walk_within, walk, Comparison, equal_at, equal_within, equal}
+use Rattle.rl_meaning.specs.Walks.{Further, walk_on, walk_within, walk, Comparison, equal_at, equal_within, equal}
 
 -- where it goes on, no more than these turns may be taken
 abbrev pub LeavesAtMost : {A : Type 0} → ℕ → Outcome A → Type 0

@@ -19,7 +19,7 @@ use Rattle.rl_print.specs.declared.walk.State.TheVariants as state
 use Rattle.rl_print.proofs.After.{IsAfter, after_refl, and_then_after, marked_after, places_after, rest_after, value_after}
 use Rattle.rl_print.proofs.Shown.{Writes, cut_more, follows_more}
 use Rattle.rl_print.proofs.Turns.{whole_after}
-use Rattle.rl_world.specs.Walks.{IsSteady, steady_trans}
+use Rattle.rl_world.specs.Walks.{IsSteady}
 
 -- ---- what waits only adds to the text
 
@@ -174,7 +174,12 @@ pub printing_more : (base : ℕ) (a b c : World) → IsPrinting base a b → IsP
 printing_more base a b c p q = record {
   world = q.world ∙ ap (λ (w : World). record w { counts = c.counts; levels = c.levels; output = record w.output { waiting = c.output.waiting; column = c.output.column } }) p.world;
   ticked = ticked_more a.counts b.counts c.counts p.ticked q.ticked;
-  steady = steady_trans base a.levels b.levels c.levels p.steady q.steady;
+  steady = record {
+    below = q.steady.below ∙ p.steady.below;
+    level = let l = p.steady.level in let m = q.steady.level in omega (arith, l, m);
+    bound = q.steady.bound ∙ p.steady.bound;
+    aside = q.steady.aside ∙ p.steady.aside;
+  };
 }
 
 -- at the end the levels are as they were

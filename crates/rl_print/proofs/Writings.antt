@@ -1,6 +1,6 @@
 -- Calls that write, one after another.
 use Rattle.std.proofs.Common.{◌≡◌, ℕ, List, Option, Some, None, refl, sym, ap, subst, ◌∙◌}
-use Rattle.std.specs.Prelude.{◌≢◌, Result, Ok, Err}
+use Rattle.std.specs.Prelude.{◌≢◌, Result, Err}
 use Rattle.rl_io.specs.declared.traits.Io.{Io}
 use Rattle.rl_tree.specs.Printing.{Ending, Whole, NoTurn, TooDeep}
 use Rattle.rl_world.specs.Counts.{WorldCounts}

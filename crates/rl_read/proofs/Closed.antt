@@ -10,7 +10,7 @@ use Rattle.rl_text.specs.Reader as reader
 use Rattle.rl_world.specs.declared.world.World.{World}
 use Rattle.rl_world.specs.declared.stop.Stop.{Stop}
 use Rattle.rl_read.specs.Stock.{Stock, PairChain, in_stock, stock_of, first_of_chain, vector_made}
-use Rattle.rl_read.specs.Frames.{IsChain, IsGroup, IsMaking, IsReadyToRead, chain_of, phase_of, frames_in, frames_around, frames_kept, group_admits, vector_in_group}
+use Rattle.rl_read.specs.Frames.{CanMake, IsChain, IsGroup, IsMaking, IsReadyToRead, chain_of, phase_of, frames_in, frames_around, frames_kept, group_admits, vector_in_group}
 use Rattle.rl_read.specs.Steps.{inner_ended}
 use Rattle.rl_read.specs.declared.frames.Chain.TheVariants as chain
 use Rattle.rl_read.specs.declared.frames.Phase.{Phase}
@@ -67,10 +67,10 @@ rest_closes t base old new g c n p is some not m ended =
     ∙ inner_closes t p not (chain_of c) (chain_of c) (n - 1) fs (stock_of old) (stock_of new) ended
     ∙ ap (λ fs. Goes Gap (Listing (chain_of c) (n - 1) Shut ∷ fs) (stock_of new)) (sym (kept_same base old new m))
 
-pub rest_is_ready : (base : ℕ) (old new : World) (g : Group) (c : chain.the_data) (n : ℕ) (p : Phase) → g ≡ group.List c n p → IsReadyToRead base old g → IsMaking old new → IsTable new.cells.cells new.syms.head → IsReadyToRead base new (group.List c (n - 1) phase.Shut)
-rest_is_ready base old new g c n p is r m table =
+pub rest_is_ready : (base : ℕ) (old new : World) (g : Group) (c : chain.the_data) (n : ℕ) (p : Phase) → g ≡ group.List c n p → IsReadyToRead base old g → IsMaking old new → CanMake new → IsReadyToRead base new (group.List c (n - 1) phase.Shut)
+rest_is_ready base old new g c n p is r m able =
     let list : IsGroup old.cells.cells (group.List c n p) = subst (λ (g : Group). IsGroup old.cells.cells g) is r.group_is in
-    ready_made base old new g (group.List c (n - 1) phase.Shut) r m table
+    ready_made base old new g (group.List c (n - 1) phase.Shut) r m able
     (chain_stays old.cells.cells new.cells.cells c m.live list.0, omega (arith, list.1, m.longer))
     (λ e. absurd cc)
 

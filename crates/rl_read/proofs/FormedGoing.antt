@@ -4,13 +4,16 @@ use Rattle.std.specs.Prelude.{Option, Some, None, min, Result, Err}
 use Rattle.rl_tags.specs.Tagged.{Tagged}
 use Rattle.rl_text.specs.Maker.{Has, Wants}
 use Rattle.rl_text.specs.Reader.{ReaderFrame, Gap, Mode, ReaderStep, Goes, Done, Refuses, Halts, NoneLeft, Read, Refused, Stopped, after_step, after_turn, at_end, read_by, read_from, reader_step}
-use Rattle.rl_world.specs.Counts.{WorldCounts}
-use Rattle.rl_io.specs.Told.{WhereTold}
+use Rattle.rl_world.specs.Counts.{WorldCounts, ticked, ticked_at}
+use Rattle.rl_world.specs.Bounds.{AreBoundsKept, IsMakingCounted}
+use Rattle.rl_world.specs.declared.counts.Aside.{Aside}
+use Rattle.rl_world.specs.declared.counts.Expansion.{Expansion}
+use Rattle.rl_read.specs.Taken.{Unread, TakesBytes}
 use Rattle.rl_world.specs.Input.{Gives, Input}
 use Rattle.rl_world.specs.Levels.{WorldLevels}
 use Rattle.rl_world.specs.declared.world.World.{World}
 use Rattle.rl_world.specs.declared.stop.Stop.{Stop}
-use Rattle.rl_read.specs.Frames.{IsKeptByReading, IsReadyToRead, frames_in, frames_of, frames_kept}
+use Rattle.rl_read.specs.Frames.{AreReadyToMake, CanMake, IsKeptByReading, IsReadyToRead, frames_in, frames_of, frames_kept}
 use Rattle.rl_world.specs.Walks.{kept_above}
 use Rattle.rl_world.specs.declared.stop.Stop.TheVariants as stop
 use Rattle.rl_read.specs.Given.{IsGiven, WantsTurn, is_counted, is_fault}
@@ -20,10 +23,9 @@ use Rattle.rl_read.specs.declared.frames.Group.{Group}
 use Rattle.rl_read.specs.declared.frames.Group.TheVariants as group
 use Rattle.rl_read.specs.declared.read.ReadFault.{ReadFault}
 use Rattle.rl_read.specs.declared.read.ReadFault.TheVariants as fault
-use Rattle.rl_syms.specs.Table.{IsTable}
 use Rattle.std.specs.List.{AllByRecursion}
 use Rattle.rl_read.proofs.Counted.{tick_counted}
-use Rattle.rl_read.proofs.FormedTold.{told_first, told_through}
+use Rattle.rl_read.proofs.FormedTaken.{takes_first, takes_then}
 
 -- ---- a byte was given
 
@@ -40,8 +42,39 @@ passed_frames base old new g e = ap (λ (l : WorldLevels). frames_of g (frames_k
 pub passed_stock : (old new : World) → IsPassed old new → stock_of new ≡ record (stock_of old) { counts = new.counts }
 passed_stock old new e = ap (λ (w : World). stock_of w) e
 
-pub passed_ready : (base : ℕ) (old new : World) (g : Group) → IsPassed old new → IsReadyToRead base old g → IsReadyToRead base new g
-passed_ready base old new g e r = subst (λ (w : World). IsReadyToRead base w g) (sym e) (record { table = r.table; above = r.above; kept = r.kept; group_is = r.group_is; root = r.root })
+-- a turn changes nothing of what counts
+counted_again : (aside : Option Aside) (e f : Expansion) (mark : Option ℕ) → IsMakingCounted aside (Some e) mark → IsMakingCounted aside (Some f) mark
+counted_again None e f mark h = tt
+counted_again (Some a) e f None h = absurd h
+counted_again (Some a) e f (Some mark) h = tt
+
+counted_ticked : (c : WorldCounts) (opening : Option ℕ) (e : Option Expansion) (mark : Option ℕ) → c.outermost ≡ e → IsMakingCounted c.aside e mark → IsMakingCounted (ticked_at opening e c).aside (ticked_at opening e c).outermost mark
+counted_ticked c (Some n) e mark is h = subst (λ (e : Option Expansion). IsMakingCounted c.aside e mark) (sym is) h
+counted_ticked c None None mark is h = subst (λ (e : Option Expansion). IsMakingCounted c.aside e mark) (sym is) h
+counted_ticked c None (Some e) mark is h = counted_again c.aside e (record e { turns = e.turns + 1 }) mark h
+
+-- where the counts are as they were, or one turn was taken, objects may be made as before
+able_same : (old new : World) → IsPassed old new → new.counts ≡ old.counts → CanMake old → CanMake new
+able_same old new e same able = subst (λ (w : World). CanMake w) (sym e) (subst (λ (c : WorldCounts). AreReadyToMake old.cells old.syms.head c) (sym same) able)
+
+able_ticked : AreBoundsKept → (old new : World) → IsPassed old new → new.counts ≡ ticked old.counts → CanMake old → CanMake new
+able_ticked law old new e is able =
+    subst (λ (w : World). CanMake w) (sym e) (subst (λ (c : WorldCounts). AreReadyToMake old.cells old.syms.head c) (sym is)
+    (record { table = able.table; bounds = law.ticked old.counts old.cells able.bounds; counted = counted_ticked old.counts old.counts.opening old.counts.outermost old.cells.mark refl able.counted }))
+
+able_given : AreBoundsKept → (turns : Bool) (old new : World) (b : Option ℕ) → IsGiven turns old new b → IsPassed old new → CanMake old → CanMake new
+able_given law true old new (Some b) g e able = able_ticked law old new e g.counted able
+able_given law true old new None g e able = able_same old new e g able
+able_given law false old new b g e able = able_same old new e g able
+
+pub passed_ready : AreBoundsKept → (turns : Bool) (base : ℕ) (old new : World) (g : Group) (b : Option ℕ) → IsGiven turns old new b → IsPassed old new → IsReadyToRead base old g → IsReadyToRead base new g
+passed_ready law turns base old new g b given e r =
+    let able : AreReadyToMake old.cells old.syms.head new.counts = subst (λ (w : World). AreReadyToMake w.cells w.syms.head new.counts) e (able_given law turns old new b given e r.able) in
+    subst (λ (w : World). IsReadyToRead base w g) (sym e) (record { able = able; above = r.above; kept = r.kept; group_is = r.group_is; root = r.root })
+
+-- no byte was given
+pub passed_able : (base : ℕ) (old new : World) (g : Group) → new.counts ≡ old.counts → IsPassed old new → IsReadyToRead base old g → CanMake new
+passed_able base old new g same e r = able_same old new e same r.able
 
 -- the counts are as they were
 pub passed_same : (old new : World) → IsPassed old new → new.counts ≡ old.counts → stock_of new ≡ stock_of old
@@ -143,43 +176,43 @@ module _ (turns : Bool) (start : World) (m : Mode) (fs : List (ReaderFrame PairC
 -- ---- where the bytes are told
 
 -- the start of a text
-pub going_first : (turns : Bool) (base : ℕ) (w : World) (told : Option (List ℕ)) → kept_above base w.levels ≡ [] → WhereTold told told (λ before now. IsGoing turns w Gap (frames_kept (kept_above base w.levels)) (stock_of w) 0 before now)
-going_first turns base w told none = told_first told (λ before now. IsGoing turns w Gap (frames_kept (kept_above base w.levels)) (stock_of w) 0 before now) (λ bytes. record {
+pub going_first : (turns : Bool) (base : ℕ) (w : World) (told : Unread) → kept_above base w.levels ≡ [] → TakesBytes told told (λ before now. IsGoing turns w Gap (frames_kept (kept_above base w.levels)) (stock_of w) 0 before now)
+going_first turns base w told none = takes_first told (λ before now. IsGoing turns w Gap (frames_kept (kept_above base w.levels)) (stock_of w) 0 before now) (λ bytes. record {
   same = sym (ap (λ ts. read_from (in_stock turns) Gap (frames_kept ts) (stock_of w) bytes) none);
   place = omega arith;
   shorter = omega arith;
 })
 
-module _ (turns turns_now : Bool) (same : turns_now ≡ turns) (start old new : World) (base : ℕ) (m : Mode) (group : Group) (count : ℕ) (a mid : Option (List ℕ)) (left : Input → Option (List ℕ))
-    (going : WhereTold a mid (λ before now. IsGoing turns start m (frames_in base old group) (stock_of old) count before now)) (passed : IsPassed old new)
-    (o : Option ℕ) (gives : WhereTold mid (left new.input) (λ before now. Gives before now o)) (turn : IsGiven turns_now old new o) where
+module _ (turns turns_now : Bool) (same : turns_now ≡ turns) (start old new : World) (base : ℕ) (m : Mode) (group : Group) (count : ℕ) (a mid : Unread) (left : Input → Unread)
+    (going : TakesBytes a mid (λ before now. IsGoing turns start m (frames_in base old group) (stock_of old) count before now)) (passed : IsPassed old new)
+    (o : Option ℕ) (gives : TakesBytes mid (left new.input) (λ before now. Gives before now o)) (turn : IsGiven turns_now old new o) where
   module _ (b : ℕ) (is : o ≡ Some b) (i : Input) (input : i ≡ new.input) where
     taken : turned turns (stock_of old) ≡ Has tt (stock_of new)
     taken = turn_given turns old new b (subst (λ (t : Bool). IsGiven t old new (Some b)) same (subst (λ (o : Option ℕ). IsGiven turns_now old new o) is turn)) passed
 
     -- what follows from the byte
-    pub told_byte : (P : List ℕ → List ℕ → Type 0) → ((before mid now : List ℕ) → IsGoing turns start m (frames_in base old group) (stock_of old) count before mid → mid ≡ b ∷ now → P before now) → WhereTold a (left i) P
-    told_byte P f = subst (λ (i : Input). WhereTold a (left i) P) (sym input)
-        (told_through a mid (left new.input) (λ before now. IsGoing turns start m (frames_in base old group) (stock_of old) count before now) (λ before now. Gives before now (Some b)) P f going (subst (λ (o : Option ℕ). WhereTold mid (left new.input) (λ before now. Gives before now o)) is gives))
+    pub told_byte : (P : List ℕ → List ℕ → Type 0) → ((before mid now : List ℕ) → IsGoing turns start m (frames_in base old group) (stock_of old) count before mid → mid ≡ b ∷ now → P before now) → TakesBytes a (left i) P
+    told_byte P f = subst (λ (i : Input). TakesBytes a (left i) P) (sym input)
+        (takes_then a mid (left new.input) (λ before now. IsGoing turns start m (frames_in base old group) (stock_of old) count before now) (λ before now. Gives before now (Some b)) P f going (subst (λ (o : Option ℕ). TakesBytes mid (left new.input) (λ before now. Gives before now o)) is gives))
 
-    pub told_on : (next : Mode) (more : List (ReaderFrame PairChain)) (made : Stock) (after : ℕ) → reader_step (in_stock turns) m b (frames_in base new group) (stock_of new) ≡ Goes next more made → after ≡ min (count + 1) (2 ^ 64 - 1) → WhereTold a (left i) (λ before now. IsGoing turns start next more made after before now)
+    pub told_on : (next : Mode) (more : List (ReaderFrame PairChain)) (made : Stock) (after : ℕ) → reader_step (in_stock turns) m b (frames_in base new group) (stock_of new) ≡ Goes next more made → after ≡ min (count + 1) (2 ^ 64 - 1) → TakesBytes a (left i) (λ before now. IsGoing turns start next more made after before now)
     told_on next more made after steps after_is = told_byte (λ before now. IsGoing turns start next more made after before now) (λ before mid now goes e. going_on turns start m (frames_in base old group) (stock_of old) count before mid goes b now (stock_of new) next more made after e taken (step_same turns base old new m b group passed ∙ steps) after_is)
 
-    pub told_done : (v : Tagged) (made : Stock) → reader_step (in_stock turns) m b (frames_in base new group) (stock_of new) ≡ Done v true made → WhereTold a (left i) (λ before now. read_by (in_stock turns) (stock_of start) before ≡ Read v made now)
+    pub told_done : (v : Tagged) (made : Stock) → reader_step (in_stock turns) m b (frames_in base new group) (stock_of new) ≡ Done v true made → TakesBytes a (left i) (λ before now. read_by (in_stock turns) (stock_of start) before ≡ Read v made now)
     told_done v made steps = told_byte (λ before now. read_by (in_stock turns) (stock_of start) before ≡ Read v made now) (λ before mid now goes e. done_with turns start m (frames_in base old group) (stock_of old) count before mid goes b now (stock_of new) v made e taken (step_same turns base old new m b group passed ∙ steps))
 
     -- the byte is put back
-    pub told_before : (v : Tagged) (made : Stock) (c : Option (List ℕ)) → reader_step (in_stock turns) m b (frames_in base new group) (stock_of new) ≡ Done v false made → WhereTold (left i) c (λ before now. now ≡ b ∷ before) → WhereTold a c (λ before now. read_by (in_stock turns) (stock_of start) before ≡ Read v made now)
+    pub told_before : (v : Tagged) (made : Stock) (c : Unread) → reader_step (in_stock turns) m b (frames_in base new group) (stock_of new) ≡ Done v false made → TakesBytes (left i) c (λ before now. now ≡ b ∷ before) → TakesBytes a c (λ before now. read_by (in_stock turns) (stock_of start) before ≡ Read v made now)
     told_before v made c steps back =
-        told_through a (left i) c (λ before now. read_by (in_stock turns) (stock_of start) before ≡ Read v made (b ∷ now)) (λ before now. now ≡ b ∷ before) (λ before now. read_by (in_stock turns) (stock_of start) before ≡ Read v made now)
+        takes_then a (left i) c (λ before now. read_by (in_stock turns) (stock_of start) before ≡ Read v made (b ∷ now)) (λ before now. now ≡ b ∷ before) (λ before now. read_by (in_stock turns) (stock_of start) before ≡ Read v made now)
         (λ x y z e d. e ∙ ap (λ bytes. Read v made bytes) (sym d))
         (told_byte (λ before now. read_by (in_stock turns) (stock_of start) before ≡ Read v made (b ∷ now)) (λ before mid now goes e. done_before turns start m (frames_in base old group) (stock_of old) count before mid goes b now (stock_of new) v made e taken (step_same turns base old new m b group passed ∙ steps)))
         back
 
-    pub told_refused : (made : Stock) (last : World) → reader_step (in_stock turns) m b (frames_in base new group) (stock_of new) ≡ Refuses made → record made { left = (stock_of last).left } ≡ stock_of last → WhereTold a (left i) (λ before now. IsRefusedText turns start last before now count)
+    pub told_refused : (made : Stock) (last : World) → reader_step (in_stock turns) m b (frames_in base new group) (stock_of new) ≡ Refuses made → record made { left = (stock_of last).left } ≡ stock_of last → TakesBytes a (left i) (λ before now. IsRefusedText turns start last before now count)
     told_refused made last steps stays = told_byte (λ before now. IsRefusedText turns start last before now count) (λ before mid now goes e. refused_at turns start m (frames_in base old group) (stock_of old) count before mid goes b now (stock_of new) made last e taken (step_same turns base old new m b group passed ∙ steps) stays)
 
-    pub told_halted : (made : Stock) (s : Stop) → reader_step (in_stock turns) m b (frames_in base new group) (stock_of new) ≡ Halts s made → WhereTold a (left i) (λ before now. IsStoppedText turns start before now s)
+    pub told_halted : (made : Stock) (s : Stop) → reader_step (in_stock turns) m b (frames_in base new group) (stock_of new) ≡ Halts s made → TakesBytes a (left i) (λ before now. IsStoppedText turns start before now s)
     told_halted made s steps = told_byte (λ before now. IsStoppedText turns start before now s) (λ before mid now goes e. halted_at turns start m (frames_in base old group) (stock_of old) count before mid goes b now (stock_of new) made s e taken (step_same turns base old new m b group passed ∙ steps))
 
   module _ (is : o ≡ None) (i : Input) (input : i ≡ new.input) where
@@ -187,42 +220,42 @@ module _ (turns turns_now : Bool) (same : turns_now ≡ turns) (start old new : 
     ends = end_same turns base old new m group passed (end_given turns old new (subst (λ (t : Bool). IsGiven t old new None) same (subst (λ (o : Option ℕ). IsGiven turns_now old new o) is turn)) passed)
 
     -- what follows from the end
-    pub told_end : (P : List ℕ → List ℕ → Type 0) → ((before mid now : List ℕ) → IsGoing turns start m (frames_in base old group) (stock_of old) count before mid → Gives mid now None → P before now) → WhereTold a (left i) P
-    told_end P f = subst (λ (i : Input). WhereTold a (left i) P) (sym input)
-        (told_through a mid (left new.input) (λ before now. IsGoing turns start m (frames_in base old group) (stock_of old) count before now) (λ before now. Gives before now None) P f going (subst (λ (o : Option ℕ). WhereTold mid (left new.input) (λ before now. Gives before now o)) is gives))
+    pub told_end : (P : List ℕ → List ℕ → Type 0) → ((before mid now : List ℕ) → IsGoing turns start m (frames_in base old group) (stock_of old) count before mid → Gives mid now None → P before now) → TakesBytes a (left i) P
+    told_end P f = subst (λ (i : Input). TakesBytes a (left i) P) (sym input)
+        (takes_then a mid (left new.input) (λ before now. IsGoing turns start m (frames_in base old group) (stock_of old) count before now) (λ before now. Gives before now None) P f going (subst (λ (o : Option ℕ). TakesBytes mid (left new.input) (λ before now. Gives before now o)) is gives))
 
-    pub told_whole : (v : Tagged) (made : Stock) → at_end (in_stock turns) m (frames_in base new group) (stock_of new) ≡ Read v made [] → WhereTold a (left i) (λ before now. read_by (in_stock turns) (stock_of start) before ≡ Read v made now)
+    pub told_whole : (v : Tagged) (made : Stock) → at_end (in_stock turns) m (frames_in base new group) (stock_of new) ≡ Read v made [] → TakesBytes a (left i) (λ before now. read_by (in_stock turns) (stock_of start) before ≡ Read v made now)
     told_whole v made e = told_end (λ before now. read_by (in_stock turns) (stock_of start) before ≡ Read v made now) (λ before mid now goes g. end_whole turns start m (frames_in base old group) (stock_of old) count before mid goes now v made g (ends ∙ e))
 
-    pub told_none : (made : Stock) → at_end (in_stock turns) m (frames_in base new group) (stock_of new) ≡ NoneLeft made → WhereTold a (left i) (λ before now. read_by (in_stock turns) (stock_of start) before ≡ NoneLeft made)
+    pub told_none : (made : Stock) → at_end (in_stock turns) m (frames_in base new group) (stock_of new) ≡ NoneLeft made → TakesBytes a (left i) (λ before now. read_by (in_stock turns) (stock_of start) before ≡ NoneLeft made)
     told_none made e = told_end (λ before now. read_by (in_stock turns) (stock_of start) before ≡ NoneLeft made) (λ before mid now goes g. end_read turns start m (frames_in base old group) (stock_of old) count before mid goes now (NoneLeft made) g (ends ∙ e))
 
-    pub told_end_refused : (last : World) (k : ℕ) → (k ≡ count) × IsRefusal last (λ t. at_end (in_stock t) m (frames_in base new group) (stock_of new)) [] → WhereTold a (left i) (λ before now. IsRefusedText turns start last before now k)
+    pub told_end_refused : (last : World) (k : ℕ) → (k ≡ count) × IsRefusal last (λ t. at_end (in_stock t) m (frames_in base new group) (stock_of new)) [] → TakesBytes a (left i) (λ before now. IsRefusedText turns start last before now k)
     told_end_refused last k r = told_end (λ before now. IsRefusedText turns start last before now k) (λ before mid now goes g. end_refused turns start m (frames_in base old group) (stock_of old) count before mid goes now last (λ t. at_end (in_stock t) m (frames_in base new group) (stock_of new)) k g ends r.1 r.0)
 
-    pub told_end_stopped : (s : Stop) → IsStopped (λ t. at_end (in_stock t) m (frames_in base new group) (stock_of new)) s [] → WhereTold a (left i) (λ before now. IsStoppedText turns start before now s)
+    pub told_end_stopped : (s : Stop) → IsStopped (λ t. at_end (in_stock t) m (frames_in base new group) (stock_of new)) s [] → TakesBytes a (left i) (λ before now. IsStoppedText turns start before now s)
     told_end_stopped s r = told_end (λ before now. IsStoppedText turns start before now s) (λ before mid now goes g. end_stopped turns start m (frames_in base old group) (stock_of old) count before mid goes now (λ t. at_end (in_stock t) m (frames_in base new group) (stock_of new)) s g ends r)
 
 -- no turn was left for a byte
-wants_turn : (turns : Bool) (mid now : Option (List ℕ)) (old new : World) (s : Stop) → WantsTurn turns mid now old new s → (turned turns (stock_of old) ≡ Wants s (stock_of old)) × WhereTold mid now (λ before now. (b : ℕ) × (before ≡ b ∷ now))
+wants_turn : (turns : Bool) (mid now : Unread) (old new : World) (s : Stop) → WantsTurn turns mid now old new s → (turned turns (stock_of old) ≡ Wants s (stock_of old)) × TakesBytes mid now (λ before now. (b : ℕ) × (before ≡ b ∷ now))
 wants_turn true mid now old new s w = (ap (λ x. turned_at x (stock_of old)) w.stop_is, w.given)
 wants_turn false mid now old new s w = absurd w
 
-pub told_wants : (turns turns_now : Bool) → turns_now ≡ turns → (start old new : World) (m : Mode) (fs : List (ReaderFrame PairChain)) (count : ℕ) (a mid now : Option (List ℕ)) (s : Stop) → WhereTold a mid (λ before now. IsGoing turns start m fs (stock_of old) count before now) → WantsTurn turns_now mid now old new s ⊎ (is_fault s ≡ true) → is_fault s ≡ false
-    → WhereTold a now (λ before now. IsStoppedText turns start before now s)
+pub told_wants : (turns turns_now : Bool) → turns_now ≡ turns → (start old new : World) (m : Mode) (fs : List (ReaderFrame PairChain)) (count : ℕ) (a mid now : Unread) (s : Stop) → TakesBytes a mid (λ before now. IsGoing turns start m fs (stock_of old) count before now) → WantsTurn turns_now mid now old new s ⊎ (is_fault s ≡ true) → is_fault s ≡ false
+    → TakesBytes a now (λ before now. IsStoppedText turns start before now s)
 told_wants turns turns_now same start old new m fs count a mid now s going why not = elim why [
   | inl w ↦
       let x = wants_turn turns mid now old new s (subst (λ (t : Bool). WantsTurn t mid now old new s) same w) in
-      told_through a mid now (λ before now. IsGoing turns start m fs (stock_of old) count before now) (λ before now. (b : ℕ) × (before ≡ b ∷ now)) (λ before now. IsStoppedText turns start before now s) (λ before mid now goes e. turn_wanted turns start m fs (stock_of old) count before mid goes e.0 now s e.1 x.0) going x.1
+      takes_then a mid now (λ before now. IsGoing turns start m fs (stock_of old) count before now) (λ before now. (b : ℕ) × (before ≡ b ∷ now)) (λ before now. IsStoppedText turns start before now s) (λ before mid now goes e. turn_wanted turns start m fs (stock_of old) count before mid goes e.0 now s e.1 x.0) going x.1
   | inr f ↦ absurd (let clash : true ≡ false = sym f ∙ not in cc)
 ]
 
 -- a turn is a counter's
-wants_counted : (turns : Bool) (mid now : Option (List ℕ)) (old new : World) (s : Stop) → WantsTurn turns mid now old new s → is_counted s ≡ true
+wants_counted : (turns : Bool) (mid now : Unread) (old new : World) (s : Stop) → WantsTurn turns mid now old new s → is_counted s ≡ true
 wants_counted true mid now old new s w = tick_counted old.counts s w.stop_is
 wants_counted false mid now old new s w = absurd w
 
-pub wanted_is_counted : (turns : Bool) (mid now : Option (List ℕ)) (old new : World) (s : Stop) → WantsTurn turns mid now old new s ⊎ (is_fault s ≡ true) → is_fault s ≡ false → is_counted s ≡ true
+pub wanted_is_counted : (turns : Bool) (mid now : Unread) (old new : World) (s : Stop) → WantsTurn turns mid now old new s ⊎ (is_fault s ≡ true) → is_fault s ≡ false → is_counted s ≡ true
 wanted_is_counted turns mid now old new s why not = elim why [ inl w ↦ wants_counted turns mid now old new s w | inr f ↦ absurd (let clash : true ≡ false = sym f ∙ not in cc) ]
 
 -- ---- what is not a fault of the input or the output
@@ -238,9 +271,9 @@ not_a_write s counted e = let clash : is_counted stop.Write ≡ true = subst (λ
 pub kept_first : (base : ℕ) (w : World) → base ≡ length w.levels.walk → kept_above base w.levels ≡ []
 kept_first base w e = let nothing : length w.levels.walk - base ≡ 0 = omega (arith, e) in ap (λ n. take n w.levels.walk) nothing
 
-pub ready_first : (base : ℕ) (w : World) → base ≡ length w.levels.walk → IsTable w.cells.cells w.syms.head → IsReadyToRead base w group.Root
-ready_first base w e table = record {
-  table = table;
+pub ready_first : (base : ℕ) (w : World) → base ≡ length w.levels.walk → CanMake w → IsReadyToRead base w group.Root
+ready_first base w e able = record {
+  able = able;
   above = omega (arith, e);
   kept = subst (λ (ts : List (ℕ × ℕ × ℕ)). AllByRecursion (IsKeptByReading w.cells.cells) ts) (sym (kept_first base w e)) tt;
   group_is = tt;

@@ -3,7 +3,7 @@ use Rattle.std.proofs.Common.{◌≡◌, ℕ, zero, suc, ◌+◌, ◌-◌, ◌*�
 use Rattle.std.specs.Prelude.{Option, Some, None, cond, nat_lt, nat_le}
 use Rattle.std.proofs.lemmas.Bool.{cond_both, ltb-true}
 use Rattle.rl_tags.specs.Tagged.{Tagged, PairAt, StrAt, VectorAt}
-use Rattle.rl_cells.specs.Cell.{Cell, PairCell, StrCell, VectorCell, cost_of, has_room}
+use Rattle.rl_cells.specs.Cell.{Cell, PairCell, StrCell, VectorCell, cost_of}
 use Rattle.rl_tree.specs.Bytes.{is_digit, is_name_byte, raised}
 use Rattle.rl_tree.specs.Name.{Name, quote_name}
 use Rattle.rl_text.specs.Byte.{Mark, Open, Close, Dot, Quote, OpenVector, CloseVector, Class, Blank, Percent, Marks, Text, Escape, Letter, Digit, Sign, Special, Nothing, class_of}
@@ -55,13 +55,12 @@ then_left : {A B : Type 0} (n : ℕ) (x : Made Stock A Stop) (f : A → Stock �
 then_left n (Has a k) f h g = g a k h
 then_left n (Wants s k) f h g = tt
 
-with_room_left_at : (n : ℕ) (s : Option Stop) (fits : Bool) (k : Stock) → Left n k → LeftMade n (with_room_at s fits k)
-with_room_left_at n (Some s) fits k h = tt
-with_room_left_at n None true k h = h
-with_room_left_at n None false k h = tt
+with_room_left_at : (n : ℕ) (s : Option Stop) (k : Stock) → Left n k → LeftMade n (with_room_at s k)
+with_room_left_at n (Some s) k h = tt
+with_room_left_at n None k h = h
 
 with_room_left : (n cost : ℕ) (k : Stock) → Left n k → LeftMade n (with_room cost k)
-with_room_left n cost k h = with_room_left_at n (room_stop k.counts k.cells cost) (has_room k.cells cost) (record k { counts = roomed k.counts cost }) (room_left k.counts.opening k.counts.outermost cost k.counts.turns k.counts.bound ∙ h)
+with_room_left n cost k h = with_room_left_at n (room_stop k.counts k.cells cost) (record k { counts = roomed k.counts cost }) (room_left k.counts.opening k.counts.outermost cost k.counts.turns k.counts.bound ∙ h)
 
 object_left : (n : ℕ) (at : ℕ → Tagged) (c : Cell) (k : Stock) → Left n k → LeftMade n (object_made at c k)
 object_left n at c k h = then_left n (with_room (cost_of c) k) _ (with_room_left n (cost_of c) k h) (λ a k h. h)

@@ -1,8 +1,7 @@
 -- What reading keeps on the walk.
-use Rattle.std.proofs.Common.{◌≡◌, ◌≢◌, ℕ, suc, ◌-◌, ◌≤◌, Bool, true, List, [], ◌∷◌, length, refl, sym, ap, ◌∙◌, arith}
+use Rattle.std.proofs.Common.{◌≡◌, ◌≢◌, ℕ, suc, ◌-◌, ◌≤◌, Bool, true, List, [], ◌∷◌, length, refl, sym, ap, subst, ◌∙◌, arith}
 use Rattle.std.specs.List.{AllByRecursion}
 use Rattle.rl_cells.specs.Cell.{Cell}
-use Rattle.rl_syms.specs.Table.{IsTable}
 use Rattle.rl_tags.specs.Tagged.{Tagged}
 use Rattle.rl_text.specs.Maker.{Maker}
 use Rattle.rl_text.specs.Reader.{ReaderFrame, is_inner, left}
@@ -11,12 +10,12 @@ use Rattle.rl_world.specs.declared.world.World.{World}
 use Rattle.rl_world.specs.declared.stop.Stop.{Stop}
 use Rattle.rl_read.specs.Stock.{Stock, in_stock, level_left, stock_of}
 use Rattle.rl_read.specs.Stock as stock
-use Rattle.rl_read.specs.Frames.{IsGroup, IsKeptByReading, IsReadyToRead, behind_it, group_weight, frames_in, frames_kept, frames_of, group_in, is_inner_group}
+use Rattle.rl_read.specs.Frames.{CanMake, IsGroup, IsKeptByReading, IsReadyToRead, behind_it, group_weight, frames_in, frames_kept, frames_of, group_in, is_inner_group}
 use Rattle.rl_read.specs.declared.frames.Chain.{Chain}
 use Rattle.rl_read.specs.declared.frames.Phase.TheVariants as phase
 use Rattle.rl_read.specs.declared.frames.Group.{Group}
 use Rattle.rl_read.specs.declared.frames.Group.TheVariants as group
-use Rattle.rl_world.specs.Walks.{above_pushed, kept_above}
+use Rattle.rl_world.specs.Walks.{kept_above}
 
 -- levels alone have changed, whatever they are now
 pub levels_alone : (old new : World) (l : WorldLevels) → new ≡ record old { levels = l } → new ≡ record old { levels = new.levels }
@@ -34,12 +33,12 @@ left_more base old new t above other popped =
     let long : length old.walk ≡ suc (length new.walk) = ap length popped in omega (arith, above, other, long)
 
 -- it was the first of what was kept
-pub kept_first : (base : ℕ) (cells : List Cell) (old new : WorldLevels) (t : ℕ × ℕ × ℕ) → old.walk ≡ t ∷ new.walk → base ≤ length new.walk → AllByRecursion (IsKeptByReading cells) (kept_above base old) → IsKeptByReading cells t × AllByRecursion (IsKeptByReading cells) (kept_above base new)
-kept_first base cells old new t popped l kept = rw (above_pushed base new old t popped l) at kept
+pub kept_first : (base : ℕ) (cells : List Cell) (old new : WorldLevels) (t : ℕ × ℕ × ℕ) → kept_above base old ≡ t ∷ kept_above base new → AllByRecursion (IsKeptByReading cells) (kept_above base old) → IsKeptByReading cells t × AllByRecursion (IsKeptByReading cells) (kept_above base new)
+kept_first base cells old new t above kept = rw above at kept
 
 -- what has begun is what was kept
-pub frames_popped : (base : ℕ) (old new : World) (t : ℕ × ℕ × ℕ) (g : Group) → old.levels.walk ≡ t ∷ new.levels.walk → base ≤ length new.levels.walk → g ≡ group_in t → frames_in base new g ≡ frames_kept (kept_above base old.levels)
-frames_popped base old new t g popped l is = rw is (sym (ap frames_kept (above_pushed base new.levels old.levels t popped l)))
+pub frames_popped : (base : ℕ) (old new : World) (t : ℕ × ℕ × ℕ) (g : Group) → kept_above base old.levels ≡ t ∷ kept_above base new.levels → g ≡ group_in t → frames_in base new g ≡ frames_kept (kept_above base old.levels)
+frames_popped base old new t g above is = rw is (sym (ap frames_kept above))
 
 -- ---- levels
 
@@ -80,21 +79,24 @@ stock_popped old new e within some =
     ap stock_of e ∙ ap (λ n. record (stock_of old) { left = n }) more
 
 -- the level of what was kept is left
-pub popped_left : (base : ℕ) (old new : World) (t : ℕ × ℕ × ℕ) → old.levels.walk ≡ t ∷ new.levels.walk → base ≤ length new.levels.walk → is_inner_group (group_in t) ≡ true → stock_of new ≡ level_left (stock_of old)
+pub popped_left : (base : ℕ) (old new : World) (t : ℕ × ℕ × ℕ) → kept_above base old.levels ≡ t ∷ kept_above base new.levels → is_inner_group (group_in t) ≡ true → stock_of new ≡ level_left (stock_of old)
     → (turns : Bool) → stock_of new ≡ left (in_stock turns) (frames_kept (kept_above base old.levels)) (stock_of old)
-popped_left base old new t popped l inner made turns =
-    rw (above_pushed base new.levels old.levels t popped l) (made ∙ sym (inner_left (in_stock turns) (frames_of (group_in t) (frames_kept (kept_above base new.levels))) (stock_of old) (inner_frames (group_in t) (frames_kept (kept_above base new.levels)) inner)))
+popped_left base old new t above inner made turns =
+    rw above (made ∙ sym (inner_left (in_stock turns) (frames_of (group_in t) (frames_kept (kept_above base new.levels))) (stock_of old) (inner_frames (group_in t) (frames_kept (kept_above base new.levels)) inner)))
 
 -- ---- what is ready
 
+-- where levels alone have changed, objects may be made as before
+able_left : (old new : World) → new ≡ record old { levels = new.levels } → CanMake old → CanMake new
+able_left old new e able = subst CanMake (sym e) able
+
 -- all is ready for what was kept
-pub ready_popped : (base : ℕ) (old new : World) (t : ℕ × ℕ × ℕ) (g : Group) → IsTable old.cells.cells old.syms.head → AllByRecursion (IsKeptByReading old.cells.cells) (kept_above base old.levels) → new ≡ record old { levels = new.levels } → old.levels.walk ≡ t ∷ new.levels.walk → base ≤ length new.levels.walk → g ≡ group_in t → IsReadyToRead base new g
-ready_popped base old new t g table kept world popped l is =
+pub ready_popped : (base : ℕ) (old new : World) (t : ℕ × ℕ × ℕ) (g : Group) → CanMake old → AllByRecursion (IsKeptByReading old.cells.cells) (kept_above base old.levels) → new ≡ record old { levels = new.levels } → kept_above base old.levels ≡ t ∷ kept_above base new.levels → base ≤ length new.levels.walk → g ≡ group_in t → IsReadyToRead base new g
+ready_popped base old new t g able kept world above l is =
     let cells : new.cells ≡ old.cells = ap (λ (w : World). w.cells) world in
-    let syms : new.syms ≡ old.syms = ap (λ (w : World). w.syms) world in
-    let first = kept_first base old.cells.cells old.levels new.levels t popped l kept in
+    let first = kept_first base old.cells.cells old.levels new.levels t above kept in
     record {
-      table = rw (cells, syms) table;
+      able = able_left old new world able;
       above = l;
       kept = rw cells first.1;
       group_is = rw (cells, is) first.0.group_is;
@@ -102,15 +104,14 @@ ready_popped base old new t g table kept world popped l is =
     }
 
 -- what is around is kept, and all is ready for what begins
-pub ready_pushed : (base : ℕ) (old new : World) (t : ℕ × ℕ × ℕ) (g h : Group) → IsReadyToRead base old g → new ≡ record old { levels = new.levels } → new.levels.walk ≡ t ∷ old.levels.walk → group_in t ≡ g → is_inner_group g ≡ true → IsKeptByReading old.cells.cells t → IsGroup new.cells.cells h → h ≢ group.Root → IsReadyToRead base new h
-ready_pushed base old new t g h r world walk is inner kept group_is inside =
+pub ready_pushed : (base : ℕ) (old new : World) (t : ℕ × ℕ × ℕ) (g h : Group) → IsReadyToRead base old g → new ≡ record old { levels = new.levels } → new.levels.walk ≡ t ∷ old.levels.walk → kept_above base new.levels ≡ t ∷ kept_above base old.levels → group_in t ≡ g → is_inner_group g ≡ true → IsKeptByReading old.cells.cells t → IsGroup new.cells.cells h → h ≢ group.Root → IsReadyToRead base new h
+ready_pushed base old new t g h r world walk above is inner kept group_is inside =
     let cells : new.cells ≡ old.cells = ap (λ (w : World). w.cells) world in
-    let syms : new.syms ≡ old.syms = ap (λ (w : World). w.syms) world in
     let long : length new.levels.walk ≡ suc (length old.levels.walk) = ap length walk in
     record {
-      table = rw (cells, syms) r.table;
+      able = able_left old new world r.able;
       above = omega (arith, long, r.above);
-      kept = rw (cells, above_pushed base old.levels new.levels t walk r.above) (kept, r.kept);
+      kept = rw (cells, above) (kept, r.kept);
       group_is = group_is;
       root = λ e. absurd (inside e);
     }

@@ -1,5 +1,5 @@
 -- What begins in a list, a vector or a quote enters a level.
-use Rattle.std.proofs.Common.{◌≡◌, ℕ, suc, ◌+◌, ◌-◌, ◌≤◌, Bool, true, List, [], ◌∷◌, None, Some, length, refl, sym, ap, ◌∙◌, arith}
+use Rattle.std.proofs.Common.{◌≡◌, ℕ, suc, ◌+◌, ◌-◌, Bool, true, List, [], ◌∷◌, None, Some, refl, sym, ap, ◌∙◌, arith}
 use Rattle.std.proofs.lemmas.Bool.Decides.{nat_tests}
 use Rattle.rl_text.specs.Reader.{Begun, Dotted, ReaderFrame, Gap, Goes, Going, Halts, Listing, Quoting, Shut, Vectoring, group_begins, is_inner}
 use Rattle.rl_world.specs.Levels.{WorldLevels, enter_stop}
@@ -15,7 +15,7 @@ use Rattle.rl_read.specs.declared.frames.Group.TheVariants as group
 use Rattle.rl_read.specs.declared.frames.Opening.{Opening}
 use Rattle.rl_read.specs.declared.frames.Opening.TheVariants as opening
 use Rattle.rl_read.proofs.Kept.{inner_frames, root_frames}
-use Rattle.rl_world.specs.Walks.{above_pushed, kept_above}
+use Rattle.rl_world.specs.Walks.{kept_above}
 
 -- a list in what takes a level is no list behind a dot
 pub list_begins : (t : Bool) (fs : List (ReaderFrame stock.PairChain)) (k : Stock) → is_inner fs ≡ true → opening_frame (in_stock t) opening.List fs k ≡ group_begins (in_stock t) (frame_of opening.List) fs k
@@ -54,11 +54,11 @@ pub stops_depth : (l : WorldLevels) (s : Stop) → enter_stop l 1 ≡ Some s →
 stops_depth l s h = grind (arith, nat_tests)
 
 -- three words more are kept, and what begins is the newest
-pub opened_pushed : (base : ℕ) (old new : World) (t : ℕ × ℕ × ℕ) (o : Opening) (g h : Group) → enter_stop old.levels 1 ≡ None → new ≡ record old { levels = record old.levels { level = old.levels.level + 1; walk = t ∷ old.levels.walk } } → base ≤ length old.levels.walk
+pub opened_pushed : (base : ℕ) (old new : World) (t : ℕ × ℕ × ℕ) (o : Opening) (g h : Group) → enter_stop old.levels 1 ≡ None → new ≡ record old { levels = record old.levels { level = old.levels.level + 1; walk = t ∷ old.levels.walk } } → kept_above base new.levels ≡ t ∷ kept_above base old.levels
     → group_in t ≡ g → is_inner_group g ≡ true → ((fs : List (ReaderFrame stock.PairChain)) → frames_of h fs ≡ frame_of o ∷ fs) → (turns : Bool) → opening_frame (in_stock turns) o (frames_in base old g) (stock_of old) ≡ Goes Gap (frames_in base new h) (stock_of new)
-opened_pushed base old new t o g h may e l is inner frames turns =
+opened_pushed base old new t o g h may e above is inner frames turns =
     let kept : frames_kept (kept_above base new.levels) ≡ frames_in base old g =
-    ap frames_kept (above_pushed base old.levels new.levels t (ap (λ (w : World). w.levels.walk) e) l) ∙ ap (λ g. frames_of g (frames_kept (kept_above base old.levels))) is in
+    ap frames_kept above ∙ ap (λ g. frames_of g (frames_kept (kept_above base old.levels))) is in
     opened_goes turns o (frames_in base old g) (stock_of old) (old.levels.bound - (old.levels.level + 1)) (inner_frames g (frames_kept (kept_above base old.levels)) inner) (may_enter old.levels may)
     ∙ (ap (λ k. Goes Gap (frame_of o ∷ frames_in base old g) k) (sym (ap stock_of e))
     ∙ ap (λ fs. Goes Gap fs (stock_of new)) (sym (frames (frames_kept (kept_above base new.levels)) ∙ ap (λ fs. frame_of o ∷ fs) kept)))

@@ -15,6 +15,8 @@ pub mod MadeElements
 pub mod MadeVectors
 pub mod MadeLists
 pub mod FormedTold
+pub mod FormedTaken
+pub mod FormedBytes
 pub mod FormedKeeps
 pub mod FormedTurns
 pub mod FormedGoing
@@ -28,3 +30,4 @@ pub mod StandingLists
 pub mod StandingFrames
 pub mod StandingRead
 pub mod StandingTold
+mod CellsKept

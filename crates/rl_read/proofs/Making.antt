@@ -3,15 +3,14 @@ use Rattle.std.proofs.Common.{◌≡◌, ℕ, ◌≤◌, List, [], ◌∷◌, le
 use Rattle.std.specs.List.{AllByRecursion}
 use Rattle.rl_tags.specs.Tagged.{Tagged, PairAt}
 use Rattle.rl_cells.specs.Cell.{Cell, is_live, is_pair}
-use Rattle.rl_syms.specs.Table.{IsTable}
 use Rattle.rl_world.specs.Levels.{WorldLevels}
 use Rattle.rl_world.specs.declared.world.World.{World}
-use Rattle.rl_read.specs.Frames.{IsChain, IsGroup, IsKeptByReading, IsMaking, IsReading, IsReadyToRead, group_in}
+use Rattle.rl_read.specs.Frames.{CanMake, IsChain, IsGroup, IsKeptByReading, IsMaking, IsReading, IsReadyToRead, group_in}
 use Rattle.rl_read.specs.declared.frames.Chain.{Chain}
 use Rattle.rl_read.specs.declared.frames.Chain.TheVariants as chain
 use Rattle.rl_read.specs.declared.frames.Group.{Group}
 use Rattle.rl_read.specs.declared.frames.Group.TheVariants as group
-use Rattle.rl_world.specs.Walks.{IsSteady, kept_above, steady_refl, steady_trans}
+use Rattle.rl_world.specs.Walks.{IsSteady, kept_above}
 
 -- ---- making
 
@@ -51,11 +50,11 @@ kept_stays old new [] live l h = tt
 kept_stays old new (t ∷ ts) live l h = (record { group_is = group_stays old new (group_in t) live l h.0.group_is; inner = h.0.inner; owed = h.0.owed }, kept_stays old new ts live l h.1)
 
 -- objects were made, and this has begun
-pub ready_made : (base : ℕ) (old new : World) (g h : Group) → IsReadyToRead base old g → IsMaking old new → IsTable new.cells.cells new.syms.head → IsGroup new.cells.cells h → (h ≡ group.Root → length old.levels.walk ≡ base) → IsReadyToRead base new h
-ready_made base old new g h r m table is root =
+pub ready_made : (base : ℕ) (old new : World) (g h : Group) → IsReadyToRead base old g → IsMaking old new → CanMake new → IsGroup new.cells.cells h → (h ≡ group.Root → length old.levels.walk ≡ base) → IsReadyToRead base new h
+ready_made base old new g h r m able is root =
     let levels = making_levels old new m in
     record {
-      table = table;
+      able = able;
       above = rw levels r.above;
       kept = rw levels (kept_stays old.cells.cells new.cells.cells (kept_above base old.levels) m.live m.longer r.kept);
       group_is = is;
@@ -63,10 +62,21 @@ ready_made base old new g h r m table is root =
     }
 
 -- and the same has begun
-pub ready_stays : (base : ℕ) (old new : World) (g : Group) → IsReadyToRead base old g → IsMaking old new → IsTable new.cells.cells new.syms.head → IsReadyToRead base new g
-ready_stays base old new g r m table = ready_made base old new g g r m table (group_stays old.cells.cells new.cells.cells g m.live m.longer r.group_is) r.root
+pub ready_stays : (base : ℕ) (old new : World) (g : Group) → IsReadyToRead base old g → IsMaking old new → CanMake new → IsReadyToRead base new g
+ready_stays base old new g r m able = ready_made base old new g g r m able (group_stays old.cells.cells new.cells.cells g m.live m.longer r.group_is) r.root
 
 -- ---- reading
+
+pub steady_refl : (base : ℕ) (l : WorldLevels) → IsSteady base l l
+steady_refl base l = record { below = refl; level = refl; bound = refl; aside = refl }
+
+pub steady_trans : (base : ℕ) (a b c : WorldLevels) → IsSteady base a b → IsSteady base b c → IsSteady base a c
+steady_trans base a b c p q = record {
+  below = q.below ∙ p.below;
+  level = omega (arith, p.level, q.level);
+  bound = q.bound ∙ p.bound;
+  aside = q.aside ∙ p.aside;
+}
 
 pub reading_refl : (base : ℕ) (w : World) → IsReading base w w
 reading_refl base w = record { making = making_refl w; steady = steady_refl base w.levels }

@@ -3,7 +3,7 @@ use Rattle.std.proofs.Common.{◌≡◌, ◌≢◌, ℕ, ◌+◌, ◌<◌, ◌�
 use Rattle.std.specs.Str.{bytes_eq}
 use Rattle.std.proofs.lemmas.Slice.Eq.{bytes_eq-Decides}
 use Rattle.rl_tags.specs.Tagged.{Tagged, StrAt, PairAt}
-use Rattle.rl_cells.specs.Cell.{Cell, PairCell, StrCell, cost_of, has_room, placed}
+use Rattle.rl_cells.specs.Cell.{Cell, PairCell, StrCell, cost_of, placed}
 use Rattle.rl_cells.specs.Laws.{IsAdded, IsChanged}
 use Rattle.rl_syms.specs.Frame.{words_of_id}
 use Rattle.rl_syms.specs.Laws.{AreIdentifiers, IsKept, LeaveIdentifiers, NamesEnter}
@@ -40,13 +40,12 @@ pub then_makes : {A B : Type 0} (P : A → Heap → Type 0) (Q : B → Heap → 
 then_makes P Q (Has a k) f h g = g a k h
 then_makes P Q (Wants s k) f h g = tt
 
-room_makes_at : (P : Heap → Type 0) (s : Option Stop) (fits : Bool) (k : Stock) → P (heap_of k) → Makes (λ (u : Unit {0}) w. P w) (with_room_at s fits k)
-room_makes_at P (Some s) fits k h = tt
-room_makes_at P None true k h = h
-room_makes_at P None false k h = tt
+room_makes_at : (P : Heap → Type 0) (s : Option Stop) (k : Stock) → P (heap_of k) → Makes (λ (u : Unit {0}) w. P w) (with_room_at s k)
+room_makes_at P (Some s) k h = tt
+room_makes_at P None k h = h
 
 room_makes : (P : Heap → Type 0) (cost : ℕ) (k : Stock) → P (heap_of k) → Makes (λ (u : Unit {0}) w. P w) (with_room cost k)
-room_makes P cost k h = room_makes_at P (room_stop k.counts k.cells cost) (has_room k.cells cost) (record k { counts = roomed k.counts cost }) h
+room_makes P cost k h = room_makes_at P (room_stop k.counts k.cells cost) (record k { counts = roomed k.counts cost }) h
 
 -- ---- objects
 

@@ -13,7 +13,7 @@ use Rattle.rl_read.proofs.Standing.{Heap, stands_datum}
 use Rattle.rl_read.proofs.StandingFrames.{Holds, IsResult}
 use Rattle.rl_read.proofs.StandingMade.{AreLaws, heap_of}
 use Rattle.rl_read.proofs.StandingRead.{SimRead, read_sim}
-use Rattle.rl_read.proofs.Told.{reads_found}
+use Rattle.rl_read.proofs.Told.{ReadsAsData, reads_found}
 
 -- nothing has begun
 at_first : (k : Stock) → IsNamedStock k → Holds (heap_of k) (heap_of k) [] []
@@ -31,9 +31,9 @@ result_of first made v bytes rest (NoneLeft t) d r f = absurd cc
 result_of first made v bytes rest (Refused t from) d r f = absurd cc
 result_of first made v bytes rest (Stopped w t more) d r f = absurd w
 
-pub reads_result : AreLaws → (turns : Bool) (k made : Stock) (bytes rest : List ℕ) (v : Tagged) → IsNamedStock k → read_by (in_stock turns) k bytes ≡ Read v made rest → (d : Datum) × (reading bytes ≡ Found d rest) × IsResult (heap_of k) (heap_of made) v d
-reads_result laws turns k made bytes rest v n e =
-    let found = reads_found turns k made bytes rest v e in
+pub reads_result : AreLaws → ReadsAsData → (turns : Bool) (k made : Stock) (bytes rest : List ℕ) (v : Tagged) → IsNamedStock k → read_by (in_stock turns) k bytes ≡ Read v made rest → (d : Datum) × (reading bytes ≡ Found d rest) × IsResult (heap_of k) (heap_of made) v d
+reads_result laws law turns k made bytes rest v n e =
+    let found = reads_found law turns k made bytes rest v e in
     let sim = subst (λ (o : ReaderOutcome Stock Tagged Stop). SimRead (heap_of k) o (read_by plain tt bytes)) e (read_sim laws (heap_of k) turns Gap [] [] k tt bytes tt (at_first k n)) in
     (found.0, found.1, result_of (heap_of k) made v bytes rest (read_by plain tt bytes) found.0 sim found.1)
 

@@ -1,40 +1,70 @@
 -- A reading in a world told by what its text spells.
-use Rattle.std.proofs.Common.{◌≡◌, ℕ, ◌-◌, Bool, List, [], length, refl, sym, ap, subst}
+use Rattle.std.proofs.Common.{◌≡◌, ℕ, ◌-◌, Bool, List, length, refl, ap}
 use Rattle.rl_tags.specs.Tagged.{Tagged}
 use Rattle.rl_text.specs.Datum.{Datum}
-use Rattle.rl_text.specs.Reader.{ReaderOutcome, Read, NoneLeft, Refused, Stopped, Gap, read_by}
-use Rattle.rl_text.specs.Reading.{Found, NoText, Unreadable, plain, reading, reading_of}
-use Rattle.rl_text.specs.Alike.{EndsAlike, reads_alike}
+use Rattle.rl_text.specs.Maker.{Made, Has, Wants}
+use Rattle.rl_text.specs.Makers.{MakerRelations, MadeRelated, both_have, first_wants, AreMakersRelated, OutcomesRelated, both_read, both_find_none, both_refuse, both_stop, first_stops, EndRelated}
+use Rattle.rl_text.specs.Reader.{ReaderOutcome, Read, NoneLeft, Refused, read_by}
+use Rattle.rl_text.specs.Reading.{Items, Found, NoText, Unreadable, plain, reading, reading_of}
 use Rattle.rl_world.specs.declared.stop.Stop.{Stop}
-use Rattle.rl_read.specs.Stock.{Stock, in_stock}
+use Rattle.rl_read.specs.Stock.{Stock, PairChain, in_stock}
 
--- ends alike with one that is known
-alike_read : (o : ReaderOutcome (Unit {0}) Datum ⊥) (bytes rest : List ℕ) (v : Tagged) (made : Stock) → EndsAlike {S = Stock} {V = Tagged} {W = Stop} (Read v made rest) o → (datum : Datum) × (reading_of bytes o ≡ Found datum rest)
-alike_read (Read datum s more) bytes rest v made same = (datum, ap (λ r. Found datum r) (sym same))
-alike_read (NoneLeft s) bytes rest v made same = absurd same
-alike_read (Refused s from) bytes rest v made same = absurd same
-alike_read (Stopped w s more) bytes rest v made same = absurd w
+-- whatever is made in the world and of data
+abbrev pub heedless : MakerRelations Stock Tagged PairChain Stop (Unit {0}) Datum Items ⊥
+heedless = record { states = λ k t. Unit {0}; values = λ k v d. Unit {0}; lists = λ k c l. Unit {0}; wants = λ s k x t. Unit {0}; wants_first = λ s k. Unit {0} }
 
-alike_none : (o : ReaderOutcome (Unit {0}) Datum ⊥) (bytes : List ℕ) (made : Stock) → EndsAlike {S = Stock} {V = Tagged} {W = Stop} (NoneLeft made) o → reading_of bytes o ≡ NoText
-alike_none (Read datum s more) bytes made same = absurd same
-alike_none (NoneLeft s) bytes made same = refl
-alike_none (Refused s from) bytes made same = absurd same
-alike_none (Stopped w s more) bytes made same = absurd w
+abbrev pub ReadsAsData : Type 0
+ReadsAsData = EndRelated heedless
 
-alike_refused : (o : ReaderOutcome (Unit {0}) Datum ⊥) (bytes from : List ℕ) (made : Stock) → EndsAlike {S = Stock} {V = Tagged} {W = Stop} (Refused made from) o → reading_of bytes o ≡ Unreadable (length bytes - length from)
-alike_refused (Read datum s more) bytes from made same = absurd same
-alike_refused (NoneLeft s) bytes from made same = absurd same
-alike_refused (Refused s other) bytes from made same = ap (λ l. Unreadable (length bytes - length l)) (sym same)
-alike_refused (Stopped w s more) bytes from made same = absurd w
+made_heedless : {A B : Type 0} (from : Stock) (x : Made Stock A Stop) (b : B) → MadeRelated heedless from (λ k a b. Unit {0}) x (Has b tt)
+made_heedless from (Has a k) b = both_have a b k tt tt tt (record { values = λ v d h. tt; lists = λ c l h. tt })
+made_heedless from (Wants s k) b = first_wants s k _ tt
 
-alike : (turns : Bool) (k : Stock) (bytes : List ℕ) → EndsAlike (read_by (in_stock turns) k bytes) (read_by plain tt bytes)
-alike turns k bytes = reads_alike (in_stock turns) Gap [] [] k bytes tt
+makers : (turns : Bool) → AreMakersRelated heedless (in_stock turns) plain
+makers turns =
+    record {
+      turn = λ k t h. made_heedless k _ _;
+      enter = λ k t h. made_heedless k _ _;
+      leave = λ k t h. record { states = tt; kept = record { values = λ v d h. tt; lists = λ c l h. tt } };
+      atom = λ a k t h. made_heedless k _ _;
+      nil = λ k t h. tt;
+      empty = λ k t h. tt;
+      extended = λ c l v d k t e f h. made_heedless k _ _;
+      ended = λ c l v d k t e f h. made_heedless k _ _;
+      list = λ c l k t e h. tt;
+      vector = λ c l k t e h. made_heedless k _ _;
+      quoted = λ v d k t e h. made_heedless k _ _;
+    }
 
-pub reads_found : (turns : Bool) (k made : Stock) (bytes rest : List ℕ) (v : Tagged) → read_by (in_stock turns) k bytes ≡ Read v made rest → (datum : Datum) × (reading bytes ≡ Found datum rest)
-reads_found turns k made bytes rest v e = alike_read (read_by plain tt bytes) bytes rest v made (subst (λ (o : ReaderOutcome Stock Tagged Stop). EndsAlike o (read_by plain tt bytes)) e (alike turns k bytes))
+ends_read : (x : ReaderOutcome Stock Tagged Stop) (o : ReaderOutcome (Unit {0}) Datum ⊥) (bytes rest : List ℕ) (v : Tagged) (made : Stock) → OutcomesRelated heedless x o → x ≡ Read v made rest → (datum : Datum) × (reading_of bytes o ≡ Found datum rest)
+ends_read x o bytes rest v made (both_read u d k t more h s) e = (d, ap (λ (r : List ℕ). Found d r) (let same : more ≡ rest = cc in same))
+ends_read x o bytes rest v made (both_find_none k t h) e = absurd cc
+ends_read x o bytes rest v made (both_refuse k t from h) e = absurd cc
+ends_read x o bytes rest v made (both_stop s y k t more h) e = absurd y
+ends_read x o bytes rest v made (first_stops s k more other h) e = absurd cc
 
-pub reads_none : (turns : Bool) (k made : Stock) (bytes : List ℕ) → read_by (in_stock turns) k bytes ≡ NoneLeft made → reading bytes ≡ NoText
-reads_none turns k made bytes e = alike_none (read_by plain tt bytes) bytes made (subst (λ (o : ReaderOutcome Stock Tagged Stop). EndsAlike o (read_by plain tt bytes)) e (alike turns k bytes))
+ends_with_none : (x : ReaderOutcome Stock Tagged Stop) (o : ReaderOutcome (Unit {0}) Datum ⊥) (bytes : List ℕ) (made : Stock) → OutcomesRelated heedless x o → x ≡ NoneLeft made → reading_of bytes o ≡ NoText
+ends_with_none x o bytes made (both_read u d k t more h s) e = absurd cc
+ends_with_none x o bytes made (both_find_none k t h) e = refl
+ends_with_none x o bytes made (both_refuse k t from h) e = absurd cc
+ends_with_none x o bytes made (both_stop s y k t more h) e = absurd y
+ends_with_none x o bytes made (first_stops s k more other h) e = absurd cc
 
-pub reads_refused : (turns : Bool) (k made : Stock) (bytes from : List ℕ) → read_by (in_stock turns) k bytes ≡ Refused made from → reading bytes ≡ Unreadable (length bytes - length from)
-reads_refused turns k made bytes from e = alike_refused (read_by plain tt bytes) bytes from made (subst (λ (o : ReaderOutcome Stock Tagged Stop). EndsAlike o (read_by plain tt bytes)) e (alike turns k bytes))
+ends_refused : (x : ReaderOutcome Stock Tagged Stop) (o : ReaderOutcome (Unit {0}) Datum ⊥) (bytes from : List ℕ) (made : Stock) → OutcomesRelated heedless x o → x ≡ Refused made from → reading_of bytes o ≡ Unreadable (length bytes - length from)
+ends_refused x o bytes from made (both_read u d k t more h s) e = absurd cc
+ends_refused x o bytes from made (both_find_none k t h) e = absurd cc
+ends_refused x o bytes from made (both_refuse k t other h) e = ap (λ (l : List ℕ). Unreadable (length bytes - length l)) (let same : other ≡ from = cc in same)
+ends_refused x o bytes from made (both_stop s y k t more h) e = absurd y
+ends_refused x o bytes from made (first_stops s k more other h) e = absurd cc
+
+alike : ReadsAsData → (turns : Bool) (k : Stock) (bytes : List ℕ) → OutcomesRelated heedless (read_by (in_stock turns) k bytes) (read_by plain tt bytes)
+alike law turns k bytes = law (in_stock turns) plain (makers turns) k tt bytes tt
+
+pub reads_found : ReadsAsData → (turns : Bool) (k made : Stock) (bytes rest : List ℕ) (v : Tagged) → read_by (in_stock turns) k bytes ≡ Read v made rest → (datum : Datum) × (reading bytes ≡ Found datum rest)
+reads_found law turns k made bytes rest v e = ends_read (read_by (in_stock turns) k bytes) (read_by plain tt bytes) bytes rest v made (alike law turns k bytes) e
+
+pub reads_none : ReadsAsData → (turns : Bool) (k made : Stock) (bytes : List ℕ) → read_by (in_stock turns) k bytes ≡ NoneLeft made → reading bytes ≡ NoText
+reads_none law turns k made bytes e = ends_with_none (read_by (in_stock turns) k bytes) (read_by plain tt bytes) bytes made (alike law turns k bytes) e
+
+pub reads_refused : ReadsAsData → (turns : Bool) (k made : Stock) (bytes from : List ℕ) → read_by (in_stock turns) k bytes ≡ Refused made from → reading bytes ≡ Unreadable (length bytes - length from)
+reads_refused law turns k made bytes from e = ends_refused (read_by (in_stock turns) k bytes) (read_by plain tt bytes) bytes from made (alike law turns k bytes) e

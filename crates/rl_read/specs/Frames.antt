@@ -2,12 +2,14 @@
 use Rattle.std.specs.Prelude.{◌≡◌, ℕ, ◌+◌, ◌-◌, ◌*◌, ◌/◌, ◌%◌, ◌^◌, ◌<◌, ◌≤◌, ◌==◌, Bool, true, false, if◌then◌else◌, List, [], ◌∷◌, length, Option, Some, None}
 use Rattle.std.specs.List.{AllByRecursion}
 use Rattle.rl_tags.specs.Tagged.{Tagged, PairAt}
-use Rattle.rl_cells.specs.Cell.{Cell, is_live, is_pair}
+use Rattle.rl_cells.specs.Cell.{Cell, CellStore, is_live, is_pair}
 use Rattle.rl_syms.specs.Table.{IsTable, IsNamed}
 use Rattle.rl_text.specs.Reader.{ReaderFrame, Listing, Vectoring, Quoting, Begun, Going, Dotted, Shut, ReaderStep, group_begins, open_list}
 use Rattle.rl_text.specs.Maker.{Maker}
 use Rattle.rl_world.specs.declared.stop.Stop.{Stop}
 use Rattle.rl_text.specs.Reader as reader
+use Rattle.rl_world.specs.Bounds.{BoundsAgree, IsMakingCounted}
+use Rattle.rl_world.specs.Counts.{WorldCounts}
 use Rattle.rl_world.specs.Walks.{IsSteady, kept_above}
 use Rattle.rl_world.specs.declared.world.World.{World}
 use Rattle.rl_read.specs.Stock as stock
@@ -159,9 +161,18 @@ pub record IsKeptByReading (cells : List Cell) (t : ℕ × ℕ × ℕ) : Type 0 
   pub inner : is_inner_group (group_in t) ≡ true
   pub owed : t.0 / 16 < 2 ^ 32
 
--- names are a table, what was kept is sound, and only a group with nothing around it has nothing kept
+-- names are a table, the bounds of counts and of cells agree, and what is made counts: so where there is room the cells have it
+pub record AreReadyToMake (cells : CellStore) (head : Option Tagged) (counts : WorldCounts) : Type 0 where
+  pub table : IsTable cells.cells head
+  pub bounds : BoundsAgree counts cells
+  pub counted : IsMakingCounted counts.aside counts.outermost cells.mark
+
+abbrev pub CanMake : World → Type 0
+CanMake w = AreReadyToMake w.cells w.syms.head w.counts
+
+-- objects may be made, what was kept is sound, and only a group with nothing around it has nothing kept
 pub record IsReadyToRead (base : ℕ) (w : World) (g : Group) : Type 0 where
-  pub table : IsTable w.cells.cells w.syms.head
+  pub able : CanMake w
   pub above : base ≤ length w.levels.walk
   pub kept : AllByRecursion (IsKeptByReading w.cells.cells) (kept_above base w.levels)
   pub group_is : IsGroup w.cells.cells g

@@ -6,6 +6,8 @@ use Rattle.rl_cells.specs.Cell.{Cell, PairCell, is_live, is_pair, car_of, cdr_of
 use Rattle.rl_syms.specs.Table.{IsTable, IsNamed, nil_value}
 use Rattle.rl_syms.specs.Contents.{ids_before, value_of, store_of}
 use Rattle.rl_syms.specs.Numbers.{numbered_name}
+use Rattle.rl_syms.specs.Laws.{IsKept, LeaveIdentifiers}
+use Rattle.rl_world.specs.Bounds.{AreBoundsKept, RoomIsEnough}
 use Rattle.rl_tree.specs.Name.{nil_name}
 use Rattle.rl_text.specs.Datum.{Datum, Pair}
 use Rattle.rl_text.specs.Stored.{IsStored}
@@ -49,3 +51,10 @@ pub record PairsAreData : Type 0 where
   pub cdr : (cells : List Cell) (head : Option Tagged) (p : Tagged) → is_pair cells p ≡ true → IsDatum cells head p → IsDatum cells head (cdr_of cells p)
   pub parts : (cells : List Cell) (head : Option Tagged) (p : Tagged) → is_pair cells p ≡ true → IsDatum cells head p → datum_of cells p ≡ Pair (datum_of cells (car_of cells p)) (datum_of cells (cdr_of cells p))
   pub live : (cells : List Cell) (head : Option Tagged) (v : Tagged) → IsDatum cells head v → is_live cells v ≡ true
+
+-- what making an object rests on
+pub record AreMakingLaws : Type 0 where
+  pub kept : IsKept
+  pub leave : LeaveIdentifiers
+  pub bounds : AreBoundsKept
+  pub enough : RoomIsEnough

@@ -2,7 +2,6 @@
 use Rattle.std.specs.Prelude.{◌≡◌, ℕ, ◌^◌, ◌<◌, ◌≤◌, Bool, true, false, if◌then◌else◌, List, [], ◌∷◌, length}
 use Rattle.rl_tags.specs.Tagged.{Tagged}
 use Rattle.rl_cells.specs.Cell.{is_live}
-use Rattle.rl_text.specs.Byte as byte
 use Rattle.rl_text.specs.Word as word
 use Rattle.rl_text.specs.Maker.{Made, Maker, Has, Wants}
 use Rattle.rl_text.specs.Reader as reader
@@ -20,36 +19,12 @@ use Rattle.rl_read.specs.declared.make.Atom.{Atom}
 use Rattle.rl_read.specs.declared.make.Atom.TheVariants as atom
 use Rattle.rl_read.specs.declared.word.Mode.{Mode}
 use Rattle.rl_read.specs.declared.word.Mode.TheVariants as mode
-use Rattle.rl_read.specs.declared.word.Mark.{Mark}
-use Rattle.rl_read.specs.declared.word.Mark.TheVariants as mark
-use Rattle.rl_read.specs.declared.word.Class.{Class}
-use Rattle.rl_read.specs.declared.word.Class.TheVariants as class
 use Rattle.rl_read.specs.declared.step.Step.{Step}
 use Rattle.rl_read.specs.declared.step.Step.TheVariants as step
 use Rattle.rl_read.specs.declared.step.Ended.{Ended}
 use Rattle.rl_read.specs.declared.step.Ended.TheVariants as how
 
 -- ---- bytes and words
-
-abbrev pub mark_of : Mark → byte.Mark
-mark_of mark.Open = byte.Open
-mark_of mark.Close = byte.Close
-mark_of mark.Dot = byte.Dot
-mark_of mark.Quote = byte.Quote
-mark_of mark.OpenVector = byte.OpenVector
-mark_of mark.CloseVector = byte.CloseVector
-
-abbrev pub class_as : Class → byte.Class
-class_as class.Blank = byte.Blank
-class_as class.Percent = byte.Percent
-class_as (class.Marks m) = byte.Marks (mark_of m)
-class_as class.Text = byte.Text
-class_as class.Escape = byte.Escape
-class_as class.Letter = byte.Letter
-class_as class.Digit = byte.Digit
-class_as class.Sign = byte.Sign
-class_as class.Special = byte.Special
-class_as class.Nothing = byte.Nothing
 
 abbrev pub mode_of : Mode → List ℕ → reader.Mode
 mode_of mode.Gap bytes = reader.Gap

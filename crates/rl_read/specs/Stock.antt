@@ -2,7 +2,7 @@
 use Rattle.std.specs.Prelude.{ℕ, zero, suc, ◌+◌, ◌-◌, ◌^◌, nat_le, Bool, true, false, if◌then◌else◌, List, [], ◌∷◌, length, Option, Some, None}
 use Rattle.std.specs.Str.{bytes_eq}
 use Rattle.rl_tags.specs.Tagged.{Tagged, Number, IdAt, StrAt, PairAt, VectorAt}
-use Rattle.rl_cells.specs.Cell.{CellStore, Cell, PairCell, StrCell, VectorCell, cell_at, car_in, cdr_in, car_of, cost_of, has_room, grown, changed_at}
+use Rattle.rl_cells.specs.Cell.{CellStore, Cell, PairCell, StrCell, VectorCell, cell_at, car_in, cdr_in, car_of, cost_of, grown, changed_at}
 use Rattle.rl_syms.specs.Table.{name_in_cells, ids_from, nil_value}
 use Rattle.rl_syms.specs.Made.{id_cost, new_id, with_id}
 use Rattle.rl_tree.specs.Name.{Name, quote_name}
@@ -50,14 +50,13 @@ abbrev pub and_then_made : {A B : Type 0} → Made Stock A Stop → (A → Stock
 and_then_made (Has a k) next = next a k
 and_then_made (Wants s k) next = Wants s k
 
-abbrev pub with_room_at : Option Stop → Bool → Stock → Made Stock (Unit {0}) Stop
-with_room_at (Some s) fits k = Wants s k
-with_room_at None true k = Has tt k
-with_room_at None false k = Wants stop.Cells k
+abbrev pub with_room_at : Option Stop → Stock → Made Stock (Unit {0}) Stop
+with_room_at (Some s) k = Wants s k
+with_room_at None k = Has tt k
 
--- room is asked for before cells are taken, and the cells have it
+-- room is asked for before cells are taken
 abbrev pub with_room : ℕ → Stock → Made Stock (Unit {0}) Stop
-with_room cost k = with_room_at (room_stop k.counts k.cells cost) (has_room k.cells cost) (record k { counts = roomed k.counts cost })
+with_room cost k = with_room_at (room_stop k.counts k.cells cost) (record k { counts = roomed k.counts cost })
 
 -- a new object, by what names a place
 abbrev pub object_made : (ℕ → Tagged) → Cell → Stock → Made Stock Tagged Stop

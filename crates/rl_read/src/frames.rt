@@ -2,14 +2,13 @@
 ghost use Rattle.std.specs.Prelude.{◌≡◌, ◌≢◌, ◌*◌, ◌/◌, ◌<◌, ◌≤◌, ◌^◌, Bool, List, ◌∷◌, length, true, IfOk, IfErr};
 ghost use Rattle.std.specs.List.{AllByRecursion};
 ghost use Rattle.rl_cells.specs.Cell.{Cell};
-ghost use Rattle.rl_syms.specs.Table.{IsTable};
 ghost use Rattle.rl_text.specs.Reader.{ReaderFrame, Goes, Gap, left};
 ghost use Rattle.rl_text.specs.Reader as reader;
 ghost use Rattle.rl_world.specs.declared.stop.Stop.TheVariants as stop;
 ghost use Rattle.rl_read.specs.Given.{is_counted};
 ghost use Rattle.rl_read.specs.Stock.{in_stock, stock_of};
 ghost use Rattle.rl_read.specs.Stock as stock;
-ghost use Rattle.rl_read.specs.Frames.{IsChain, IsGroup, IsKeptByReading, IsReadyToRead, chain_in, chain_of, frame_of, frames_around, frames_in, frames_kept, frames_of, group_admits, group_in, is_inner_group, kind_of_phase, opening_frame, weight_of_group};
+ghost use Rattle.rl_read.specs.Frames.{CanMake, IsChain, IsGroup, IsKeptByReading, IsReadyToRead, chain_in, chain_of, frame_of, frames_around, frames_in, frames_kept, frames_of, group_admits, group_in, is_inner_group, kind_of_phase, opening_frame, weight_of_group};
 ghost use Rattle.rl_read.specs.Steps.{IsHalting};
 ghost use Rattle.rl_read.specs.declared.frames.Group.TheVariants as rl_group;
 ghost use Rattle.rl_read.specs.declared.frames.Phase.TheVariants as phase;
@@ -249,7 +248,7 @@ pub(crate) fn around(w: &mut World, group: &Group, base: u64) -> Group
 
 /// The group that was kept last, or none where nothing was kept.
 fn outer(w: &mut World, base: u64) -> Group
-    requires table { IsTable w.old.cells.cells w.old.syms.head }
+    requires able { CanMake w.old }
     requires above { base ≤ length w.old.levels.walk }
     requires kept { AllByRecursion (IsKeptByReading w.old.cells.cells) (kept_above base w.old.levels) }
     ensures frames { frames_in base w.new result ≡ frames_kept (kept_above base w.old.levels) }

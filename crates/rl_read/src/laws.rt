@@ -1,12 +1,18 @@
 //! Laws of reading in a world. A law is the contract of a function that does nothing.
-ghost use Rattle.rl_read.specs.Laws.{MeansDatum, PairsAreData, ReadsData, ReadsText};
+ghost use Rattle.rl_read.specs.ReadingKeepsCells.{ReadingKeepsCells};
+ghost use Rattle.rl_read.specs.Laws.{AreMakingLaws, MeansDatum, PairsAreData, ReadsData, ReadsText};
 
 use rl_cells::laws::{objects_are_added, objects_are_changed};
 use rl_syms::laws::{
     identifiers_are_numbered, meaning_of_reading, names_are_identifiers, names_are_numbered,
     names_enter, others_leave_identifiers, table_is_kept,
 };
-use rl_text::laws::{blank_text_has_none, unreadable_at_first_byte, what_is_found_is_spelled};
+use rl_text::laws::{
+    blank_text_has_none, related_makers_end_related, unreadable_at_first_byte,
+    what_is_found_is_spelled,
+};
+use rl_world::laws::{bounds_are_kept, room_is_enough};
+use std::marker::Brand;
 
 /// What is read in a world is what Lisp text says: a form is read only where the bytes begin with a spelling, and what is
 /// left follows it; none is found only where nothing but blanks and comments is there; and bytes are refused only at the
@@ -17,6 +23,7 @@ pub fn reading_is_of_text()
     what_is_found_is_spelled();
     blank_text_has_none();
     unreadable_at_first_byte();
+    related_makers_end_related::<Brand>();
 }
 
 /// A value in cells that is a datum means that datum, in the store that the cells mean.
@@ -44,10 +51,28 @@ pub fn what_is_read_is_the_datum()
     ensures { ReadsData }
 {
     what_is_found_is_spelled();
+    related_makers_end_related::<Brand>();
     objects_are_added();
     objects_are_changed();
     table_is_kept();
     others_leave_identifiers();
     names_enter();
     names_are_identifiers();
+}
+
+/// What making rests on: names stay a table, the bounds of counts and of cells agree, and where there is room the cells have it.
+pub(crate) fn making_is_kept()
+    ensures { AreMakingLaws }
+{
+    table_is_kept();
+    others_leave_identifiers();
+    bounds_are_kept();
+    room_is_enough();
+}
+
+/// Reading leaves the cells that stood as they were, however the text ends, also where it is refused or reading stops.
+pub fn reading_keeps_cells()
+    ensures { ReadingKeepsCells }
+{
+    related_makers_end_related::<Brand>();
 }

@@ -2,18 +2,17 @@
 ghost use Rattle.std.specs.Prelude.{◌≡◌, ◌+◌, ◌≤◌, ◌^◌, None, length, IsTrue, IfOk, IfErr, true};
 ghost use Rattle.rl_tags.specs.Tagged.{StrAt};
 ghost use Rattle.rl_cells.specs.Cell.{StrCell, VectorCell, changed_at, is_live, is_pair, is_vector, vector_of};
-ghost use Rattle.rl_syms.specs.Table.{IsFree, IsTable};
+ghost use Rattle.rl_syms.specs.Table.{IsFree};
 ghost use Rattle.rl_text.specs.Maker.{Has};
 ghost use Rattle.rl_read.specs.Given.{is_counted};
 ghost use Rattle.rl_read.specs.Stock.{atom_made, elements_from, chain_ended, chain_hung, identifier_at, identifier_made, object_made, pair_made, quote_made, stock_of, vector_made};
 ghost use Rattle.rl_read.specs.Stock as stock;
-ghost use Rattle.rl_read.specs.Frames.{IsChain, IsMaking, chain_of};
+ghost use Rattle.rl_read.specs.Frames.{CanMake, IsChain, IsMaking, chain_of};
 ghost use Rattle.rl_read.specs.Steps.{IsAtom, Lacks, atom_meant};
 
 use crate::frames::{Chain, first_of};
-use rl_cells::Full;
+use crate::laws::making_is_kept;
 use rl_cells::laws::objects_are_added;
-use rl_syms::laws::{others_leave_identifiers, table_is_kept};
 use rl_tags::{NIL, Tag, Val};
 use rl_world::{Stop, World};
 
@@ -28,7 +27,7 @@ pub(crate) enum Atom<'a> {
 const MOST_PLACES: u32 = 2_147_483_648;
 
 pub(crate) fn pair(w: &mut World, car: Val, cdr: Val) -> Result<Val, Stop>
-    requires table { IsTable w.old.cells.cells w.old.syms.head }
+    requires able { CanMake w.old }
     requires car { IsTrue (is_live w.old.cells.cells car) }
     requires cdr { IsTrue (is_live w.old.cells.cells cdr) }
     ensures ok { IfOk result (λ v. pair_made car cdr (stock_of w.old) ≡ Has v (stock_of w.new)) }
@@ -36,52 +35,44 @@ pub(crate) fn pair(w: &mut World, car: Val, cdr: Val) -> Result<Val, Stop>
     ensures counted { IfErr result (λ s. is_counted s ≡ true) }
     ensures pair { IfOk result (λ v. IsTrue (is_pair w.new.cells.cells v)) }
     ensures longer { IfOk result (λ v. length w.old.cells.cells + 1 ≤ length w.new.cells.cells) }
-    ensures table { IsTable w.new.cells.cells w.new.syms.head }
+    ensures able { CanMake w.new }
     ensures making { IsMaking w.old w.new }
 {
-    table_is_kept();
-    others_leave_identifiers();
+    making_is_kept();
     if let Err(s) = w.room(1) {
         return Err(s);
     }
-    match w.cells.cons(car, cdr) {
-        Ok(v) => Ok(v),
-        Err(Full) => Err(Stop::Cells),
-    }
+    Ok(w.cells.cons(car, cdr).unwrap())
 }
 
 fn string(w: &mut World, bytes: &[u8]) -> Result<Val, Stop>
-    requires table { IsTable w.old.cells.cells w.old.syms.head }
+    requires able { CanMake w.old }
     requires short { length bytes.now ≤ 65535 }
     ensures ok { IfOk result (λ v. object_made (λ n. StrAt n) (StrCell bytes.now) (stock_of w.old) ≡ Has v (stock_of w.new)) }
     ensures stop { IfErr result (λ s. Lacks (object_made (λ n. StrAt n) (StrCell bytes.now) (stock_of w.old)) s) }
     ensures counted { IfErr result (λ s. is_counted s ≡ true) }
     ensures live { IfOk result (λ v. IsTrue (is_live w.new.cells.cells v)) }
-    ensures table { IsTable w.new.cells.cells w.new.syms.head }
+    ensures able { CanMake w.new }
     ensures making { IsMaking w.old w.new }
 {
-    table_is_kept();
-    others_leave_identifiers();
+    making_is_kept();
     let cost = 1 + (bytes.len() as u32 + 15) / 16;
     if let Err(s) = w.room(cost) {
         return Err(s);
     }
-    match w.cells.string(bytes) {
-        Ok(v) => Ok(v),
-        Err(Full) => Err(Stop::Cells),
-    }
+    Ok(w.cells.string(bytes).unwrap())
 }
 
 /// The interned identifier of a name, which is made where there is none.
 fn identifier(w: &mut World, name: &[u8]) -> Result<Val, Stop>
-    requires table { IsTable w.old.cells.cells w.old.syms.head }
+    requires able { CanMake w.old }
     requires some { 1 ≤ length name.now }
     requires short { length name.now ≤ 255 }
     ensures ok { IfOk result (λ v. identifier_made name.now (stock_of w.old) ≡ Has v (stock_of w.new)) }
     ensures stop { IfErr result (λ s. Lacks (identifier_made name.now (stock_of w.old)) s) }
     ensures counted { IfErr result (λ s. is_counted s ≡ true) }
     ensures live { IfOk result (λ v. IsTrue (is_live w.new.cells.cells v)) }
-    ensures table { IsTable w.new.cells.cells w.new.syms.head }
+    ensures able { CanMake w.new }
     ensures making { IsMaking w.old w.new }
 {
     if let Some(id) = w.syms.find(&w.cells, name) {
@@ -92,7 +83,7 @@ fn identifier(w: &mut World, name: &[u8]) -> Result<Val, Stop>
 
 /// A new interned identifier of a name that none has.
 fn new_identifier(w: &mut World, name: &[u8]) -> Result<Val, Stop>
-    requires table { IsTable w.old.cells.cells w.old.syms.head }
+    requires able { CanMake w.old }
     requires some { 1 ≤ length name.now }
     requires short { length name.now ≤ 255 }
     requires free { IsFree w.old.cells.cells w.old.syms.head name.now }
@@ -100,27 +91,25 @@ fn new_identifier(w: &mut World, name: &[u8]) -> Result<Val, Stop>
     ensures stop { IfErr result (λ s. Lacks (identifier_at None name.now (stock_of w.old)) s) }
     ensures counted { IfErr result (λ s. is_counted s ≡ true) }
     ensures live { IfOk result (λ v. IsTrue (is_live w.new.cells.cells v)) }
-    ensures table { IsTable w.new.cells.cells w.new.syms.head }
+    ensures able { CanMake w.new }
     ensures making { IsMaking w.old w.new }
 {
+    making_is_kept();
     let cost = 4 + (name.len() as u32 + 15) / 16;
     if let Err(s) = w.room(cost) {
         return Err(s);
     }
-    match w.syms.intern(&mut w.cells, name) {
-        Ok(v) => Ok(v),
-        Err(Full) => Err(Stop::Cells),
-    }
+    Ok(w.syms.intern(&mut w.cells, name).unwrap())
 }
 
 pub(crate) fn make_atom(w: &mut World, a: Atom<'_>) -> Result<Val, Stop>
-    requires table { IsTable w.old.cells.cells w.old.syms.head }
+    requires able { CanMake w.old }
     requires atom { IsAtom a }
     ensures ok { IfOk result (λ v. atom_made (atom_meant a.entry) (stock_of w.old) ≡ Has v (stock_of w.new)) }
     ensures stop { IfErr result (λ s. Lacks (atom_made (atom_meant a.entry) (stock_of w.old)) s) }
     ensures counted { IfErr result (λ s. is_counted s ≡ true) }
     ensures live { IfOk result (λ v. IsTrue (is_live w.new.cells.cells v)) }
-    ensures table { IsTable w.new.cells.cells w.new.syms.head }
+    ensures able { CanMake w.new }
     ensures making { IsMaking w.old w.new }
 {
     match a {
@@ -131,7 +120,7 @@ pub(crate) fn make_atom(w: &mut World, a: Atom<'_>) -> Result<Val, Stop>
 
 /// The list with one element more.
 pub(crate) fn extended(w: &mut World, chain: &Chain, v: Val) -> Result<Chain, Stop>
-    requires table { IsTable w.old.cells.cells w.old.syms.head }
+    requires able { CanMake w.old }
     requires chain { IsChain w.old.cells.cells chain.now }
     requires live { IsTrue (is_live w.old.cells.cells v) }
     ensures ok { IfOk result (λ c. stock.chain_extended (chain_of chain.now) v (stock_of w.old) ≡ Has (chain_of c) (stock_of w.new)) }
@@ -139,7 +128,7 @@ pub(crate) fn extended(w: &mut World, chain: &Chain, v: Val) -> Result<Chain, St
     ensures counted { IfErr result (λ s. is_counted s ≡ true) }
     ensures chain { IfOk result (λ c. IsChain w.new.cells.cells c) }
     ensures longer { IfOk result (λ c. length w.old.cells.cells + 1 ≤ length w.new.cells.cells) }
-    ensures table { IsTable w.new.cells.cells w.new.syms.head }
+    ensures able { CanMake w.new }
     ensures making { IsMaking w.old w.new }
 {
     let p = match pair(w, v, NIL) {
@@ -151,13 +140,13 @@ pub(crate) fn extended(w: &mut World, chain: &Chain, v: Val) -> Result<Chain, St
 
 /// The list with a new pair at its end.
 fn hang(w: &mut World, chain: &Chain, p: Val) -> Chain
-    requires table { IsTable w.old.cells.cells w.old.syms.head }
+    requires able { CanMake w.old }
     requires chain { IsChain w.old.cells.cells chain.now }
     requires pair { IsTrue (is_pair w.old.cells.cells p) }
     ensures hung { chain_hung (chain_of chain.now) p (stock_of w.old) ≡ Has (chain_of result) (stock_of w.new) }
     ensures chain { IsChain w.new.cells.cells result }
     ensures same { length w.new.cells.cells ≡ length w.old.cells.cells }
-    ensures table { IsTable w.new.cells.cells w.new.syms.head }
+    ensures able { CanMake w.new }
     ensures making { IsMaking w.old w.new }
 {
     match chain {
@@ -170,27 +159,26 @@ fn hang(w: &mut World, chain: &Chain, p: Val) -> Chain
 }
 
 fn set_cdr(w: &mut World, p: Val, v: Val)
-    requires table { IsTable w.old.cells.cells w.old.syms.head }
+    requires able { CanMake w.old }
     requires pair { IsTrue (is_pair w.old.cells.cells p) }
     requires live { IsTrue (is_live w.old.cells.cells v) }
     ensures stock { stock_of w.new ≡ stock.stock_with_cdr p v (stock_of w.old) }
     ensures same { length w.new.cells.cells ≡ length w.old.cells.cells }
-    ensures table { IsTable w.new.cells.cells w.new.syms.head }
+    ensures able { CanMake w.new }
     ensures making { IsMaking w.old w.new }
 {
-    table_is_kept();
-    others_leave_identifiers();
+    making_is_kept();
     w.cells.set_cdr(p, v);
 }
 
 /// The list with what stands behind its dot.
 pub(crate) fn end_with(w: &mut World, chain: &Chain, v: Val)
-    requires table { IsTable w.old.cells.cells w.old.syms.head }
+    requires able { CanMake w.old }
     requires chain { IsChain w.old.cells.cells chain.now }
     requires live { IsTrue (is_live w.old.cells.cells v) }
     ensures ended { chain_ended (chain_of chain.now) v (stock_of w.old) ≡ Has (chain_of chain.now) (stock_of w.new) }
     ensures same { length w.new.cells.cells ≡ length w.old.cells.cells }
-    ensures table { IsTable w.new.cells.cells w.new.syms.head }
+    ensures able { CanMake w.new }
     ensures making { IsMaking w.old w.new }
 {
     match chain {
@@ -215,17 +203,16 @@ fn count(w: &World, list: Val) -> u32
 
 /// Puts the elements of a list into a new vector of as many places.
 fn fill(w: &mut World, v: Val, list: Val, n: u32)
-    requires table { IsTable w.old.cells.cells w.old.syms.head }
+    requires able { CanMake w.old }
     requires vector { IsTrue (is_vector w.old.cells.cells v) }
     requires places { length (vector_of w.old.cells.cells v) ≡ n }
     requires list { IsTrue (is_live w.old.cells.cells list) }
     requires elements { length (elements_from n w.old.cells.cells list) ≡ n }
     ensures filled { w.new ≡ record w.old { cells = record w.old.cells { cells = changed_at w.old.cells.cells v (VectorCell (elements_from n w.old.cells.cells list)) } } }
-    ensures table { IsTable w.new.cells.cells w.new.syms.head }
+    ensures able { CanMake w.new }
     ensures making { IsMaking w.old w.new }
 {
-    table_is_kept();
-    others_leave_identifiers();
+    making_is_kept();
     let mut at = list;
     for i in 0..n {
         let x = w.cells.car(at);
@@ -236,17 +223,16 @@ fn fill(w: &mut World, v: Val, list: Val, n: u32)
 
 /// The vector of the elements of a list.
 pub(crate) fn vector(w: &mut World, chain: &Chain) -> Result<Val, Stop>
-    requires table { IsTable w.old.cells.cells w.old.syms.head }
+    requires able { CanMake w.old }
     requires chain { IsChain w.old.cells.cells chain.now }
     ensures ok { IfOk result (λ v. vector_made (chain_of chain.now) (stock_of w.old) ≡ Has v (stock_of w.new)) }
     ensures stop { IfErr result (λ s. Lacks (vector_made (chain_of chain.now) (stock_of w.old)) s) }
     ensures counted { IfErr result (λ s. is_counted s ≡ true) }
     ensures live { IfOk result (λ v. IsTrue (is_live w.new.cells.cells v)) }
-    ensures table { IsTable w.new.cells.cells w.new.syms.head }
+    ensures able { CanMake w.new }
     ensures making { IsMaking w.old w.new }
 {
-    table_is_kept();
-    others_leave_identifiers();
+    making_is_kept();
     objects_are_added();
     let list = first_of(chain);
     let n = count(w, list);
@@ -256,24 +242,20 @@ pub(crate) fn vector(w: &mut World, chain: &Chain) -> Result<Val, Stop>
     if let Err(s) = w.room(1 + (n + 1) / 2) {
         return Err(s);
     }
-    match w.cells.vector(n) {
-        Ok(v) => {
-            fill(w, v, list, n);
-            Ok(v)
-        }
-        Err(Full) => Err(Stop::Cells),
-    }
+    let v = w.cells.vector(n).unwrap();
+    fill(w, v, list, n);
+    Ok(v)
 }
 
 /// `(QUOTE e)`: the pair of e is made first.
 pub(crate) fn quoted(w: &mut World, e: Val) -> Result<Val, Stop>
-    requires table { IsTable w.old.cells.cells w.old.syms.head }
+    requires able { CanMake w.old }
     requires live { IsTrue (is_live w.old.cells.cells e) }
     ensures ok { IfOk result (λ v. quote_made e (stock_of w.old) ≡ Has v (stock_of w.new)) }
     ensures stop { IfErr result (λ s. Lacks (quote_made e (stock_of w.old)) s) }
     ensures counted { IfErr result (λ s. is_counted s ≡ true) }
     ensures live { IfOk result (λ v. IsTrue (is_live w.new.cells.cells v)) }
-    ensures table { IsTable w.new.cells.cells w.new.syms.head }
+    ensures able { CanMake w.new }
     ensures making { IsMaking w.old w.new }
 {
     let quote = match identifier(w, b"QUOTE") {

@@ -3,14 +3,14 @@ ghost use Rattle.std.specs.Prelude.{◌≡◌, ◌≢◌, ◌≤◌, ℕ, Bool, 
 ghost use Rattle.rl_io.specs.Faults.{Rose};
 ghost use Rattle.rl_io.specs.Told.{WhereTold};
 ghost use Rattle.rl_cells.specs.Cell.{is_live};
-ghost use Rattle.rl_syms.specs.Table.{IsTable};
 ghost use Rattle.rl_text.specs.Reader as reader;
 ghost use Rattle.rl_text.specs.Reader.{NoneLeft, Read, Refused, Stopped, read_by};
 ghost use Rattle.rl_world.specs.declared.stop.Stop.{Stop};
 ghost use Rattle.rl_world.specs.declared.stop.Stop.TheVariants as stop;
+ghost use Rattle.rl_read.specs.Taken.{TakesBytes};
 ghost use Rattle.rl_read.specs.Given.{is_counted, is_fault};
 ghost use Rattle.rl_read.specs.Stock.{Stock, in_stock, stock_of};
-ghost use Rattle.rl_read.specs.Frames.{IsReading, IsReadyToRead, frames_in};
+ghost use Rattle.rl_read.specs.Frames.{CanMake, IsReading, IsReadyToRead, frames_in};
 ghost use Rattle.rl_read.specs.Steps.{IsMode, may_end, mode_of, word_atom};
 ghost use Rattle.rl_read.specs.Reads.{IsRefusal, IsRefusedText, IsStopped, IsStoppedText, KeepsByReading, NotStopped, ended_between};
 ghost use Rattle.rl_read.specs.declared.read.ReadFault.TheVariants as fault;
@@ -21,6 +21,7 @@ use crate::frames::{Group, leave};
 use crate::step::{Ended, Step, read_byte, word_ended};
 use crate::word::{Mode, Word};
 use rl_tags::Val;
+use rl_world::laws::bounds_are_kept;
 use rl_world::{Stop, World};
 
 /// Why no form is read.
@@ -45,11 +46,11 @@ pub enum ReadFault {
 /// `Syntax` at the first byte with which no spelling goes on, or at the end inside a spelling; `End` where only blanks and
 /// comments are left; `Stop` where a turn, a level or room is wanting, or the text fails.
 pub fn read_form<T: Bytes>(w: &mut World, text: &mut T) -> Result<Val, ReadFault>
-    requires { IsTable w.old.cells.cells w.old.syms.head }
-    ensures ok { IfOk result (λ v. WhereTold (T.left text.old w.old.input) (T.left text.new w.new.input) (λ before now. read_by (in_stock (T.takes_turns text.old)) (stock_of w.old) before ≡ Read v (stock_of w.new) now)) }
-    ensures syntax { (k : ℕ) → result ≡ Err (fault.Syntax k) → WhereTold (T.left text.old w.old.input) (T.left text.new w.new.input) (λ before now. IsRefusedText (T.takes_turns text.old) w.old w.new before now k) }
-    ensures end { result ≡ Err fault.End → WhereTold (T.left text.old w.old.input) (T.left text.new w.new.input) (λ before now. read_by (in_stock (T.takes_turns text.old)) (stock_of w.old) before ≡ NoneLeft (stock_of w.new)) }
-    ensures stop { (s : Stop) → result ≡ Err (fault.Stop s) → is_fault s ≡ false → WhereTold (T.left text.old w.old.input) (T.left text.new w.new.input) (λ before now. IsStoppedText (T.takes_turns text.old) w.old before now s) }
+    requires { CanMake w.old }
+    ensures ok { IfOk result (λ v. TakesBytes (T.unread text.old w.old.input) (T.unread text.new w.new.input) (λ before now. read_by (in_stock (T.takes_turns text.old)) (stock_of w.old) before ≡ Read v (stock_of w.new) now)) }
+    ensures syntax { (k : ℕ) → result ≡ Err (fault.Syntax k) → TakesBytes (T.unread text.old w.old.input) (T.unread text.new w.new.input) (λ before now. IsRefusedText (T.takes_turns text.old) w.old w.new before now k) }
+    ensures end { result ≡ Err fault.End → TakesBytes (T.unread text.old w.old.input) (T.unread text.new w.new.input) (λ before now. read_by (in_stock (T.takes_turns text.old)) (stock_of w.old) before ≡ NoneLeft (stock_of w.new)) }
+    ensures stop { (s : Stop) → result ≡ Err (fault.Stop s) → is_fault s ≡ false → TakesBytes (T.unread text.old w.old.input) (T.unread text.new w.new.input) (λ before now. IsStoppedText (T.takes_turns text.old) w.old before now s) }
     ensures counted { (s : Stop) → result ≡ Err (fault.Stop s) → is_fault s ≡ false → is_counted s ≡ true }
     ensures printed { result ≢ Err (fault.Stop stop.Write) → WhereTold (T.printed text.old w.old.output.waiting) (T.printed text.new w.new.output.waiting) (λ before now. now ≡ before) }
     ensures read_failed { result ≡ Err (fault.Stop stop.Read) → Rose (T.reads text.old) (T.reads text.new) }
@@ -58,10 +59,11 @@ pub fn read_form<T: Bytes>(w: &mut World, text: &mut T) -> Result<Val, ReadFault
     ensures steady_writes { result ≢ Err (fault.Stop stop.Write) → T.writes text.new ≡ T.writes text.old }
     ensures kept { T.kept text.new ≡ T.kept text.old }
     ensures live { IfOk result (λ v. IsTrue (is_live w.new.cells.cells v)) }
-    ensures table { IsTable w.new.cells.cells w.new.syms.head }
+    ensures able { CanMake w.new }
     ensures levels { NotStopped result → w.new.levels ≡ w.old.levels }
     ensures keeps { KeepsByReading w.old w.new }
 {
+    bounds_are_kept();
     let base = w.walk_len();
     let mut word = Word::new();
     let mut mode = Mode::Gap;
@@ -123,7 +125,7 @@ fn at_end(
     ensures stop { (s : Stop) → result ≡ Err (fault.Stop s) → IsStopped (λ t. reader.at_end (in_stock t) (mode_of mode word.now.items) (frames_in base w.old group) (stock_of w.old)) s [] }
     ensures counted { (s : Stop) → result ≡ Err (fault.Stop s) → is_counted s ≡ true }
     ensures live { IfOk result (λ v. IsTrue (is_live w.new.cells.cells v)) }
-    ensures table { IsTable w.new.cells.cells w.new.syms.head }
+    ensures able { CanMake w.new }
     ensures left { NotStopped result → length w.new.levels.walk ≡ base }
     ensures reading { IsReading base w.old w.new }
 {
@@ -169,7 +171,7 @@ fn word_at_end(
     ensures stop { (s : Stop) → result ≡ Err (fault.Stop s) → IsStopped (λ t. reader.ends_after (reader.atom_ended (in_stock t) (word_atom mode word.now.items) (frames_in base w.old group) (stock_of w.old))) s [] }
     ensures counted { (s : Stop) → result ≡ Err (fault.Stop s) → is_counted s ≡ true }
     ensures live { IfOk result (λ v. IsTrue (is_live w.new.cells.cells v)) }
-    ensures table { IsTable w.new.cells.cells w.new.syms.head }
+    ensures able { CanMake w.new }
     ensures left { NotStopped result → length w.new.levels.walk ≡ base }
     ensures reading { IsReading base w.old w.new }
 {

@@ -2,27 +2,26 @@
 ghost use Rattle.std.specs.Prelude.{◌≡◌, ◌≢◌, ◌≤◌, ◌<◌, ◌+◌, ◌-◌, ◌*◌, ℕ, Bool, true, false, List, [], ◌∷◌, ◌++◌, Some, length, IsTrue, IfOk, IfErr};
 ghost use Rattle.rl_tags.specs.Tagged.{Number};
 ghost use Rattle.rl_cells.specs.Cell.{is_live};
-ghost use Rattle.rl_syms.specs.Table.{IsTable};
 ghost use Rattle.rl_tree.specs.Bytes.{is_digit};
 ghost use Rattle.rl_text.specs.Reader as reader;
 ghost use Rattle.rl_text.specs.Byte as byte;
+ghost use Rattle.rl_text.specs.ByteClass.{mark_of};
 ghost use Rattle.rl_text.specs.Word as word;
 ghost use Rattle.rl_text.specs.Maker.{Has};
 ghost use Rattle.rl_world.specs.declared.world.World.{World};
 ghost use Rattle.rl_read.specs.Given.{is_counted};
 ghost use Rattle.rl_read.specs.Stock.{in_stock, stock_of};
-ghost use Rattle.rl_read.specs.Frames.{IsChain, IsMaking, IsReading, IsReadyToRead, chain_of, frames_around, frames_in, is_quote_group, vector_in_group};
-ghost use Rattle.rl_read.specs.Steps.{IsAtom, IsEnded, IsHalting, IsLacking, IsMode, IsNumber, IsStep, atom_meant, ended_of, inner_ended, is_digits_mode, is_text_mode, mark_of, may_end, mode_of, opens_at, step_of, word_atom};
+ghost use Rattle.rl_read.specs.Frames.{CanMake, IsChain, IsMaking, IsReading, IsReadyToRead, chain_of, frames_around, frames_in, is_quote_group, vector_in_group};
+ghost use Rattle.rl_read.specs.Steps.{IsAtom, IsEnded, IsHalting, IsLacking, IsMode, IsNumber, IsStep, atom_meant, ended_of, inner_ended, is_digits_mode, is_text_mode, may_end, mode_of, opens_at, step_of, word_atom};
 ghost use Rattle.rl_read.specs.declared.frames.Group.TheVariants as rl_group;
 ghost use Rattle.rl_read.specs.declared.frames.Phase.TheVariants as rl_phase;
 ghost use Rattle.rl_read.specs.declared.word.Mode.TheVariants as mode;
 
 use crate::frames::{Chain, Group, Opening, Phase, admits, around, begin, first_of};
 use crate::make::{Atom, end_with, extended, make_atom, quoted, vector};
-use crate::word::{
-    Class, LONGEST_NAME, LONGEST_TEXT, Mark, Mode, Word, class_of, is_name_byte, raised,
-};
+use crate::word::{LONGEST_NAME, LONGEST_TEXT, Mode, Word};
 use rl_tags::{NIL, Val};
+use rl_text::bytes::{Class, Mark, class_of, is_name_byte, raised};
 use rl_world::{Stop, World};
 
 /// 2^59, the greatest number after `-`.
@@ -51,7 +50,7 @@ pub(crate) fn value_ended(w: &mut World, v: Val, group: Group, base: u64) -> Res
     ensures stop { IfErr result (λ s. IsLacking (λ t. reader.value_ended (in_stock t) v (frames_in base w.old group) (stock_of w.old)) s) }
     ensures counted { IfErr result (λ s. is_counted s ≡ true) }
     ensures ended { IfOk result (λ e. IsEnded base w.new e) }
-    ensures table { IsTable w.new.cells.cells w.new.syms.head }
+    ensures able { CanMake w.new }
     ensures reading { IsReading base w.old w.new }
 {
     let mut v = v;
@@ -85,7 +84,7 @@ fn in_place(w: &mut World, v: Val, group: Group, base: u64) -> Result<Ended, Sto
     ensures stop { IfErr result (λ s. IsLacking (λ t. reader.value_ended (in_stock t) v (frames_in base w.old group) (stock_of w.old)) s) }
     ensures counted { IfErr result (λ s. is_counted s ≡ true) }
     ensures ended { IfOk result (λ e. IsEnded base w.new e) }
-    ensures table { IsTable w.new.cells.cells w.new.syms.head }
+    ensures able { CanMake w.new }
     ensures making { IsMaking w.old w.new }
 {
     match group {
@@ -117,7 +116,7 @@ fn in_list(
     ensures stop { IfErr result (λ s. IsLacking (λ t. reader.value_ended (in_stock t) v (frames_in base w.old (rl_group.List l owed phase)) (stock_of w.old)) s) }
     ensures counted { IfErr result (λ s. is_counted s ≡ true) }
     ensures ended { IfOk result (λ e. IsEnded base w.new e) }
-    ensures table { IsTable w.new.cells.cells w.new.syms.head }
+    ensures able { CanMake w.new }
     ensures making { IsMaking w.old w.new }
 {
     match phase {
@@ -141,7 +140,7 @@ fn bracket_ended(w: &mut World, v: Val, group: &Group, base: u64) -> Result<Step
     ensures stop { IfErr result (λ s. IsHalting (λ t. reader.goes_after (reader.value_ended (in_stock t) v (frames_around base w.old group.now) (reader.left (in_stock t) (frames_around base w.old group.now) (stock_of w.old)))) s) }
     ensures counted { IfErr result (λ s. is_counted s ≡ true) }
     ensures step { IfOk result (λ r. IsStep base w.new [] r) }
-    ensures table { IsTable w.new.cells.cells w.new.syms.head }
+    ensures able { CanMake w.new }
     ensures reading { IsReading base w.old w.new }
 {
     let outer = around(w, group, base);
@@ -169,7 +168,7 @@ fn close_list(w: &mut World, group: &Group, base: u64) -> Result<Step, Stop>
     ensures stop { IfErr result (λ s. IsHalting (λ t. reader.close_list (in_stock t) (frames_in base w.old group.now) (stock_of w.old)) s) }
     ensures counted { IfErr result (λ s. is_counted s ≡ true) }
     ensures step { IfOk result (λ r. IsStep base w.new [] r) }
-    ensures table { IsTable w.new.cells.cells w.new.syms.head }
+    ensures able { CanMake w.new }
     ensures reading { IsReading base w.old w.new }
 {
     match group {
@@ -192,7 +191,7 @@ fn close_at(
     ensures stop { IfErr result (λ s. IsHalting (λ t. reader.close_list (in_stock t) (frames_in base w.old group.now) (stock_of w.old)) s) }
     ensures counted { IfErr result (λ s. is_counted s ≡ true) }
     ensures step { IfOk result (λ r. IsStep base w.new [] r) }
-    ensures table { IsTable w.new.cells.cells w.new.syms.head }
+    ensures able { CanMake w.new }
     ensures reading { IsReading base w.old w.new }
 {
     match phase {
@@ -217,7 +216,7 @@ fn close_level(
     ensures stop { IfErr result (λ s. IsHalting (λ t. reader.close_list (in_stock t) (frames_in base w.old group.now) (stock_of w.old)) s) }
     ensures counted { IfErr result (λ s. is_counted s ≡ true) }
     ensures step { IfOk result (λ r. IsStep base w.new [] r) }
-    ensures table { IsTable w.new.cells.cells w.new.syms.head }
+    ensures able { CanMake w.new }
     ensures reading { IsReading base w.old w.new }
 {
     if owed == 0 {
@@ -230,11 +229,11 @@ fn close_level(
 
 /// A list that stands behind a dot ends: with NIL, but where it has had its own dot.
 fn end_inner(w: &mut World, l: &Chain, phase: &Phase)
-    requires table { IsTable w.old.cells.cells w.old.syms.head }
+    requires able { CanMake w.old }
     requires chain { IsChain w.old.cells.cells l.now }
     ensures ended { inner_ended phase.now (chain_of l.now) (stock_of w.old) ≡ Has (chain_of l.now) (stock_of w.new) }
     ensures same { length w.new.cells.cells ≡ length w.old.cells.cells }
-    ensures table { IsTable w.new.cells.cells w.new.syms.head }
+    ensures able { CanMake w.new }
     ensures making { IsMaking w.old w.new }
 {
     match phase {
@@ -250,7 +249,7 @@ fn close_vector(w: &mut World, group: &Group, base: u64) -> Result<Step, Stop>
     ensures stop { IfErr result (λ s. IsHalting (λ t. reader.close_vector (in_stock t) (frames_in base w.old group.now) (stock_of w.old)) s) }
     ensures counted { IfErr result (λ s. is_counted s ≡ true) }
     ensures step { IfOk result (λ r. IsStep base w.new [] r) }
-    ensures table { IsTable w.new.cells.cells w.new.syms.head }
+    ensures able { CanMake w.new }
     ensures reading { IsReading base w.old w.new }
 {
     match group {
@@ -267,7 +266,7 @@ fn vector_closed(w: &mut World, c: &Chain, group: &Group, base: u64) -> Result<S
     ensures stop { IfErr result (λ s. IsHalting (λ t. reader.close_vector (in_stock t) (frames_in base w.old group.now) (stock_of w.old)) s) }
     ensures counted { IfErr result (λ s. is_counted s ≡ true) }
     ensures step { IfOk result (λ r. IsStep base w.new [] r) }
-    ensures table { IsTable w.new.cells.cells w.new.syms.head }
+    ensures able { CanMake w.new }
     ensures reading { IsReading base w.old w.new }
 {
     let v = match vector(w, c) {
@@ -297,7 +296,7 @@ fn at_mark(w: &mut World, mark: Mark, group: &Group, base: u64) -> Result<Step, 
     ensures stop { IfErr result (λ s. IsHalting (λ t. reader.at_mark (in_stock t) (mark_of mark) (frames_in base w.old group.now) (stock_of w.old)) s) }
     ensures counted { IfErr result (λ s. is_counted s ≡ true) }
     ensures step { IfOk result (λ r. IsStep base w.new [] r) }
-    ensures table { IsTable w.new.cells.cells w.new.syms.head }
+    ensures able { CanMake w.new }
     ensures reading { IsReading base w.old w.new }
 {
     match mark {
@@ -317,7 +316,7 @@ fn opens(w: &mut World, opening: Opening, group: &Group, base: u64) -> Result<St
     ensures stop { IfErr result (λ s. IsHalting (λ t. opens_at (in_stock t) opening (frames_in base w.old group.now) (stock_of w.old)) s) }
     ensures counted { IfErr result (λ s. is_counted s ≡ true) }
     ensures step { IfOk result (λ r. IsStep base w.new [] r) }
-    ensures table { IsTable w.new.cells.cells w.new.syms.head }
+    ensures able { CanMake w.new }
     ensures reading { IsReading base w.old w.new }
 {
     if !admits(group) {
@@ -348,7 +347,7 @@ fn at_gap(w: &mut World, b: u8, group: Group, word: &mut Word, base: u64) -> Res
     ensures stop { IfErr result (λ s. IsHalting (λ t. reader.at_gap (in_stock t) b (frames_in base w.old group) (stock_of w.old)) s) }
     ensures counted { IfErr result (λ s. is_counted s ≡ true) }
     ensures step { IfOk result (λ r. IsStep base w.new word.new.items r) }
-    ensures table { IsTable w.new.cells.cells w.new.syms.head }
+    ensures able { CanMake w.new }
     ensures reading { IsReading base w.old w.new }
 {
     word.clear();
@@ -376,7 +375,7 @@ fn at_special(w: &mut World, b: u8, group: Group, base: u64) -> Result<Step, Sto
     ensures stop { IfErr result (λ s. IsHalting (λ t. reader.at_class (in_stock t) byte.Special b (frames_in base w.old group) (stock_of w.old)) s) }
     ensures counted { IfErr result (λ s. is_counted s ≡ true) }
     ensures step { IfOk result (λ r. IsStep base w.new [] r) }
-    ensures table { IsTable w.new.cells.cells w.new.syms.head }
+    ensures able { CanMake w.new }
     ensures reading { IsReading base w.old w.new }
 {
     if !admits(&group) {
@@ -396,7 +395,7 @@ fn atom_ended(w: &mut World, a: Atom<'_>, group: Group, base: u64) -> Result<End
     ensures stop { IfErr result (λ s. IsLacking (λ t. reader.atom_ended (in_stock t) (atom_meant a.entry) (frames_in base w.old group) (stock_of w.old)) s) }
     ensures counted { IfErr result (λ s. is_counted s ≡ true) }
     ensures ended { IfOk result (λ e. IsEnded base w.new e) }
-    ensures table { IsTable w.new.cells.cells w.new.syms.head }
+    ensures able { CanMake w.new }
     ensures reading { IsReading base w.old w.new }
 {
     match make_atom(w, a) {
@@ -420,7 +419,7 @@ pub(crate) fn word_ended(
     ensures stop { IfErr result (λ s. IsLacking (λ t. reader.atom_ended (in_stock t) (word_atom mode word.now.items) (frames_in base w.old group) (stock_of w.old)) s) }
     ensures counted { IfErr result (λ s. is_counted s ≡ true) }
     ensures ended { IfOk result (λ e. IsEnded base w.new e) }
-    ensures table { IsTable w.new.cells.cells w.new.syms.head }
+    ensures able { CanMake w.new }
     ensures reading { IsReading base w.old w.new }
 {
     match mode {
@@ -439,7 +438,7 @@ fn number_ended(w: &mut World, minus: bool, n: u64, group: Group, base: u64) -> 
     ensures stop { IfErr result (λ s. IsLacking (λ t. reader.atom_ended (in_stock t) (word.Integer (word.signed minus n)) (frames_in base w.old group) (stock_of w.old)) s) }
     ensures counted { IfErr result (λ s. is_counted s ≡ true) }
     ensures ended { IfOk result (λ e. IsEnded base w.new e) }
-    ensures table { IsTable w.new.cells.cells w.new.syms.head }
+    ensures able { CanMake w.new }
     ensures reading { IsReading base w.old w.new }
 {
     value_ended(w, number(minus, n), group, base)
@@ -473,7 +472,7 @@ fn before(
     ensures stop { IfErr result (λ s. IsHalting (λ t. reader.atom_before (in_stock t) (word_atom mode word.old.items) b (frames_in base w.old group) (stock_of w.old)) s) }
     ensures counted { IfErr result (λ s. is_counted s ≡ true) }
     ensures step { IfOk result (λ r. IsStep base w.new word.new.items r) }
-    ensures table { IsTable w.new.cells.cells w.new.syms.head }
+    ensures able { CanMake w.new }
     ensures reading { IsReading base w.old w.new }
 {
     let ended = match word_ended(w, mode, group, word, base) {
@@ -507,7 +506,7 @@ fn in_name(w: &mut World, b: u8, group: Group, word: &mut Word, base: u64) -> Re
     ensures stop { IfErr result (λ s. IsHalting (λ t. reader.reader_step (in_stock t) (reader.InName word.old.items) b (frames_in base w.old group) (stock_of w.old)) s) }
     ensures counted { IfErr result (λ s. is_counted s ≡ true) }
     ensures step { IfOk result (λ r. IsStep base w.new word.new.items r) }
-    ensures table { IsTable w.new.cells.cells w.new.syms.head }
+    ensures able { CanMake w.new }
     ensures reading { IsReading base w.old w.new }
 {
     if is_name_byte(b) {
@@ -552,7 +551,7 @@ fn in_text(
     ensures stop { IfErr result (λ s. IsHalting (λ t. reader.reader_step (in_stock t) (mode_of mode word.old.items) b (frames_in base w.old group) (stock_of w.old)) s) }
     ensures counted { IfErr result (λ s. is_counted s ≡ true) }
     ensures step { IfOk result (λ r. IsStep base w.new word.new.items r) }
-    ensures table { IsTable w.new.cells.cells w.new.syms.head }
+    ensures able { CanMake w.new }
     ensures reading { IsReading base w.old w.new }
 {
     match mode {
@@ -587,7 +586,7 @@ fn in_digits(
     ensures stop { IfErr result (λ s. IsHalting (λ t. reader.reader_step (in_stock t) (mode_of mode word.old.items) b (frames_in base w.old group) (stock_of w.old)) s) }
     ensures counted { IfErr result (λ s. is_counted s ≡ true) }
     ensures step { IfOk result (λ r. IsStep base w.new word.new.items r) }
-    ensures table { IsTable w.new.cells.cells w.new.syms.head }
+    ensures able { CanMake w.new }
     ensures reading { IsReading base w.old w.new }
 {
     if !b.is_ascii_digit() {
@@ -615,7 +614,7 @@ pub(crate) fn read_byte(
     ensures stop { IfErr result (λ s. IsHalting (λ t. reader.reader_step (in_stock t) (mode_of mode word.old.items) b (frames_in base w.old group) (stock_of w.old)) s) }
     ensures counted { IfErr result (λ s. is_counted s ≡ true) }
     ensures step { IfOk result (λ r. IsStep base w.new word.new.items r) }
-    ensures table { IsTable w.new.cells.cells w.new.syms.head }
+    ensures able { CanMake w.new }
     ensures reading { IsReading base w.old w.new }
 {
     match mode {

@@ -8,6 +8,7 @@ pub mod Walking
 pub mod Once
 pub mod Totals
 pub mod Entered
+pub mod Outer
 pub mod ToldOn
 pub mod Takings
 pub mod TiedBytes

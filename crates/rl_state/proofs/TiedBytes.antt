@@ -1,76 +1,90 @@
 -- A byte that is printed or taken.
-use Rattle.std.proofs.Common.{arith, ◌≡◌, ℕ, ◌+◌, ◌-◌, ◌^◌, ◌<◌, min, Bool, true, false, List, [], ◌∷◌, ◌++◌, length, drop, Option, Some, None, refl, sym, ap, subst, ◌∙◌}
+use Rattle.std.proofs.Common.{arith, ◌≡◌, ◌≢◌, ◌⊎◌, inl, inr, ℕ, ◌+◌, ◌-◌, ◌^◌, ◌<◌, min, Bool, true, false, List, [], ◌∷◌, ◌++◌, length, drop, Option, Some, None, refl, sym, ap, subst, ◌∙◌}
 use Rattle.std.specs.Prelude.{IfSome}
+use Rattle.rl_io.specs.Faults.{Rose}
 use Rattle.rl_io.specs.Told.{WhereTold}
 use Rattle.rl_tree.specs.Printing.{column_with}
 use Rattle.rl_world.specs.Waiting.{Follows, IsCutOff}
 use Rattle.rl_world.specs.Input.{Input, Gives, ended_after, given_after, with_back}
+use Rattle.rl_world.specs.declared.stop.Stop as stops
+use Rattle.rl_world.specs.declared.stop.Stop.TheVariants as stop
 use Rattle.rl_world.specs.declared.world.World.{World}
 use Rattle.rl_meaning.specs.State.{State}
 use Rattle.rl_meaning.specs.Printing.{print_mark}
 use Rattle.rl_state.specs.ShownState.{ShowsState}
 use Rattle.rl_state.specs.StateOfWorld.{WorldIsShown, state_in}
-use Rattle.rl_state.specs.Ties.{ToldAtStart, EndsTied, IsNextOf, IsPrintedInPart, IsPrintedBefore, EachWorldTies, GivesNext, TakesInput, Ties, after_byte, and_told, with_coming}
-use Rattle.rl_state.proofs.ToldOn.{told_first, told_through, told_mapped, out_follows, out_flushed, out_cut, out_cut_flushed}
+use Rattle.rl_state.specs.Ties.{ToldAtStart, EndsTied, IsNextOf, LeavesFronts, IsPrintedBefore, EachWorldTies, GivesNext, TakesInput, Ties, after_byte, and_told, with_coming, with_noted}
+use Rattle.rl_state.proofs.Outer.{shows_outer}
+use Rattle.rl_state.proofs.ToldOn.{told_first, told_through, told_mapped, out_follows, out_flushed, out_cut, out_cut_flushed, out_kept, out_kept_cut}
 
--- ---- printing
+-- ---- printing and noting
 
-shows_put : (w x : World) (b : ℕ) (s : State) → x ≡ record w { output = record w.output { waiting = x.output.waiting; column = column_with w.output.column b } } → ShowsState w s → ShowsState x (print_mark (b ∷ []) s)
-shows_put w x b s e h = subst (λ (y : World). ShowsState y (print_mark (b ∷ []) s)) (sym e) (record {
-  store = h.store;
-  symbols = record { many = h.symbols.many; symbols = h.symbols.symbols; values = h.symbols.values };
-  counts = h.counts;
-  gensyms = h.gensyms;
-  column = ap (λ c. column_with c b) h.column;
-  line_length = h.line_length;
-  taken = h.taken;
-  free = h.free;
-  bound = h.bound;
-})
+shows_put : (w x : World) (b : ℕ) (s : State) → x ≡ record w { output = record w.output { waiting = x.output.waiting; column = x.output.column } } → x.output.column ≡ column_with w.output.column b → ShowsState w s → ShowsState x (print_mark (b ∷ []) s)
+shows_put w x b s e column h = subst (λ (y : World). ShowsState y (print_mark (b ∷ []) s)) (sym e)
+    (shows_outer w (record w.output { waiting = x.output.waiting; column = x.output.column }) w.notes w.input s (print_mark (b ∷ []) s).outside s.watched (ap (λ c. column_with c b) h.column ∙ sym column) h.line_length h.taken h)
 
-pub put : (at : ToldAtStart) (w x : World) (b : ℕ) (o p i j : Option (List ℕ)) (coming : List ℕ) (s : State)
-    → x ≡ record w { output = record w.output { waiting = x.output.waiting; column = column_with w.output.column b } }
-    → j ≡ i → Follows o w.output.waiting p x.output.waiting (b ∷ []) → Ties at (and_told w o i) coming s → Ties at (and_told x p j) coming (print_mark (b ∷ []) s)
-put at w x b o p i j coming s e k f h = record {
-  shows = shows_put w x b s e h.shows;
+pub put : (at : ToldAtStart) (w x : World) (b : ℕ) (o p n m i j : Option (List ℕ)) (coming : List ℕ) (s : State)
+    → x ≡ record w { output = record w.output { waiting = x.output.waiting; column = x.output.column } } → x.output.column ≡ column_with w.output.column b
+    → m ≡ n → j ≡ i → Follows o w.output.waiting p x.output.waiting (b ∷ []) → Ties at (and_told w o n i) coming s → Ties at (and_told x p m j) coming (print_mark (b ∷ []) s)
+put at w x b o p n m i j coming s e column q k f h = record {
+  shows = shows_put w x b s e column h.shows;
   output = out_follows at.out o p w.output.waiting x.output.waiting s.outside.output (b ∷ []) h.output f;
+  notes = out_kept at.notes n m w.notes x.notes s.outside.notes q (ap (λ (y : World). y.notes) e) h.notes;
   input = h.input ∙ ap (λ (y : World). with_back y.input.back coming) (sym e);
   left = subst (λ (t : Option (List ℕ)). WhereTold at.source t (λ before left. left ≡ coming)) (sym k) h.left;
   ended = λ t. h.ended (ap (λ (y : World). y.input.ended) (sym e) ∙ t);
   few = h.few;
 }
 
-pub put_cut : (at : ToldAtStart) (w : World) (b : ℕ) (o p i : Option (List ℕ)) (coming : List ℕ) (s : State) → IsCutOff o p (w.output.waiting ++ b ∷ []) → Ties at (and_told w o i) coming s → IsPrintedInPart at.out p (print_mark (b ∷ []) s).outside.output
-put_cut at w b o p i coming s f h = out_cut at.out o p w.output.waiting s.outside.output (b ∷ []) h.output f
+pub put_cut : (at : ToldAtStart) (w x : World) (b : ℕ) (o p n m i j : Option (List ℕ)) (coming : List ℕ) (s : State) → m ≡ n → IsCutOff o p (w.output.waiting ++ b ∷ []) → Ties at (and_told w o n i) coming s → LeavesFronts at (and_told x p m j) (print_mark (b ∷ []) s)
+put_cut at w x b o p n m i j coming s q f h = record {
+  output = out_cut at.out o p w.output.waiting s.outside.output (b ∷ []) h.output f;
+  notes = out_kept_cut at.notes n m w.notes s.outside.notes q h.notes;
+}
+
+pub put_note : (at : ToldAtStart) (w x : World) (b : ℕ) (o p n m i j : Option (List ℕ)) (coming : List ℕ) (s : State)
+    → x ≡ record w { notes = x.notes } → p ≡ o → j ≡ i → Follows n w.notes m x.notes (b ∷ []) → Ties at (and_told w o n i) coming s → Ties at (and_told x p m j) coming (with_noted (b ∷ []) s)
+put_note at w x b o p n m i j coming s e q k f h = record {
+  shows = subst (λ (y : World). ShowsState y (with_noted (b ∷ []) s)) (sym e) (shows_outer w w.output x.notes w.input s (with_noted (b ∷ []) s).outside s.watched h.shows.column h.shows.line_length h.shows.taken h.shows);
+  output = out_kept at.out o p w.output.waiting x.output.waiting s.outside.output q (ap (λ (y : World). y.output.waiting) e) h.output;
+  notes = out_follows at.notes n m w.notes x.notes s.outside.notes (b ∷ []) h.notes f;
+  input = h.input ∙ ap (λ (y : World). with_back y.input.back coming) (sym e);
+  left = subst (λ (t : Option (List ℕ)). WhereTold at.source t (λ before left. left ≡ coming)) (sym k) h.left;
+  ended = λ t. h.ended (ap (λ (y : World). y.input.ended) (sym e) ∙ t);
+  few = h.few;
+}
+
+pub put_note_cut : (at : ToldAtStart) (w x : World) (b : ℕ) (o p n m i j : Option (List ℕ)) (coming : List ℕ) (s : State) → p ≡ o → IsCutOff n m (w.notes ++ b ∷ []) → Ties at (and_told w o n i) coming s → LeavesFronts at (and_told x p m j) (with_noted (b ∷ []) s)
+put_note_cut at w x b o p n m i j coming s q f h = record {
+  output = out_kept_cut at.out o p w.output.waiting s.outside.output q h.output;
+  notes = out_cut at.notes n m w.notes s.outside.notes (b ∷ []) h.notes f;
+}
 
 -- ---- writing what waits
 
-shows_flushed : (w x : World) (s : State) → x ≡ record w { output = record w.output { waiting = [] }; notes = [] } → ShowsState w s → ShowsState x s
-shows_flushed w x s e h = subst (λ (y : World). ShowsState y s) (sym e) (record {
-  store = h.store;
-  symbols = record { many = h.symbols.many; symbols = h.symbols.symbols; values = h.symbols.values };
-  counts = h.counts;
-  gensyms = h.gensyms;
-  column = h.column;
-  line_length = h.line_length;
-  taken = h.taken;
-  free = h.free;
-  bound = h.bound;
-})
-
-pub flushed : (at : ToldAtStart) (w x : World) (o p i j : Option (List ℕ)) (coming : List ℕ) (s : State) → x ≡ record w { output = record w.output { waiting = [] }; notes = [] }
-    → j ≡ i → Follows o w.output.waiting p [] [] → Ties at (and_told w o i) coming s → Ties at (and_told x p j) coming s
-flushed at w x o p i j coming s e k f h = record {
-  shows = shows_flushed w x s e h.shows;
+pub flushed : (at : ToldAtStart) (w x : World) (o p n m i j : Option (List ℕ)) (coming : List ℕ) (s : State) → x ≡ record w { output = record w.output { waiting = [] }; notes = [] }
+    → j ≡ i → Follows o w.output.waiting p [] [] → Follows n w.notes m [] [] → Ties at (and_told w o n i) coming s → Ties at (and_told x p m j) coming s
+flushed at w x o p n m i j coming s e k f g h = record {
+  shows = subst (λ (y : World). ShowsState y s) (sym e) (shows_outer w (record w.output { waiting = [] }) [] w.input s s.outside s.watched h.shows.column h.shows.line_length h.shows.taken h.shows);
   output = out_flushed at.out o p w.output.waiting x.output.waiting s.outside.output h.output f (ap (λ (y : World). y.output.waiting) e);
+  notes = out_flushed at.notes n m w.notes x.notes s.outside.notes h.notes g (ap (λ (y : World). y.notes) e);
   input = h.input ∙ ap (λ (y : World). with_back y.input.back coming) (sym e);
   left = subst (λ (t : Option (List ℕ)). WhereTold at.source t (λ before left. left ≡ coming)) (sym k) h.left;
   ended = λ t. h.ended (ap (λ (y : World). y.input.ended) (sym e) ∙ t);
   few = h.few;
 }
 
-pub flush_cut : (at : ToldAtStart) (w : World) (o p i : Option (List ℕ)) (coming : List ℕ) (s : State) → IsCutOff o p w.output.waiting → Ties at (and_told w o i) coming s → IsPrintedInPart at.out p s.outside.output
-flush_cut at w o p i coming s f h = out_cut_flushed at.out o p w.output.waiting s.outside.output h.output f
+pub flush_cut : (at : ToldAtStart) (w x : World) (o p n m i j : Option (List ℕ)) (coming : List ℕ) (s : State) → IsCutOff o p w.output.waiting → IsCutOff n m w.notes → Ties at (and_told w o n i) coming s → LeavesFronts at (and_told x p m j) s
+flush_cut at w x o p n m i j coming s f g h = record {
+  output = out_cut_flushed at.out o p w.output.waiting s.outside.output h.output f;
+  notes = out_cut_flushed at.notes n m w.notes s.outside.notes h.notes g;
+}
+
+pub taking_cut : (at : ToldAtStart) (w x : World) (o p n m i j : Option (List ℕ)) (coming : List ℕ) (s : State) → m ≡ n → IsCutOff o p w.output.waiting → Ties at (and_told w o n i) coming s → LeavesFronts at (and_told x p m j) s
+taking_cut at w x o p n m i j coming s q f h = record {
+  output = out_cut_flushed at.out o p w.output.waiting s.outside.output h.output f;
+  notes = out_kept_cut at.notes n m w.notes s.outside.notes q h.notes;
+}
 
 -- ---- taking
 
@@ -148,42 +162,26 @@ count_next None s given f h e = e
 count_next (Some c) s given f h e = count_after s.outside.taken s.outside.input c f.0 f.1 h ∙ ap (λ n. min (n + 1) (2 ^ 64 - 1)) e
 
 shows_taken : (w x : World) (b : Option ℕ) (s : State) → x ≡ record w { output = record w.output { waiting = [] }; input = x.input } → (after_byte b s).outside.taken ≡ x.input.given → ShowsState w s → ShowsState x (after_byte b s)
-shows_taken w x None s e t h = subst (λ (y : World). ShowsState y s) (sym e) (record {
-  store = h.store;
-  symbols = record { many = h.symbols.many; symbols = h.symbols.symbols; values = h.symbols.values };
-  counts = h.counts;
-  gensyms = h.gensyms;
-  column = h.column;
-  line_length = h.line_length;
-  taken = t;
-  free = h.free;
-  bound = h.bound;
-})
-shows_taken w x (Some c) s e t h = subst (λ (y : World). ShowsState y (after_byte (Some c) s)) (sym e) (record {
-  store = h.store;
-  symbols = record { many = h.symbols.many; symbols = h.symbols.symbols; values = h.symbols.values };
-  counts = h.counts;
-  gensyms = h.gensyms;
-  column = h.column;
-  line_length = h.line_length;
-  taken = t;
-  free = h.free;
-  bound = h.bound;
-})
+shows_taken w x None s e t h = subst (λ (y : World). ShowsState y s) (sym e) (shows_outer w (record w.output { waiting = [] }) w.notes x.input s s.outside s.watched h.column h.line_length t h)
+shows_taken w x (Some c) s e t h = subst (λ (y : World). ShowsState y (after_byte (Some c) s)) (sym e) (shows_outer w (record w.output { waiting = [] }) w.notes x.input s (after_byte (Some c) s).outside s.watched h.column h.line_length t h)
 
 output_stays : (b : Option ℕ) (s : State) → (after_byte b s).outside.output ≡ s.outside.output
 output_stays None s = refl
 output_stays (Some c) s = refl
 
-pub next : (w x : World) (b : Option ℕ) (o p i j : Option (List ℕ))
+notes_stay : (b : Option ℕ) (s : State) → (after_byte b s).outside.notes ≡ s.outside.notes
+notes_stay None s = refl
+notes_stay (Some c) s = refl
+
+pub next : (w x : World) (b : Option ℕ) (o p n m i j : Option (List ℕ))
     → x ≡ record w { output = record w.output { waiting = [] }; input = x.input }
     → x.input ≡ record { back = None; given = given_after b w.input.given; ended = ended_after b w.input.ended }
     → (w.input.back ≡ None → w.input.ended ≡ false → WhereTold i j (λ before now. Gives before now b))
     → (w.input.back ≡ None → w.input.ended ≡ true → b ≡ None)
     → IfSome w.input.back (λ c. b ≡ Some c) → IfSome w.input.back (λ c. j ≡ i) → (w.input.ended ≡ true → j ≡ i)
-    → Follows o w.output.waiting p [] []
-    → TakesInput (and_told w o i) (and_told x p j) (EndsTied (GivesNext b) (and_told x p j))
-next w x b o p i j e place gives none back unread unended f =
+    → Follows o w.output.waiting p [] [] → m ≡ n
+    → TakesInput (and_told w o n i) (and_told x p m j) (EndsTied (GivesNext b) (and_told x p m j))
+next w x b o p n m i j e place gives none back unread unended f q =
     let told = came_told w.input.back b w.input.ended i j gives none unread unended in
     let end : x.input.ended ≡ ended_after b w.input.ended = ap (λ (n : Input). n.ended) place in
     record {
@@ -198,6 +196,7 @@ next w x b o p i j e place gives none back unread unended f =
             record {
               shows = shows_taken w x b s e (count_next b s w.input.given fits h.few h.shows.taken ∙ sym (ap (λ (n : Input). n.given) place)) h.shows;
               output = subst (λ (l : List ℕ). IsPrintedBefore at.out p x.output.waiting l) (sym (output_stays b s)) (out_flushed at.out o p w.output.waiting x.output.waiting s.outside.output h.output f (ap (λ (y : World). y.output.waiting) e));
+              notes = subst (λ (l : List ℕ). IsPrintedBefore at.notes m x.notes l) (sym (notes_stay b s)) (out_kept at.notes n m w.notes x.notes s.outside.notes q (ap (λ (y : World). y.notes) e) h.notes);
               input = rest_is b s ∙ came_rest w.input.back b s.outside.input rest back h.input ∙ ap (λ (n : Input). with_back n.back rest) (sym place);
               left = told_through at.source i j (λ before left. left ≡ came w.input.back b ++ rest) (λ before now. before ≡ came w.input.back b ++ now) (λ before left. left ≡ rest) (λ x y z p q. came_left w.input.back b z rest (sym q ∙ p)) h.left told;
               ended = only;
@@ -209,25 +208,16 @@ next w x b o p i j e place gives none back unread unended f =
 -- ---- a state for each world
 
 pub coming_shows : WorldIsShown → (w : World) (coming : List ℕ) → ShowsState w (with_coming w coming)
-coming_shows shown w coming = let h = shown w in record {
-  store = h.store;
-  symbols = record { many = h.symbols.many; symbols = h.symbols.symbols; values = h.symbols.values };
-  counts = h.counts;
-  gensyms = h.gensyms;
-  column = h.column;
-  line_length = h.line_length;
-  taken = h.taken;
-  free = h.free;
-  bound = h.bound;
-}
+coming_shows shown w coming = let h = shown w in shows_outer w w.output w.notes w.input (state_in w) (with_coming w coming).outside (state_in w).watched h.column h.line_length h.taken h
 
 pub is_tied : WorldIsShown → EachWorldTies
 unfolding state_in
-is_tied shown w coming ended few o = (
+is_tied shown w coming ended few o n = (
   with_coming w coming,
   record {
     shows = coming_shows shown w coming;
     output = tt;
+    notes = tt;
     input = refl;
     left = tt;
     ended = ended;
@@ -236,6 +226,7 @@ is_tied shown w coming ended few o = (
   record {
     shows = coming_shows shown w coming;
     output = tt;
+    notes = tt;
     input = refl;
     left = refl;
     ended = ended;
@@ -246,3 +237,10 @@ is_tied shown w coming ended few o = (
 pub unread_as : {A B : Type 0} (back : Option ℕ) (x y : A) (f : A → B) → IfSome back (λ c. x ≡ y) → IfSome back (λ c. f x ≡ f y)
 unread_as None x y f e = tt
 unread_as (Some c) x y f e = ap f e
+
+-- ---- the counts of faults
+
+pub taking_faults : (why : stops.Stop) (o p i j : ℕ) → (why ≡ stop.Write) ⊎ (why ≡ stop.Read) → (why ≡ stop.Write → Rose o p) → (why ≡ stop.Read → Rose i j) → (why ≢ stop.Write → p ≡ o) → (why ≢ stop.Read → j ≡ i)
+    → ((why ≡ stop.Write) × Rose o p × (j ≡ i)) ⊎ ((why ≡ stop.Read) × Rose i j × (p ≡ o))
+taking_faults why o p i j (inl e) write read same_o same_i = inl (e, write e, same_i (λ f. absurd (let g : stop.Write ≡ stop.Read = sym e ∙ f in cc)))
+taking_faults why o p i j (inr e) write read same_o same_i = inr (e, read e, same_o (λ f. absurd (let g : stop.Read ≡ stop.Write = sym e ∙ f in cc)))

@@ -49,3 +49,19 @@ out_cut start old new waited output bytes h f =
 pub out_cut_flushed : (start old new : Option (List ℕ)) (waited output : List ℕ) → IsPrintedBefore start old waited output → IsCutOff old new waited → IsPrintedInPart start new output
 out_cut_flushed start old new waited output h f =
     subst (λ l. IsPrintedInPart start new l) (append-nil output) (out_cut start old new waited output [] h (subst (λ l. IsCutOff old new l) (sym (append-nil waited)) f))
+
+-- what is told, and what waits, is as it was
+pub out_kept : (start old new : Option (List ℕ)) (waited waiting output : List ℕ) → new ≡ old → waiting ≡ waited → IsPrintedBefore start old waited output → IsPrintedBefore start new waiting output
+out_kept start old new waited waiting output e f h =
+    subst (λ (t : Option (List ℕ)). IsPrintedBefore start t waiting output) (sym e) (subst (λ (l : List ℕ). IsPrintedBefore start old l output) (sym f) h)
+
+-- and what waits may be lost
+pub out_kept_cut : (start old new : Option (List ℕ)) (waited output : List ℕ) → new ≡ old → IsPrintedBefore start old waited output → IsPrintedInPart start new output
+out_kept_cut start old new waited output e h =
+    subst (λ (t : Option (List ℕ)). IsPrintedInPart start t output) (sym e)
+    (told_mapped start old (λ before held. before ++ output ≡ held ++ waited) (λ before held. (lost : List ℕ) × (before ++ output ≡ held ++ lost)) (λ before held p. (waited, p)) h)
+
+pub out_grows : (start now : Option (List ℕ)) (output more : List ℕ) → IsPrintedInPart start now output → IsPrintedInPart start now (output ++ more)
+out_grows start now output more h =
+    told_mapped start now (λ before held. (lost : List ℕ) × (before ++ output ≡ held ++ lost)) (λ before held. (lost : List ℕ) × (before ++ (output ++ more) ≡ held ++ lost))
+    (λ before held p. (p.0 ++ more, sym (append_assoc before output more) ∙ ap (λ l. l ++ more) p.1 ∙ append_assoc held p.0 more)) h

@@ -7,3 +7,4 @@ pub mod Descents
 pub mod StateOfWorld
 pub mod Ties
 pub mod BareStates
+pub mod TiesLaws

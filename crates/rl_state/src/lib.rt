@@ -24,6 +24,6 @@ pub use objects::{
     integer, pair, parts, place, places, set_car, set_cdr, set_place, string, vector,
 };
 pub use opening::{open, opened};
-pub use outside::{flush, next_byte, peek, put_back, put_byte};
+pub use outside::{flush, next_byte, note_byte, peek, put_back, put_byte};
 pub use turns::turn;
 pub use variables::{cell, set_cell};

@@ -12,4 +12,3 @@ pub mod Stored
 pub mod Printed
 pub mod Reading
 pub mod Laws
-pub mod Alike

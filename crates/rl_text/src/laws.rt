@@ -30,8 +30,10 @@ pub fn printing_is_of_data()
     ensures { PrintsData }
 {}
 
-/// What relates two makers: a caller picks it.
+/// What relates two makers: a caller picks it. It may rest on a number, or whatever else `Given` is.
 pub trait RelatedMakers {
+    ghost Given: { Type 0 };
+
     ghost FirstState: { Type 0 };
 
     ghost FirstValue: { Type 0 };
@@ -48,10 +50,12 @@ pub trait RelatedMakers {
 
     ghost SecondWant: { Type 0 };
 
-    ghost relations: { MakerRelations Self.FirstState Self.FirstValue Self.FirstList Self.FirstWant Self.SecondState Self.SecondValue Self.SecondList Self.SecondWant };
+    ghost relations: { Self.Given → MakerRelations Self.FirstState Self.FirstValue Self.FirstList Self.FirstWant Self.SecondState Self.SecondValue Self.SecondList Self.SecondWant };
 }
 
 impl RelatedMakers for Brand {
+    ghost Given = { Unit {0} };
+
     ghost FirstState = { Unit {0} };
 
     ghost FirstValue = { Unit {0} };
@@ -68,11 +72,11 @@ impl RelatedMakers for Brand {
 
     ghost SecondWant = { Unit {0} };
 
-    ghost relations = { unrelated };
+    ghost relations = { λ _. unrelated };
 }
 
 /// Two makers whose operations keep relations of their states, values and lists end a text at the same byte, in states and
 /// with values that are related.
 pub fn related_makers_end_related<M: RelatedMakers>()
-    ensures { EndRelated M.relations }
+    ensures { (given : M.Given) → EndRelated (M.relations given) }
 {}

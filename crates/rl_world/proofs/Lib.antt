@@ -4,3 +4,4 @@ pub mod Waited
 pub mod BoundsKept
 pub mod TextsStay
 pub mod Openings
+pub mod Walks

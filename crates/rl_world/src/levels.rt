@@ -1,6 +1,7 @@
 //! The levels that are entered, and the places that walks keep.
-ghost use Rattle.std.specs.Prelude.{◌≡◌, ◌+◌, ◌-◌, ◌≤◌, None, Some, [], ◌∷◌, length, IfOk, OnOk, IfErr};
+ghost use Rattle.std.specs.Prelude.{◌≡◌, ℕ, ◌+◌, ◌-◌, ◌≤◌, None, Some, [], ◌∷◌, length, IfOk, OnOk, IfErr};
 ghost use Rattle.rl_world.specs.Levels.{AreLevels, enter_stop, levels_below};
+ghost use Rattle.rl_world.specs.Walks.{IsSteady, kept_above};
 
 use crate::stop::Stop;
 use rl_io::OutOfMemory;
@@ -79,6 +80,8 @@ impl Levels {
         ensures ok { OnOk result (enter_stop self.old 1 ≡ None) }
         ensures entered { OnOk result (self.new ≡ record self.old { level = self.old.level + 1; walk = (a, b, c) ∷ self.old.walk }) }
         ensures below { levels_below self.new ≡ levels_below self.old }
+        ensures steady { OnOk result ((base : ℕ) → base ≤ length self.old.walk → IsSteady base self.old self.new) }
+        ensures above { OnOk result ((base : ℕ) → base ≤ length self.old.walk → kept_above base self.new ≡ (a, b, c) ∷ kept_above base self.old) }
         ensures stop { IfErr result (λ s. enter_stop self.old 1 ≡ Some s) }
         ensures err { IfErr result (λ s. self.new ≡ self.old) }
     {

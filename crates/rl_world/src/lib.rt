@@ -10,8 +10,6 @@ mod levels;
 mod output;
 mod outside;
 mod stop;
-#[cfg(test)]
-mod tests;
 mod world;
 
 pub use buffer::Buffer;

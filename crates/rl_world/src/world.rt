@@ -12,6 +12,7 @@ ghost use Rattle.rl_tree.specs.ErrorTexts.{error_text};
 ghost use Rattle.rl_world.specs.Errors.{AreTexts};
 ghost use Rattle.rl_world.specs.OpeningCells.{AreOpeningCells};
 ghost use Rattle.rl_world.specs.Levels.{AreLevels, enter_stop, levels_below};
+ghost use Rattle.rl_world.specs.Walks.{IsSteady, kept_above};
 
 use crate::buffer::Buffer;
 use crate::counts::{Aside, Counts};
@@ -255,6 +256,8 @@ impl World {
         ensures ok { OnOk result (enter_stop self.old.levels 1 ≡ None) }
         ensures entered { OnOk result (self.new ≡ record self.old { levels = record self.old.levels { level = self.old.levels.level + 1; walk = (a, b, c) ∷ self.old.levels.walk } }) }
         ensures below { levels_below self.new.levels ≡ levels_below self.old.levels }
+        ensures steady { OnOk result ((base : ℕ) → base ≤ length self.old.levels.walk → IsSteady base self.old.levels self.new.levels) }
+        ensures above { OnOk result ((base : ℕ) → base ≤ length self.old.levels.walk → kept_above base self.new.levels ≡ (a, b, c) ∷ kept_above base self.old.levels) }
         ensures stop { IfErr result (λ s. enter_stop self.old.levels 1 ≡ Some s) }
         ensures err { IfErr result (λ s. self.new ≡ self.old) }
     {
@@ -268,6 +271,8 @@ impl World {
         ensures within { self.old.levels.level ≤ self.old.levels.bound }
         ensures entered { 1 ≤ self.old.levels.level }
         ensures below { levels_below self.new.levels ≡ levels_below self.old.levels }
+        ensures steady { (base : ℕ) → base ≤ length self.new.levels.walk → IsSteady base self.old.levels self.new.levels }
+        ensures above { (base : ℕ) → base ≤ length self.new.levels.walk → kept_above base self.old.levels ≡ result ∷ kept_above base self.new.levels }
         ensures left { self.new ≡ record self.old { levels = record self.old.levels { level = self.old.levels.level - 1; walk = self.new.levels.walk } } }
     {
         self.levels.pop()

@@ -2,13 +2,12 @@ use Rattle.std.proofs.Common.{ap}
 use Rattle.rl_world.specs.declared.world.World.{World}
 use Rattle.rl_print.proofs.Kept.{places_pushed, ready_pushed}
 use Rattle.rl_print.proofs.advance.push.Goals as goal
-use Rattle.rl_world.specs.Walks.{push_steady}
 
 pub returns-in-Ok-clause-places : goal.returns-in-Ok-clause-places
-returns-in-Ok-clause-places c = places_pushed c.args._base c.args.w.now c.walk_push.new.self _ _ (ap (λ (w : World). w.cells) c.in-Ok.ensures.entered) (ap (λ (w : World). w.levels.walk) c.in-Ok.ensures.entered) c.requires.ready.above (c.words_of-kind.ensures.place c.args.w.now.cells.cells)
+returns-in-Ok-clause-places c = places_pushed c.args._base c.args.w.now c.walk_push.new.self _ _ (ap (λ (w : World). w.cells) c.in-Ok.ensures.entered) (c.in-Ok.ensures.above c.args._base c.requires.ready.above) (c.words_of-kind.ensures.place c.args.w.now.cells.cells)
 
 pub returns-in-Ok-clause-ready : goal.returns-in-Ok-clause-ready
-returns-in-Ok-clause-ready c = ready_pushed c.args._base c.args.w.now c.walk_push.new.self _ (ap (λ (w : World). w.cells) c.in-Ok.ensures.entered) (ap (λ (w : World). w.syms) c.in-Ok.ensures.entered) (ap (λ (w : World). w.levels.walk) c.in-Ok.ensures.entered) (c.words_of-kind.ensures.kept c.args.w.now.cells.cells c.requires.cursor) c.requires.ready
+returns-in-Ok-clause-ready c = ready_pushed c.args._base c.args.w.now c.walk_push.new.self _ (ap (λ (w : World). w.cells) c.in-Ok.ensures.entered) (ap (λ (w : World). w.syms) c.in-Ok.ensures.entered) (ap (λ (w : World). w.levels.walk) c.in-Ok.ensures.entered) (c.in-Ok.ensures.above c.args._base c.requires.ready.above) (c.words_of-kind.ensures.kept c.args.w.now.cells.cells c.requires.cursor) c.requires.ready
 
 pub returns-in-Ok-clause-steady : goal.returns-in-Ok-clause-steady
-returns-in-Ok-clause-steady c = push_steady c.args._base c.args.w.now.levels c.walk_push.new.self.levels _ (ap (λ (w : World). w.levels) c.in-Ok.ensures.entered) c.requires.ready.above
+returns-in-Ok-clause-steady c = c.in-Ok.ensures.steady c.args._base c.requires.ready.above

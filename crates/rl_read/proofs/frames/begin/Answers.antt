@@ -6,7 +6,7 @@ returns-in-Root-clause-ok c = opened_root c.args.base c.args.w.now c.args.openin
 
 pub returns-in-Root-clause-ready : goal.returns-in-Root-clause-ready
 returns-in-Root-clause-ready c = record {
-  table = c.requires.table;
+  able = c.requires.able;
   above = c.requires.above;
   kept = c.requires.kept;
   group_is = c.begun.ensures.group c.args.w.now.cells.cells;

@@ -1,8 +1,7 @@
 use Rattle.std.proofs.Common.{◌≡◌, ◌+◌, ◌≤◌, ap, arith, length}
-use Rattle.rl_world.specs.declared.world.World.{World}
 use Rattle.rl_read.proofs.Kept.{levels_again}
+use Rattle.rl_read.proofs.Making.{steady_trans}
 use Rattle.rl_read.proofs.frames.leave.Goals as goal
-use Rattle.rl_world.specs.Walks.{pop_steady, steady_trans}
 
 pub loop-w-preserved : goal.loop-w-preserved
 loop-w-preserved c =
@@ -10,6 +9,6 @@ loop-w-preserved c =
     let above : c.args.base ≤ length c.walk_pop.new.self.levels.walk = omega (arith, long, c.walk_len.ensures, c.loop-w-test.true) in
     record {
       above = above;
-      steady = steady_trans c.args.base c.args.w.now.levels c.loop-w.w.levels c.walk_pop.new.self.levels c.loop-w.invariant.steady (pop_steady c.args.base c.loop-w.w.levels c.walk_pop.new.self.levels _ c.walk_pop.ensures.popped (ap (λ (w : World). w.levels) c.walk_pop.ensures.left) c.walk_pop.ensures.entered above);
+      steady = steady_trans c.args.base c.args.w.now.levels c.loop-w.w.levels c.walk_pop.new.self.levels c.loop-w.invariant.steady (c.walk_pop.ensures.steady c.args.base above);
       world = levels_again c.args.w.now c.loop-w.w c.walk_pop.new.self _ c.loop-w.invariant.world c.walk_pop.ensures.left;
     }

@@ -1,8 +1,6 @@
-use Rattle.std.proofs.Common.{ap, arith}
-use Rattle.rl_world.specs.declared.world.World.{World}
+use Rattle.std.proofs.Common.{arith}
 use Rattle.rl_read.proofs.Kept.{frames_popped, kept_first, left_more, levels_alone, none_left, popped_left, ready_popped, stock_popped}
 use Rattle.rl_read.proofs.frames.outer.Goals as goal
-use Rattle.rl_world.specs.Walks.{pop_steady}
 
 pub returns-then-walk_len-base-clause-left : goal.returns-then-walk_len-base-clause-left
 returns-then-walk_len-base-clause-left c = none_left c.args.base c.args.w.now (omega (arith, c.walk_len.ensures, c.if-walk_len-base.true))
@@ -10,25 +8,25 @@ returns-then-walk_len-base-clause-left c = none_left c.args.base c.args.w.now (o
 pub group_of-requires : goal.group_of-requires
 group_of-requires c =
     let l = left_more c.args.base c.args.w.now.levels c.walk_pop-a.new.self.levels _ c.requires.above (λ e. c.if-walk_len-base.false (omega (arith, c.walk_len.ensures, e))) c.walk_pop-a.ensures.popped in
-    (kept_first c.args.base c.args.w.now.cells.cells c.args.w.now.levels c.walk_pop-a.new.self.levels _ c.walk_pop-a.ensures.popped l c.requires.kept).0.owed
+    (kept_first c.args.base c.args.w.now.cells.cells c.args.w.now.levels c.walk_pop-a.new.self.levels _ (c.walk_pop-a.ensures.above c.args.base l) c.requires.kept).0.owed
 
 pub returns-clause-frames : goal.returns-clause-frames
 returns-clause-frames c =
     let l = left_more c.args.base c.args.w.now.levels c.walk_pop-a.new.self.levels _ c.requires.above (λ e. c.if-walk_len-base.false (omega (arith, c.walk_len.ensures, e))) c.walk_pop-a.ensures.popped in
-    frames_popped c.args.base c.args.w.now c.walk_pop-a.new.self _ c.group_of.result c.walk_pop-a.ensures.popped l c.group_of.ensures
+    frames_popped c.args.base c.args.w.now c.walk_pop-a.new.self _ c.group_of.result (c.walk_pop-a.ensures.above c.args.base l) c.group_of.ensures
 
 pub returns-clause-left : goal.returns-clause-left
 returns-clause-left c =
     let l = left_more c.args.base c.args.w.now.levels c.walk_pop-a.new.self.levels _ c.requires.above (λ e. c.if-walk_len-base.false (omega (arith, c.walk_len.ensures, e))) c.walk_pop-a.ensures.popped in
-    let first = kept_first c.args.base c.args.w.now.cells.cells c.args.w.now.levels c.walk_pop-a.new.self.levels _ c.walk_pop-a.ensures.popped l c.requires.kept in
-    popped_left c.args.base c.args.w.now c.walk_pop-a.new.self _ c.walk_pop-a.ensures.popped l first.0.inner (stock_popped c.args.w.now c.walk_pop-a.new.self c.walk_pop-a.ensures.left c.walk_pop-a.ensures.within c.walk_pop-a.ensures.entered)
+    let first = kept_first c.args.base c.args.w.now.cells.cells c.args.w.now.levels c.walk_pop-a.new.self.levels _ (c.walk_pop-a.ensures.above c.args.base l) c.requires.kept in
+    popped_left c.args.base c.args.w.now c.walk_pop-a.new.self _ (c.walk_pop-a.ensures.above c.args.base l) first.0.inner (stock_popped c.args.w.now c.walk_pop-a.new.self c.walk_pop-a.ensures.left c.walk_pop-a.ensures.within c.walk_pop-a.ensures.entered)
 
 pub returns-clause-ready : goal.returns-clause-ready
 returns-clause-ready c =
     let l = left_more c.args.base c.args.w.now.levels c.walk_pop-a.new.self.levels _ c.requires.above (λ e. c.if-walk_len-base.false (omega (arith, c.walk_len.ensures, e))) c.walk_pop-a.ensures.popped in
-    ready_popped c.args.base c.args.w.now c.walk_pop-a.new.self _ c.group_of.result c.requires.table c.requires.kept (levels_alone c.args.w.now c.walk_pop-a.new.self _ c.walk_pop-a.ensures.left) c.walk_pop-a.ensures.popped l c.group_of.ensures
+    ready_popped c.args.base c.args.w.now c.walk_pop-a.new.self _ c.group_of.result c.requires.able c.requires.kept (levels_alone c.args.w.now c.walk_pop-a.new.self _ c.walk_pop-a.ensures.left) (c.walk_pop-a.ensures.above c.args.base l) l c.group_of.ensures
 
 pub returns-clause-steady : goal.returns-clause-steady
 returns-clause-steady c =
     let l = left_more c.args.base c.args.w.now.levels c.walk_pop-a.new.self.levels _ c.requires.above (λ e. c.if-walk_len-base.false (omega (arith, c.walk_len.ensures, e))) c.walk_pop-a.ensures.popped in
-    pop_steady c.args.base c.args.w.now.levels c.walk_pop-a.new.self.levels _ c.walk_pop-a.ensures.popped (ap (λ (w : World). w.levels) c.walk_pop-a.ensures.left) c.walk_pop-a.ensures.entered l
+    c.walk_pop-a.ensures.steady c.args.base l

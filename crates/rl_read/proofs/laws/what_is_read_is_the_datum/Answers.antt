@@ -18,10 +18,10 @@ laws_of c = record {
 pub returns : goal.returns
 returns c = record {
   spelled = λ turns k made bytes rest v n e.
-      let r = reads_result (laws_of c) turns k made bytes rest v n e in
+      let r = reads_result (laws_of c) (c.related_makers_end_related.ensures tt) turns k made bytes rest v n e in
       let is = result_datum (laws_of c) _ made v r.0 r.2 in
       subst (λ (d : Datum). IsSpelled bytes d rest) (sym is.1) ((c.what_is_found_is_spelled.ensures bytes r.0 rest).0 r.1);
-  is = λ turns k made bytes rest v n e. let r = reads_result (laws_of c) turns k made bytes rest v n e in (result_datum (laws_of c) _ made v r.0 r.2).0;
-  keeps = λ turns k made bytes rest v n e. let r = reads_result (laws_of c) turns k made bytes rest v n e in result_keeps k made v r.0 r.2;
-  named = λ turns k made bytes rest v n e. let r = reads_result (laws_of c) turns k made bytes rest v n e in result_named _ made v r.0 r.2;
+  is = λ turns k made bytes rest v n e. let r = reads_result (laws_of c) (c.related_makers_end_related.ensures tt) turns k made bytes rest v n e in (result_datum (laws_of c) _ made v r.0 r.2).0;
+  keeps = λ turns k made bytes rest v n e. let r = reads_result (laws_of c) (c.related_makers_end_related.ensures tt) turns k made bytes rest v n e in result_keeps k made v r.0 r.2;
+  named = λ turns k made bytes rest v n e. let r = reads_result (laws_of c) (c.related_makers_end_related.ensures tt) turns k made bytes rest v n e in result_named _ made v r.0 r.2;
 }

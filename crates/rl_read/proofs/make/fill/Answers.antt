@@ -4,7 +4,7 @@ use Rattle.rl_tags.specs.Tagged.{Tagged}
 use Rattle.rl_cells.specs.Cell.{VectorCell, car_of, cdr_of, changed_at, is_pair, vector_of}
 use Rattle.rl_read.specs.Stock.{elements_from}
 use Rattle.rl_read.proofs.MadeVectors.{car_was, cdr_was, changed_same, filled_all, filled_more, left_is_pair, left_pair, vector_here, vector_stays, world_filled}
-use Rattle.rl_read.proofs.MadeWorlds.{making_vector, put_live, table_vector}
+use Rattle.rl_read.proofs.MadeWorlds.{able_vector, making_vector, put_live}
 use Rattle.rl_read.proofs.Making.{pair_stays}
 use Rattle.rl_read.proofs.make.fill.Goals as goal
 
@@ -29,7 +29,7 @@ cdr-at-requires c =
     c.requires.elements c.loop-i.invariant.places c.loop-i-test.true c.loop-i.invariant.rest c.loop-i.invariant.live in
     rw c.put.ensures.changed
     (pair_stays c.loop-i.w.cells.cells (changed_at c.loop-i.w.cells.cells c.args.v (VectorCell (slice_set (vector_of c.loop-i.w.cells.cells c.args.v) c.loop-i.i c.car-x.result))) c.loop-i.at
-    (put_live c.others_leave_identifiers.ensures c.loop-i.w.cells.cells c.args.v c.car-x.result c.loop-i.i c.loop-i.invariant.vector) pair)
+    (put_live c.making_is_kept.ensures.leave c.loop-i.w.cells.cells c.args.v c.car-x.result c.loop-i.i c.loop-i.invariant.vector) pair)
 
 pub loop-i-preserved : goal.loop-i-preserved
 loop-i-preserved c =
@@ -54,15 +54,15 @@ loop-i-preserved c =
           c.loop-i.invariant.places c.loop-i-test.true c.loop-i.invariant.rest);
     }
 
-pub returns-clause-table : goal.returns-clause-table
-returns-clause-table c =
+pub returns-clause-able : goal.returns-clause-able
+returns-clause-able c =
     rw c.loop-i.invariant.world
-    (table_vector c.table_is_kept.ensures c.others_leave_identifiers.ensures c.args.w.now c.args.v (vector_of c.loop-i.w.cells.cells c.args.v) c.requires.vector (c.loop-i.invariant.places ∙ sym c.requires.places) c.requires.table)
+    (able_vector c.making_is_kept.ensures c.args.w.now c.args.v (vector_of c.loop-i.w.cells.cells c.args.v) c.requires.vector (c.loop-i.invariant.places ∙ sym c.requires.places) c.requires.able)
 
 pub returns-clause-making : goal.returns-clause-making
 returns-clause-making c =
     rw c.loop-i.invariant.world
-    (making_vector c.table_is_kept.ensures c.others_leave_identifiers.ensures c.args.w.now c.args.v (vector_of c.loop-i.w.cells.cells c.args.v) c.requires.vector (c.loop-i.invariant.places ∙ sym c.requires.places) c.requires.table)
+    (making_vector c.making_is_kept.ensures.kept c.making_is_kept.ensures.leave c.args.w.now c.args.v (vector_of c.loop-i.w.cells.cells c.args.v) c.requires.vector (c.loop-i.invariant.places ∙ sym c.requires.places) c.requires.able.table)
 
 pub returns-clause-filled : goal.returns-clause-filled
 returns-clause-filled c =

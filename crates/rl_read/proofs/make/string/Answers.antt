@@ -1,24 +1,32 @@
-use Rattle.std.proofs.Common.{◌≡◌, false, refl, sym}
+use Rattle.std.proofs.Common.{◌≡◌, ◌∙◌, arith, refl}
 use Rattle.rl_tags.specs.Tagged.{StrAt}
-use Rattle.rl_cells.specs.Cell.{StrCell, cost_of, has_room}
+use Rattle.rl_cells.specs.Cell.{StrCell, cost_of, grown}
 use Rattle.rl_world.specs.Counts.{roomed}
 use Rattle.rl_read.specs.Stock.{stock_of}
-use Rattle.rl_read.proofs.MadeStocks.{object_full, object_stopped}
-use Rattle.rl_read.proofs.MadeWorlds.{making_grown, table_grown}
+use Rattle.rl_read.proofs.MadeStocks.{object_had, object_stopped}
+use Rattle.rl_read.proofs.MadeWorlds.{able_grown, making_grown, room_enough}
+use Rattle.rl_read.proofs.Counted.{room_counted}
 use Rattle.rl_read.proofs.make.string.Goals as goal
 
 pub returns-in-Err-clause-stop : goal.returns-in-Err-clause-stop
 returns-in-Err-clause-stop c = object_stopped (λ n. StrAt n) (StrCell c.args.bytes.now) (stock_of c.args.w.now) c.in-Err.s c.in-Err.ensures.stop
 
-pub returns-in-Ok-clause-table : goal.returns-in-Ok-clause-table
-returns-in-Ok-clause-table c =
-    rw (c.in-Ok.ensures.ok, c.in_default.ensures.counted) (table_grown c.table_is_kept.ensures c.others_leave_identifiers.ensures c.args.w.now (StrCell c.args.bytes.now) refl c.requires.table)
+pub returns-in-Err-clause-counted : goal.returns-in-Err-clause-counted
+returns-in-Err-clause-counted c = room_counted c.args.w.now.counts _ _ c.in-Err.s c.in-Err.ensures.stop
 
-pub returns-in-Ok-clause-making : goal.returns-in-Ok-clause-making
-returns-in-Ok-clause-making c =
-    rw (c.in-Ok.ensures.ok, c.in_default.ensures.counted) (making_grown c.table_is_kept.ensures c.others_leave_identifiers.ensures c.args.w.now (StrCell c.args.bytes.now) (roomed c.args.w.now.counts (cost_of (StrCell c.args.bytes.now))) refl c.requires.table)
+pub unwrap-requires : goal.unwrap-requires
+unwrap-requires c = c.string.ensures.full ∙ rw c.in_default.ensures.counted (room_enough c.making_is_kept.ensures c.args.w.now (cost_of (StrCell c.args.bytes.now)) c.requires.able c.in_default.ensures.ok)
 
-pub returns-in-Err-string-clause-stop : goal.returns-in-Err-string-clause-stop
-returns-in-Err-string-clause-stop c =
-    let full : has_room c.args.w.now.cells (cost_of (StrCell c.args.bytes.now)) ≡ false = rw c.in_default.ensures.counted at (sym c.in-Err-string.ensures.full) in
-    object_full (λ n. StrAt n) (StrCell c.args.bytes.now) (stock_of c.args.w.now) c.in_default.ensures.ok full
+made : (c : goal.After-unwrap) → c.string.new.self ≡ grown c.room.new.self.cells (StrCell c.args.bytes.now)
+made c = rw c.unwrap.ensures at c.string.ensures.ok
+
+pub returns-clause-ok : goal.returns-clause-ok
+returns-clause-ok c = rw (made c, rw c.unwrap.ensures at c.string.ensures.names, c.in_default.ensures.counted) (object_had (λ n. StrAt n) (StrCell c.args.bytes.now) (stock_of c.args.w.now) c.in_default.ensures.ok)
+
+pub returns-clause-able : goal.returns-clause-able
+returns-clause-able c = rw (made c, c.in_default.ensures.counted) (able_grown c.making_is_kept.ensures c.args.w.now (StrCell c.args.bytes.now) refl (omega arith) c.requires.able)
+
+pub returns-clause-making : goal.returns-clause-making
+returns-clause-making c =
+    rw (made c, c.in_default.ensures.counted)
+    (making_grown c.making_is_kept.ensures.kept c.making_is_kept.ensures.leave c.args.w.now (StrCell c.args.bytes.now) (roomed c.args.w.now.counts (cost_of (StrCell c.args.bytes.now))) refl c.requires.able.table)

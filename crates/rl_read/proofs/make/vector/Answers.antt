@@ -1,16 +1,16 @@
-use Rattle.std.proofs.Common.{◌≡◌, ◌∙◌, ◌+◌, ◌/◌, List, arith, false, refl, replicate, sym, true}
+use Rattle.std.proofs.Common.{◌≡◌, ◌∙◌, ℕ, ◌+◌, ◌/◌, List, arith, length, refl, replicate, subst, sym}
 use Rattle.std.proofs.lemmas.List.{length-replicate}
 use Rattle.rl_tags.specs.Ids.{nil_id}
 use Rattle.rl_tags.specs.Tagged.{Tagged, VectorAt}
-use Rattle.rl_cells.specs.Cell.{VectorCell, cost_of, grown, has_room, placed}
+use Rattle.rl_cells.specs.Cell.{VectorCell, grown, placed}
 use Rattle.rl_world.specs.Counts.{roomed}
 use Rattle.rl_world.specs.declared.world.World.{World}
 use Rattle.rl_read.specs.Stock.{elements_from, first_of_chain, stock_of}
-use Rattle.rl_read.specs.Frames.{chain_of}
+use Rattle.rl_read.specs.Frames.{AreReadyToMake, chain_of}
 use Rattle.rl_read.proofs.Counted.{room_counted}
 use Rattle.rl_read.proofs.MadeLists.{elements_counted, elements_few, first_live, vector_few, vector_lacks, vector_many, vector_world}
-use Rattle.rl_read.proofs.MadeStocks.{object_full, object_had, object_stopped}
-use Rattle.rl_read.proofs.MadeWorlds.{making_grown, table_grown}
+use Rattle.rl_read.proofs.MadeStocks.{object_had, object_stopped}
+use Rattle.rl_read.proofs.MadeWorlds.{able_grown, making_grown, room_enough}
 use Rattle.rl_read.proofs.Making.{making_trans}
 use Rattle.rl_read.proofs.make.vector.Goals as goal
 
@@ -31,47 +31,50 @@ returns-in-Err-clause-counted c = room_counted c.args.w.now.counts c.args.w.now.
 pub vector-requires-clause-short : goal.vector-requires-clause-short
 vector-requires-clause-short c = omega (arith, c.count-n.ensures, elements_few 2147483649 c.args.w.now.cells.cells c.first_of-list.result)
 
-pub fill-requires-clause-table : goal.fill-requires-clause-table
-fill-requires-clause-table c =
-    rw (c.in-Ok.ensures.ok, c.in_default.ensures.counted)
-    (table_grown c.table_is_kept.ensures c.others_leave_identifiers.ensures c.args.w.now (VectorCell (replicate c.count-n.result nil_id)) refl c.requires.table)
-
 pub count-n-requires : goal.count-n-requires
-count-n-requires c = rw c.first_of-list.ensures (first_live c.args.w.now.cells.cells c.args.w.now.syms.head c.args.chain.now c.requires.table c.requires.chain)
+count-n-requires c = rw c.first_of-list.ensures (first_live c.args.w.now.cells.cells c.args.w.now.syms.head c.args.chain.now c.requires.able.table c.requires.chain)
+
+pub unwrap-v-requires : goal.unwrap-v-requires
+unwrap-v-requires c =
+    c.vector.ensures.full ∙ rw (c.in_default.ensures.counted, length-replicate) (room_enough c.making_is_kept.ensures c.args.w.now (1 + (c.count-n.result + 1) / 2) c.requires.able c.in_default.ensures.ok)
+
+pub fill-requires-clause-able : goal.fill-requires-clause-able
+fill-requires-clause-able c =
+    let made : c.vector.new.self ≡ grown c.room.new.self.cells (VectorCell (replicate c.count-n.result nil_id)) = rw c.unwrap-v.ensures at c.vector.ensures.ok in
+    rw (made, c.in_default.ensures.counted)
+    (subst (λ (n : ℕ). AreReadyToMake (grown c.args.w.now.cells (VectorCell (replicate c.count-n.result nil_id))) c.args.w.now.syms.head (roomed c.args.w.now.counts (1 + (n + 1) / 2))) (length-replicate c.count-n.result nil_id)
+    (able_grown c.making_is_kept.ensures c.args.w.now (VectorCell (replicate c.count-n.result nil_id)) refl (omega arith) c.requires.able))
 
 pub fill-requires-clause-list : goal.fill-requires-clause-list
 fill-requires-clause-list c =
-    rw (c.in-Ok.ensures.ok, c.in_default.ensures.counted, c.first_of-list.ensures)
+    let made : c.vector.new.self ≡ grown c.room.new.self.cells (VectorCell (replicate c.count-n.result nil_id)) = rw c.unwrap-v.ensures at c.vector.ensures.ok in
+    rw (made, c.in_default.ensures.counted, c.first_of-list.ensures)
     (c.objects_are_added.ensures.live c.args.w.now.cells.cells (placed (VectorCell (replicate c.count-n.result nil_id))) (first_of_chain (chain_of c.args.chain.now))
-    (first_live c.args.w.now.cells.cells c.args.w.now.syms.head c.args.chain.now c.requires.table c.requires.chain))
+    (first_live c.args.w.now.cells.cells c.args.w.now.syms.head c.args.chain.now c.requires.able.table c.requires.chain))
 
 pub fill-requires-clause-elements : goal.fill-requires-clause-elements
 fill-requires-clause-elements c =
-    rw (c.in-Ok.ensures.ok, c.in_default.ensures.counted, elements_counted c.objects_are_added.ensures 2147483649 c.count-n.result (replicate c.count-n.result nil_id) c.args.w.now.cells.cells c.first_of-list.result c.count-n.ensures)
+    let made : c.vector.new.self ≡ grown c.room.new.self.cells (VectorCell (replicate c.count-n.result nil_id)) = rw c.unwrap-v.ensures at c.vector.ensures.ok in
+    rw (made, c.in_default.ensures.counted, elements_counted c.objects_are_added.ensures 2147483649 c.count-n.result (replicate c.count-n.result nil_id) c.args.w.now.cells.cells c.first_of-list.result c.count-n.ensures)
     (sym c.count-n.ensures)
 
-pub returns-in-Ok-clause-ok : goal.returns-in-Ok-clause-ok
-returns-in-Ok-clause-ok c =
+pub returns-clause-ok : goal.returns-clause-ok
+returns-clause-ok c =
+    let made : c.vector.new.self ≡ grown c.room.new.self.cells (VectorCell (replicate c.count-n.result nil_id)) = rw c.unwrap-v.ensures at c.vector.ensures.ok in
+    let named : c.unwrap-v.result ≡ VectorAt (length c.room.new.self.cells.cells) = rw c.unwrap-v.ensures at c.vector.ensures.names in
     let list = c.first_of-list.result in
     let n = c.count-n.result in
     let xs : List Tagged = elements_from 2147483649 c.args.w.now.cells.cells list in
-    let room : has_room c.args.w.now.cells (cost_of (VectorCell xs)) ≡ true = rw (c.in_default.ensures.counted, length-replicate, c.count-n.ensures) at (sym c.in-Ok.ensures.full) in
-    let made =
-    vector_world c.objects_are_added.ensures c.args.w.now c.room.new.self c.fill.new.w c.vector.new.self list c.in-Ok.v 2147483649 n c.count-n.ensures c.in_default.ensures.counted c.in-Ok.ensures.names c.in-Ok.ensures.ok
+    let final =
+    vector_world c.objects_are_added.ensures c.args.w.now c.room.new.self c.fill.new.w c.vector.new.self list c.unwrap-v.result 2147483649 n c.count-n.ensures c.in_default.ensures.counted named made
     c.fill.ensures.filled in
     vector_few (chain_of c.args.chain.now) (stock_of c.args.w.now) list n c.first_of-list.ensures c.count-n.ensures (omega arith)
-    ∙ rw (made, c.in-Ok.ensures.names, c.in_default.ensures.counted) (object_had (λ n. VectorAt n) (VectorCell xs) (stock_of c.args.w.now) (rw (← c.count-n.ensures) c.in_default.ensures.ok) room)
+    ∙ rw (final, named, c.in_default.ensures.counted) (object_had (λ n. VectorAt n) (VectorCell xs) (stock_of c.args.w.now) (rw (← c.count-n.ensures) c.in_default.ensures.ok))
 
-pub returns-in-Ok-clause-making : goal.returns-in-Ok-clause-making
-returns-in-Ok-clause-making c =
+pub returns-clause-making : goal.returns-clause-making
+returns-clause-making c =
+    let made : c.vector.new.self ≡ grown c.room.new.self.cells (VectorCell (replicate c.count-n.result nil_id)) = rw c.unwrap-v.ensures at c.vector.ensures.ok in
     let with_vector : World = record c.args.w.now { cells = grown c.args.w.now.cells (VectorCell (replicate c.count-n.result nil_id)); counts = roomed c.args.w.now.counts (1 + (c.count-n.result + 1) / 2) } in
     making_trans c.args.w.now with_vector c.fill.new.w
-    (making_grown c.table_is_kept.ensures c.others_leave_identifiers.ensures c.args.w.now (VectorCell (replicate c.count-n.result nil_id)) (roomed c.args.w.now.counts (1 + (c.count-n.result + 1) / 2)) refl c.requires.table)
-    (rw (c.in-Ok.ensures.ok, c.in_default.ensures.counted) at c.fill.ensures.making)
-
-pub returns-in-Err-vector-clause-stop : goal.returns-in-Err-vector-clause-stop
-returns-in-Err-vector-clause-stop c =
-    let xs : List Tagged = elements_from 2147483649 c.args.w.now.cells.cells c.first_of-list.result in
-    let full : has_room c.args.w.now.cells (cost_of (VectorCell xs)) ≡ false = rw (c.in_default.ensures.counted, length-replicate, c.count-n.ensures) at (sym c.in-Err-vector.ensures.full) in
-    vector_lacks (chain_of c.args.chain.now) (stock_of c.args.w.now) c.first_of-list.result c.count-n.result _ c.first_of-list.ensures c.count-n.ensures (omega arith)
-    (object_full (λ n. VectorAt n) (VectorCell xs) (stock_of c.args.w.now) (rw (← c.count-n.ensures) c.in_default.ensures.ok) full)
+    (making_grown c.making_is_kept.ensures.kept c.making_is_kept.ensures.leave c.args.w.now (VectorCell (replicate c.count-n.result nil_id)) (roomed c.args.w.now.counts (1 + (c.count-n.result + 1) / 2)) refl c.requires.able.table)
+    (rw (made, c.in_default.ensures.counted) at c.fill.ensures.making)

@@ -1,21 +1,21 @@
 use Rattle.std.proofs.Common.{refl, sym, ap, ◌∙◌, subst, ◌≡◌, ℕ, Bool, true, false, [], IsTrue, ◌<◌}
 use Rattle.rl_io.specs.Told.{WhereTold}
+use Rattle.rl_read.specs.Taken.{TakesBytes}
 use Rattle.rl_cells.specs.Cell.{is_live}
-use Rattle.rl_syms.specs.Table.{IsTable}
 use Rattle.rl_text.specs.Reader as reader
 use Rattle.rl_text.specs.Reader.{NoneLeft, Read, Refused, Stopped, read_by}
 use Rattle.rl_world.specs.declared.stop.Stop.{Stop}
 use Rattle.rl_world.specs.declared.stop.Stop.TheVariants as stop
 use Rattle.rl_read.specs.Given.{is_counted, is_fault}
 use Rattle.rl_read.specs.Stock.{Stock, in_stock, stock_of}
-use Rattle.rl_read.specs.Frames.{frames_in}
+use Rattle.rl_read.specs.Frames.{CanMake, frames_in}
 use Rattle.rl_read.specs.Steps.{IsStep, step_of, mode_of}
 use Rattle.rl_read.specs.Reads.{IsRefusedText, IsStoppedText}
-use Rattle.rl_world.specs.Walks.{steady_refl, steady_trans}
+use Rattle.rl_read.proofs.Making.{steady_refl, steady_trans}
 use Rattle.rl_read.proofs.FormedTold.{told_first, told_same, told_waits}
 use Rattle.rl_read.proofs.FormedKeeps.{keeps_refl, keeps_trans, keeps_given, keeps_back, keeps_levels, keeps_read, levels_back, steady_as, read_input, read_waiting, left_input, left_waiting}
 use Rattle.rl_read.proofs.FormedTurns.{goes_left, measure_falls, turns_fall}
-use Rattle.rl_read.proofs.FormedGoing.{going_first, kept_first, ready_first, passed_levels, passed_ready, told_on, told_done, told_before, told_refused, told_halted, told_whole, told_none, told_end_refused, told_end_stopped, told_wants, wanted_is_counted, not_a_read, not_a_write, stop_same}
+use Rattle.rl_read.proofs.FormedGoing.{going_first, kept_first, ready_first, passed_able, passed_levels, passed_ready, told_on, told_done, told_before, told_refused, told_halted, told_whole, told_none, told_end_refused, told_end_stopped, told_wants, wanted_is_counted, not_a_read, not_a_write, stop_same}
 use Rattle.rl_read.proofs.Ended.{levels_left, same_place}
 use Rattle.rl_read.proofs.Went.{ok_mapped as ok_then}
 use Rattle.rl_read.proofs.read.read_form.Goals as goal
@@ -38,7 +38,7 @@ loop-b-init g c = record {
   ready = ready_first c.walk_len-base.result c.args.w.now c.walk_len-base.ensures c.requires;
   word = tt;
   turns = refl;
-  goes = going_first (g.T.Bytes.takes_turns c.args.text.now) c.walk_len-base.result c.args.w.now (g.T.Bytes.left c.args.text.now c.args.w.now.input) (kept_first c.walk_len-base.result c.args.w.now c.walk_len-base.ensures);
+  goes = going_first (g.T.Bytes.takes_turns c.args.text.now) c.walk_len-base.result c.args.w.now (g.T.Bytes.unread c.args.text.now c.args.w.now.input) (kept_first c.walk_len-base.result c.args.w.now c.walk_len-base.ensures);
   printed = told_first (g.T.Bytes.printed c.args.text.now c.args.w.now.output.waiting) (λ before now. now ≡ before) (λ x. refl);
   reads = refl;
   writes = refl;
@@ -48,19 +48,19 @@ loop-b-init g c = record {
 }
 
 pub at_end-requires-clause-ready : goal.at_end-requires-clause-ready
-at_end-requires-clause-ready g c = passed_ready c.walk_len-base.result c.loop-b.w c.next.new.w c.loop-b.group c.next.ensures.world c.loop-b.invariant.ready
+at_end-requires-clause-ready g c = passed_ready c.bounds_are_kept.ensures (g.T.Bytes.takes_turns c.loop-b.text) c.walk_len-base.result c.loop-b.w c.next.new.w c.loop-b.group c.in-Ok-None.field-0 c.in-Ok-None.ensures.turn c.next.ensures.world c.loop-b.invariant.ready
 
 pub returns-in-Ok-None-clause-ok : goal.returns-in-Ok-None-clause-ok
-returns-in-Ok-None-clause-ok g c = ok_then c.at_end.result (λ v. (t : Bool) → reader.at_end (in_stock t) (mode_of c.loop-b.mode c.loop-b.word.items) (frames_in c.walk_len-base.result c.next.new.w c.loop-b.group) (stock_of c.next.new.w) ≡ Read v (stock_of c.at_end.new.w) []) (λ v. WhereTold (g.T.Bytes.left c.args.text.now c.args.w.now.input) (g.T.Bytes.left c.next.new.self c.at_end.new.w.input) (λ before now. read_by (in_stock (g.T.Bytes.takes_turns c.args.text.now)) (stock_of c.args.w.now) before ≡ Read v (stock_of c.at_end.new.w) now)) (λ v e. told_whole (g.T.Bytes.takes_turns c.args.text.now) (g.T.Bytes.takes_turns c.loop-b.text) c.loop-b.invariant.turns c.args.w.now c.loop-b.w c.next.new.w c.walk_len-base.result (mode_of c.loop-b.mode c.loop-b.word.items) c.loop-b.group c.loop-b.k (g.T.Bytes.left c.args.text.now c.args.w.now.input) (g.T.Bytes.left c.loop-b.text c.loop-b.w.input) (λ i. g.T.Bytes.left c.next.new.self i) c.loop-b.invariant.goes c.next.ensures.world c.in-Ok-None.field-0 c.in-Ok-None.ensures.gives c.in-Ok-None.ensures.turn c.in-Ok-None.field-0-is c.at_end.new.w.input (read_input c.walk_len-base.result c.next.new.w c.at_end.new.w c.at_end.ensures.reading) v (stock_of c.at_end.new.w) (e (g.T.Bytes.takes_turns c.args.text.now))) c.at_end.ensures.ok
+returns-in-Ok-None-clause-ok g c = ok_then c.at_end.result (λ v. (t : Bool) → reader.at_end (in_stock t) (mode_of c.loop-b.mode c.loop-b.word.items) (frames_in c.walk_len-base.result c.next.new.w c.loop-b.group) (stock_of c.next.new.w) ≡ Read v (stock_of c.at_end.new.w) []) (λ v. TakesBytes (g.T.Bytes.unread c.args.text.now c.args.w.now.input) (g.T.Bytes.unread c.next.new.self c.at_end.new.w.input) (λ before now. read_by (in_stock (g.T.Bytes.takes_turns c.args.text.now)) (stock_of c.args.w.now) before ≡ Read v (stock_of c.at_end.new.w) now)) (λ v e. told_whole (g.T.Bytes.takes_turns c.args.text.now) (g.T.Bytes.takes_turns c.loop-b.text) c.loop-b.invariant.turns c.args.w.now c.loop-b.w c.next.new.w c.walk_len-base.result (mode_of c.loop-b.mode c.loop-b.word.items) c.loop-b.group c.loop-b.k (g.T.Bytes.unread c.args.text.now c.args.w.now.input) (g.T.Bytes.unread c.loop-b.text c.loop-b.w.input) (λ i. g.T.Bytes.unread c.next.new.self i) c.loop-b.invariant.goes c.next.ensures.world c.in-Ok-None.field-0 c.in-Ok-None.ensures.gives c.in-Ok-None.ensures.turn c.in-Ok-None.field-0-is c.at_end.new.w.input (read_input c.walk_len-base.result c.next.new.w c.at_end.new.w c.at_end.ensures.reading) v (stock_of c.at_end.new.w) (e (g.T.Bytes.takes_turns c.args.text.now))) c.at_end.ensures.ok
 
 pub returns-in-Ok-None-clause-syntax : goal.returns-in-Ok-None-clause-syntax
-returns-in-Ok-None-clause-syntax g c = λ k is. told_end_refused (g.T.Bytes.takes_turns c.args.text.now) (g.T.Bytes.takes_turns c.loop-b.text) c.loop-b.invariant.turns c.args.w.now c.loop-b.w c.next.new.w c.walk_len-base.result (mode_of c.loop-b.mode c.loop-b.word.items) c.loop-b.group c.loop-b.k (g.T.Bytes.left c.args.text.now c.args.w.now.input) (g.T.Bytes.left c.loop-b.text c.loop-b.w.input) (λ i. g.T.Bytes.left c.next.new.self i) c.loop-b.invariant.goes c.next.ensures.world c.in-Ok-None.field-0 c.in-Ok-None.ensures.gives c.in-Ok-None.ensures.turn c.in-Ok-None.field-0-is c.at_end.new.w.input (read_input c.walk_len-base.result c.next.new.w c.at_end.new.w c.at_end.ensures.reading) c.at_end.new.w k (c.at_end.ensures.syntax k is)
+returns-in-Ok-None-clause-syntax g c = λ k is. told_end_refused (g.T.Bytes.takes_turns c.args.text.now) (g.T.Bytes.takes_turns c.loop-b.text) c.loop-b.invariant.turns c.args.w.now c.loop-b.w c.next.new.w c.walk_len-base.result (mode_of c.loop-b.mode c.loop-b.word.items) c.loop-b.group c.loop-b.k (g.T.Bytes.unread c.args.text.now c.args.w.now.input) (g.T.Bytes.unread c.loop-b.text c.loop-b.w.input) (λ i. g.T.Bytes.unread c.next.new.self i) c.loop-b.invariant.goes c.next.ensures.world c.in-Ok-None.field-0 c.in-Ok-None.ensures.gives c.in-Ok-None.ensures.turn c.in-Ok-None.field-0-is c.at_end.new.w.input (read_input c.walk_len-base.result c.next.new.w c.at_end.new.w c.at_end.ensures.reading) c.at_end.new.w k (c.at_end.ensures.syntax k is)
 
 pub returns-in-Ok-None-clause-end : goal.returns-in-Ok-None-clause-end
-returns-in-Ok-None-clause-end g c = λ is. told_none (g.T.Bytes.takes_turns c.args.text.now) (g.T.Bytes.takes_turns c.loop-b.text) c.loop-b.invariant.turns c.args.w.now c.loop-b.w c.next.new.w c.walk_len-base.result (mode_of c.loop-b.mode c.loop-b.word.items) c.loop-b.group c.loop-b.k (g.T.Bytes.left c.args.text.now c.args.w.now.input) (g.T.Bytes.left c.loop-b.text c.loop-b.w.input) (λ i. g.T.Bytes.left c.next.new.self i) c.loop-b.invariant.goes c.next.ensures.world c.in-Ok-None.field-0 c.in-Ok-None.ensures.gives c.in-Ok-None.ensures.turn c.in-Ok-None.field-0-is c.at_end.new.w.input (read_input c.walk_len-base.result c.next.new.w c.at_end.new.w c.at_end.ensures.reading) (stock_of c.at_end.new.w) (c.at_end.ensures.end is (g.T.Bytes.takes_turns c.args.text.now))
+returns-in-Ok-None-clause-end g c = λ is. told_none (g.T.Bytes.takes_turns c.args.text.now) (g.T.Bytes.takes_turns c.loop-b.text) c.loop-b.invariant.turns c.args.w.now c.loop-b.w c.next.new.w c.walk_len-base.result (mode_of c.loop-b.mode c.loop-b.word.items) c.loop-b.group c.loop-b.k (g.T.Bytes.unread c.args.text.now c.args.w.now.input) (g.T.Bytes.unread c.loop-b.text c.loop-b.w.input) (λ i. g.T.Bytes.unread c.next.new.self i) c.loop-b.invariant.goes c.next.ensures.world c.in-Ok-None.field-0 c.in-Ok-None.ensures.gives c.in-Ok-None.ensures.turn c.in-Ok-None.field-0-is c.at_end.new.w.input (read_input c.walk_len-base.result c.next.new.w c.at_end.new.w c.at_end.ensures.reading) (stock_of c.at_end.new.w) (c.at_end.ensures.end is (g.T.Bytes.takes_turns c.args.text.now))
 
 pub returns-in-Ok-None-clause-stop : goal.returns-in-Ok-None-clause-stop
-returns-in-Ok-None-clause-stop g c = λ s is not. told_end_stopped (g.T.Bytes.takes_turns c.args.text.now) (g.T.Bytes.takes_turns c.loop-b.text) c.loop-b.invariant.turns c.args.w.now c.loop-b.w c.next.new.w c.walk_len-base.result (mode_of c.loop-b.mode c.loop-b.word.items) c.loop-b.group c.loop-b.k (g.T.Bytes.left c.args.text.now c.args.w.now.input) (g.T.Bytes.left c.loop-b.text c.loop-b.w.input) (λ i. g.T.Bytes.left c.next.new.self i) c.loop-b.invariant.goes c.next.ensures.world c.in-Ok-None.field-0 c.in-Ok-None.ensures.gives c.in-Ok-None.ensures.turn c.in-Ok-None.field-0-is c.at_end.new.w.input (read_input c.walk_len-base.result c.next.new.w c.at_end.new.w c.at_end.ensures.reading) s (c.at_end.ensures.stop s is)
+returns-in-Ok-None-clause-stop g c = λ s is not. told_end_stopped (g.T.Bytes.takes_turns c.args.text.now) (g.T.Bytes.takes_turns c.loop-b.text) c.loop-b.invariant.turns c.args.w.now c.loop-b.w c.next.new.w c.walk_len-base.result (mode_of c.loop-b.mode c.loop-b.word.items) c.loop-b.group c.loop-b.k (g.T.Bytes.unread c.args.text.now c.args.w.now.input) (g.T.Bytes.unread c.loop-b.text c.loop-b.w.input) (λ i. g.T.Bytes.unread c.next.new.self i) c.loop-b.invariant.goes c.next.ensures.world c.in-Ok-None.field-0 c.in-Ok-None.ensures.gives c.in-Ok-None.ensures.turn c.in-Ok-None.field-0-is c.at_end.new.w.input (read_input c.walk_len-base.result c.next.new.w c.at_end.new.w c.at_end.ensures.reading) s (c.at_end.ensures.stop s is)
 
 pub returns-in-Ok-None-clause-counted : goal.returns-in-Ok-None-clause-counted
 returns-in-Ok-None-clause-counted g c = λ s is not. c.at_end.ensures.counted s is
@@ -81,10 +81,13 @@ pub returns-in-Ok-None-clause-keeps : goal.returns-in-Ok-None-clause-keeps
 returns-in-Ok-None-clause-keeps g c = keeps_trans c.args.w.now c.next.new.w c.at_end.new.w (keeps_trans c.args.w.now c.loop-b.w c.next.new.w c.loop-b.invariant.keeps (keeps_given c.loop-b.w c.next.new.w c.next.ensures.world)) (keeps_read c.walk_len-base.result c.next.new.w c.at_end.new.w c.at_end.ensures.reading)
 
 pub returns-in-Err-clause-stop : goal.returns-in-Err-clause-stop
-returns-in-Err-clause-stop g c = λ s e. subst (λ (s : Stop). is_fault s ≡ false → WhereTold (g.T.Bytes.left c.args.text.now c.args.w.now.input) (g.T.Bytes.left c.next.new.self c.next.new.w.input) (λ before now. IsStoppedText (g.T.Bytes.takes_turns c.args.text.now) c.args.w.now before now s)) (stop_same c.in-Err.s s e) (told_wants (g.T.Bytes.takes_turns c.args.text.now) (g.T.Bytes.takes_turns c.loop-b.text) c.loop-b.invariant.turns c.args.w.now c.loop-b.w c.next.new.w (mode_of c.loop-b.mode c.loop-b.word.items) (frames_in c.walk_len-base.result c.loop-b.w c.loop-b.group) c.loop-b.k (g.T.Bytes.left c.args.text.now c.args.w.now.input) (g.T.Bytes.left c.loop-b.text c.loop-b.w.input) (g.T.Bytes.left c.next.new.self c.next.new.w.input) c.in-Err.s c.loop-b.invariant.goes c.in-Err.ensures.stop)
+returns-in-Err-clause-stop g c = λ s e. subst (λ (s : Stop). is_fault s ≡ false → TakesBytes (g.T.Bytes.unread c.args.text.now c.args.w.now.input) (g.T.Bytes.unread c.next.new.self c.next.new.w.input) (λ before now. IsStoppedText (g.T.Bytes.takes_turns c.args.text.now) c.args.w.now before now s)) (stop_same c.in-Err.s s e) (told_wants (g.T.Bytes.takes_turns c.args.text.now) (g.T.Bytes.takes_turns c.loop-b.text) c.loop-b.invariant.turns c.args.w.now c.loop-b.w c.next.new.w (mode_of c.loop-b.mode c.loop-b.word.items) (frames_in c.walk_len-base.result c.loop-b.w c.loop-b.group) c.loop-b.k (g.T.Bytes.unread c.args.text.now c.args.w.now.input) (g.T.Bytes.unread c.loop-b.text c.loop-b.w.input) (g.T.Bytes.unread c.next.new.self c.next.new.w.input) c.in-Err.s c.loop-b.invariant.goes c.in-Err.ensures.stop)
+
+pub returns-in-Err-clause-able : goal.returns-in-Err-clause-able
+returns-in-Err-clause-able g c = passed_able c.walk_len-base.result c.loop-b.w c.next.new.w c.loop-b.group c.in-Err.ensures.err c.next.ensures.world c.loop-b.invariant.ready
 
 pub returns-in-Err-clause-counted : goal.returns-in-Err-clause-counted
-returns-in-Err-clause-counted g c = λ s e. subst (λ (s : Stop). is_fault s ≡ false → is_counted s ≡ true) (stop_same c.in-Err.s s e) (wanted_is_counted (g.T.Bytes.takes_turns c.loop-b.text) (g.T.Bytes.left c.loop-b.text c.loop-b.w.input) (g.T.Bytes.left c.next.new.self c.next.new.w.input) c.loop-b.w c.next.new.w c.in-Err.s c.in-Err.ensures.stop)
+returns-in-Err-clause-counted g c = λ s e. subst (λ (s : Stop). is_fault s ≡ false → is_counted s ≡ true) (stop_same c.in-Err.s s e) (wanted_is_counted (g.T.Bytes.takes_turns c.loop-b.text) (g.T.Bytes.unread c.loop-b.text c.loop-b.w.input) (g.T.Bytes.unread c.next.new.self c.next.new.w.input) c.loop-b.w c.next.new.w c.in-Err.s c.in-Err.ensures.stop)
 
 pub returns-in-Err-clause-printed : goal.returns-in-Err-clause-printed
 returns-in-Err-clause-printed g c = λ not. told_same (g.T.Bytes.printed c.args.text.now c.args.w.now.output.waiting) (g.T.Bytes.printed c.loop-b.text c.loop-b.w.output.waiting) (g.T.Bytes.printed c.next.new.self c.next.new.w.output.waiting) c.loop-b.invariant.printed (c.in-Err.ensures.printed (λ e. not (cc)))
@@ -99,10 +102,10 @@ pub returns-in-Err-clause-keeps : goal.returns-in-Err-clause-keeps
 returns-in-Err-clause-keeps g c = (keeps_trans c.args.w.now c.loop-b.w c.next.new.w c.loop-b.invariant.keeps (keeps_given c.loop-b.w c.next.new.w c.next.ensures.world))
 
 pub read_byte-requires-clause-ready : goal.read_byte-requires-clause-ready
-read_byte-requires-clause-ready g c = passed_ready c.walk_len-base.result c.loop-b.w c.next.new.w c.loop-b.group c.next.ensures.world c.loop-b.invariant.ready
+read_byte-requires-clause-ready g c = passed_ready c.bounds_are_kept.ensures (g.T.Bytes.takes_turns c.loop-b.text) c.walk_len-base.result c.loop-b.w c.next.new.w c.loop-b.group c.in-Ok-Some.field-0 c.in-Ok-Some.ensures.turn c.next.ensures.world c.loop-b.invariant.ready
 
 pub returns-in-Err-read_byte-clause-stop : goal.returns-in-Err-read_byte-clause-stop
-returns-in-Err-read_byte-clause-stop g c = λ s e not. subst (λ (s : Stop). WhereTold (g.T.Bytes.left c.args.text.now c.args.w.now.input) (g.T.Bytes.left c.next.new.self c.read_byte.new.w.input) (λ before now. IsStoppedText (g.T.Bytes.takes_turns c.args.text.now) c.args.w.now before now s)) (stop_same c.in-Err-read_byte.s s e) (told_halted (g.T.Bytes.takes_turns c.args.text.now) (g.T.Bytes.takes_turns c.loop-b.text) c.loop-b.invariant.turns c.args.w.now c.loop-b.w c.next.new.w c.walk_len-base.result (mode_of c.loop-b.mode c.loop-b.word.items) c.loop-b.group c.loop-b.k (g.T.Bytes.left c.args.text.now c.args.w.now.input) (g.T.Bytes.left c.loop-b.text c.loop-b.w.input) (λ i. g.T.Bytes.left c.next.new.self i) c.loop-b.invariant.goes c.next.ensures.world c.in-Ok-Some.field-0 c.in-Ok-Some.ensures.gives c.in-Ok-Some.ensures.turn c.in-Ok-Some.b c.in-Ok-Some.field-0-is c.read_byte.new.w.input (read_input c.walk_len-base.result c.next.new.w c.read_byte.new.w c.read_byte.ensures.reading) c.in-Err-read_byte.ensures.stop.0 c.in-Err-read_byte.s (c.in-Err-read_byte.ensures.stop.1 (g.T.Bytes.takes_turns c.args.text.now)))
+returns-in-Err-read_byte-clause-stop g c = λ s e not. subst (λ (s : Stop). TakesBytes (g.T.Bytes.unread c.args.text.now c.args.w.now.input) (g.T.Bytes.unread c.next.new.self c.read_byte.new.w.input) (λ before now. IsStoppedText (g.T.Bytes.takes_turns c.args.text.now) c.args.w.now before now s)) (stop_same c.in-Err-read_byte.s s e) (told_halted (g.T.Bytes.takes_turns c.args.text.now) (g.T.Bytes.takes_turns c.loop-b.text) c.loop-b.invariant.turns c.args.w.now c.loop-b.w c.next.new.w c.walk_len-base.result (mode_of c.loop-b.mode c.loop-b.word.items) c.loop-b.group c.loop-b.k (g.T.Bytes.unread c.args.text.now c.args.w.now.input) (g.T.Bytes.unread c.loop-b.text c.loop-b.w.input) (λ i. g.T.Bytes.unread c.next.new.self i) c.loop-b.invariant.goes c.next.ensures.world c.in-Ok-Some.field-0 c.in-Ok-Some.ensures.gives c.in-Ok-Some.ensures.turn c.in-Ok-Some.b c.in-Ok-Some.field-0-is c.read_byte.new.w.input (read_input c.walk_len-base.result c.next.new.w c.read_byte.new.w c.read_byte.ensures.reading) c.in-Err-read_byte.ensures.stop.0 c.in-Err-read_byte.s (c.in-Err-read_byte.ensures.stop.1 (g.T.Bytes.takes_turns c.args.text.now)))
 
 pub returns-in-Err-read_byte-clause-printed : goal.returns-in-Err-read_byte-clause-printed
 returns-in-Err-read_byte-clause-printed g c = λ not. told_waits (λ waiting. g.T.Bytes.printed c.next.new.self waiting) (g.T.Bytes.printed c.args.text.now c.args.w.now.output.waiting) (g.T.Bytes.printed c.loop-b.text c.loop-b.w.output.waiting) c.next.new.w.output.waiting c.read_byte.new.w.output.waiting (read_waiting c.walk_len-base.result c.next.new.w c.read_byte.new.w c.read_byte.ensures.reading) c.loop-b.invariant.printed (c.in-Ok-Some.ensures.printed (λ e. cc))
@@ -112,11 +115,11 @@ returns-in-Err-read_byte-clause-keeps g c = (keeps_trans c.args.w.now c.next.new
 
 pub returns-in-Done-clause-ok : goal.returns-in-Done-clause-ok
 returns-in-Done-clause-ok g c = elim c.if-not-used.branch [
-  | then-not-used w ↦ subst (λ (x : World). WhereTold (g.T.Bytes.left c.args.text.now c.args.w.now.input) (g.T.Bytes.left c.if-not-used.text x.input) (λ before now. read_by (in_stock (g.T.Bytes.takes_turns c.args.text.now)) (stock_of c.args.w.now) before ≡ Read c.in-Done.v (stock_of x) now)) (sym w.w-is)
-      (subst (λ (t : g.row.T.Denot). WhereTold (g.T.Bytes.left c.args.text.now c.args.w.now.input) (g.T.Bytes.left t w.back.new.w.input) (λ before now. read_by (in_stock (g.T.Bytes.takes_turns c.args.text.now)) (stock_of c.args.w.now) before ≡ Read c.in-Done.v (stock_of w.back.new.w) now)) (sym w.text-is) (subst (λ (k : Stock). WhereTold (g.T.Bytes.left c.args.text.now c.args.w.now.input) (g.T.Bytes.left w.back.new.self w.back.new.w.input) (λ before now. read_by (in_stock (g.T.Bytes.takes_turns c.args.text.now)) (stock_of c.args.w.now) before ≡ Read c.in-Done.v k now)) (sym (ap (λ (x : World). stock_of x) w.back.ensures.world))
-      (told_before (g.T.Bytes.takes_turns c.args.text.now) (g.T.Bytes.takes_turns c.loop-b.text) c.loop-b.invariant.turns c.args.w.now c.loop-b.w c.next.new.w c.walk_len-base.result (mode_of c.loop-b.mode c.loop-b.word.items) c.loop-b.group c.loop-b.k (g.T.Bytes.left c.args.text.now c.args.w.now.input) (g.T.Bytes.left c.loop-b.text c.loop-b.w.input) (λ i. g.T.Bytes.left c.next.new.self i) c.loop-b.invariant.goes c.next.ensures.world c.in-Ok-Some.field-0 c.in-Ok-Some.ensures.gives c.in-Ok-Some.ensures.turn c.in-Ok-Some.b c.in-Ok-Some.field-0-is c.read_byte.new.w.input (read_input c.walk_len-base.result c.next.new.w c.read_byte.new.w c.read_byte.ensures.reading) c.in-Done.v (stock_of c.read_byte.new.w) (g.T.Bytes.left w.back.new.self w.back.new.w.input) (c.in-Ok.ensures.ok (g.T.Bytes.takes_turns c.args.text.now) ∙ ap (λ x. step_of c.walk_len-base.result c.read_byte.new.w c.read_byte.new.word.items x) c.in-Done.is ∙ ap (λ (u : Bool). reader.Done c.in-Done.v u (stock_of c.read_byte.new.w)) w.if-not-used.true) w.back.ensures.back)))
-  | else-not-used w ↦ subst (λ (x : World). WhereTold (g.T.Bytes.left c.args.text.now c.args.w.now.input) (g.T.Bytes.left c.if-not-used.text x.input) (λ before now. read_by (in_stock (g.T.Bytes.takes_turns c.args.text.now)) (stock_of c.args.w.now) before ≡ Read c.in-Done.v (stock_of x) now)) (sym w.w-is)
-      (subst (λ (t : g.row.T.Denot). WhereTold (g.T.Bytes.left c.args.text.now c.args.w.now.input) (g.T.Bytes.left t c.read_byte.new.w.input) (λ before now. read_by (in_stock (g.T.Bytes.takes_turns c.args.text.now)) (stock_of c.args.w.now) before ≡ Read c.in-Done.v (stock_of c.read_byte.new.w) now)) (sym w.text-is) (told_done (g.T.Bytes.takes_turns c.args.text.now) (g.T.Bytes.takes_turns c.loop-b.text) c.loop-b.invariant.turns c.args.w.now c.loop-b.w c.next.new.w c.walk_len-base.result (mode_of c.loop-b.mode c.loop-b.word.items) c.loop-b.group c.loop-b.k (g.T.Bytes.left c.args.text.now c.args.w.now.input) (g.T.Bytes.left c.loop-b.text c.loop-b.w.input) (λ i. g.T.Bytes.left c.next.new.self i) c.loop-b.invariant.goes c.next.ensures.world c.in-Ok-Some.field-0 c.in-Ok-Some.ensures.gives c.in-Ok-Some.ensures.turn c.in-Ok-Some.b c.in-Ok-Some.field-0-is c.read_byte.new.w.input (read_input c.walk_len-base.result c.next.new.w c.read_byte.new.w c.read_byte.ensures.reading) c.in-Done.v (stock_of c.read_byte.new.w) (c.in-Ok.ensures.ok (g.T.Bytes.takes_turns c.args.text.now) ∙ ap (λ x. step_of c.walk_len-base.result c.read_byte.new.w c.read_byte.new.word.items x) c.in-Done.is ∙ ap (λ (u : Bool). reader.Done c.in-Done.v u (stock_of c.read_byte.new.w)) w.if-not-used.false)))
+  | then-not-used w ↦ subst (λ (x : World). TakesBytes (g.T.Bytes.unread c.args.text.now c.args.w.now.input) (g.T.Bytes.unread c.if-not-used.text x.input) (λ before now. read_by (in_stock (g.T.Bytes.takes_turns c.args.text.now)) (stock_of c.args.w.now) before ≡ Read c.in-Done.v (stock_of x) now)) (sym w.w-is)
+      (subst (λ (t : g.row.T.Denot). TakesBytes (g.T.Bytes.unread c.args.text.now c.args.w.now.input) (g.T.Bytes.unread t w.back.new.w.input) (λ before now. read_by (in_stock (g.T.Bytes.takes_turns c.args.text.now)) (stock_of c.args.w.now) before ≡ Read c.in-Done.v (stock_of w.back.new.w) now)) (sym w.text-is) (subst (λ (k : Stock). TakesBytes (g.T.Bytes.unread c.args.text.now c.args.w.now.input) (g.T.Bytes.unread w.back.new.self w.back.new.w.input) (λ before now. read_by (in_stock (g.T.Bytes.takes_turns c.args.text.now)) (stock_of c.args.w.now) before ≡ Read c.in-Done.v k now)) (sym (ap (λ (x : World). stock_of x) w.back.ensures.world))
+      (told_before (g.T.Bytes.takes_turns c.args.text.now) (g.T.Bytes.takes_turns c.loop-b.text) c.loop-b.invariant.turns c.args.w.now c.loop-b.w c.next.new.w c.walk_len-base.result (mode_of c.loop-b.mode c.loop-b.word.items) c.loop-b.group c.loop-b.k (g.T.Bytes.unread c.args.text.now c.args.w.now.input) (g.T.Bytes.unread c.loop-b.text c.loop-b.w.input) (λ i. g.T.Bytes.unread c.next.new.self i) c.loop-b.invariant.goes c.next.ensures.world c.in-Ok-Some.field-0 c.in-Ok-Some.ensures.gives c.in-Ok-Some.ensures.turn c.in-Ok-Some.b c.in-Ok-Some.field-0-is c.read_byte.new.w.input (read_input c.walk_len-base.result c.next.new.w c.read_byte.new.w c.read_byte.ensures.reading) c.in-Done.v (stock_of c.read_byte.new.w) (g.T.Bytes.unread w.back.new.self w.back.new.w.input) (c.in-Ok.ensures.ok (g.T.Bytes.takes_turns c.args.text.now) ∙ ap (λ x. step_of c.walk_len-base.result c.read_byte.new.w c.read_byte.new.word.items x) c.in-Done.is ∙ ap (λ (u : Bool). reader.Done c.in-Done.v u (stock_of c.read_byte.new.w)) w.if-not-used.true) w.back.ensures.back)))
+  | else-not-used w ↦ subst (λ (x : World). TakesBytes (g.T.Bytes.unread c.args.text.now c.args.w.now.input) (g.T.Bytes.unread c.if-not-used.text x.input) (λ before now. read_by (in_stock (g.T.Bytes.takes_turns c.args.text.now)) (stock_of c.args.w.now) before ≡ Read c.in-Done.v (stock_of x) now)) (sym w.w-is)
+      (subst (λ (t : g.row.T.Denot). TakesBytes (g.T.Bytes.unread c.args.text.now c.args.w.now.input) (g.T.Bytes.unread t c.read_byte.new.w.input) (λ before now. read_by (in_stock (g.T.Bytes.takes_turns c.args.text.now)) (stock_of c.args.w.now) before ≡ Read c.in-Done.v (stock_of c.read_byte.new.w) now)) (sym w.text-is) (told_done (g.T.Bytes.takes_turns c.args.text.now) (g.T.Bytes.takes_turns c.loop-b.text) c.loop-b.invariant.turns c.args.w.now c.loop-b.w c.next.new.w c.walk_len-base.result (mode_of c.loop-b.mode c.loop-b.word.items) c.loop-b.group c.loop-b.k (g.T.Bytes.unread c.args.text.now c.args.w.now.input) (g.T.Bytes.unread c.loop-b.text c.loop-b.w.input) (λ i. g.T.Bytes.unread c.next.new.self i) c.loop-b.invariant.goes c.next.ensures.world c.in-Ok-Some.field-0 c.in-Ok-Some.ensures.gives c.in-Ok-Some.ensures.turn c.in-Ok-Some.b c.in-Ok-Some.field-0-is c.read_byte.new.w.input (read_input c.walk_len-base.result c.next.new.w c.read_byte.new.w c.read_byte.ensures.reading) c.in-Done.v (stock_of c.read_byte.new.w) (c.in-Ok.ensures.ok (g.T.Bytes.takes_turns c.args.text.now) ∙ ap (λ x. step_of c.walk_len-base.result c.read_byte.new.w c.read_byte.new.word.items x) c.in-Done.is ∙ ap (λ (u : Bool). reader.Done c.in-Done.v u (stock_of c.read_byte.new.w)) w.if-not-used.false)))
 ]
 
 pub returns-in-Done-clause-printed : goal.returns-in-Done-clause-printed
@@ -148,8 +151,8 @@ returns-in-Done-clause-kept g c = elim c.if-not-used.branch [
 pub returns-in-Done-clause-live : goal.returns-in-Done-clause-live
 returns-in-Done-clause-live g c = let whole = (subst (λ x. IsStep c.walk_len-base.result c.read_byte.new.w c.read_byte.new.word.items x) c.in-Done.is c.in-Ok.ensures.step) in subst (λ (x : World). IsTrue (is_live x.cells.cells c.in-Done.v)) (sym (done_world g c)) whole.live
 
-pub returns-in-Done-clause-table : goal.returns-in-Done-clause-table
-returns-in-Done-clause-table g c = subst (λ (x : World). IsTable x.cells.cells x.syms.head) (sym (done_world g c)) c.read_byte.ensures.table
+pub returns-in-Done-clause-able : goal.returns-in-Done-clause-able
+returns-in-Done-clause-able g c = subst (λ (x : World). CanMake x) (sym (done_world g c)) c.read_byte.ensures.able
 
 pub returns-in-Done-clause-levels : goal.returns-in-Done-clause-levels
 returns-in-Done-clause-levels g c = λ u. let whole = (subst (λ x. IsStep c.walk_len-base.result c.read_byte.new.w c.read_byte.new.word.items x) c.in-Done.is c.in-Ok.ensures.step) in ap (λ (x : World). x.levels) (done_world g c) ∙ levels_back c.walk_len-base.result c.args.w.now.levels c.read_byte.new.w.levels c.walk_len-base.ensures (whole.ready.root refl) (steady_trans c.walk_len-base.result c.args.w.now.levels c.next.new.w.levels c.read_byte.new.w.levels (steady_as c.walk_len-base.result c.args.w.now.levels c.loop-b.w c.next.new.w (sym (passed_levels c.loop-b.w c.next.new.w c.next.ensures.world)) c.loop-b.invariant.steady) c.read_byte.ensures.reading.steady)
@@ -158,7 +161,7 @@ pub returns-in-Done-clause-keeps : goal.returns-in-Done-clause-keeps
 returns-in-Done-clause-keeps g c = keeps_trans c.args.w.now c.read_byte.new.w c.if-not-used.w (keeps_trans c.args.w.now c.next.new.w c.read_byte.new.w (keeps_trans c.args.w.now c.loop-b.w c.next.new.w c.loop-b.invariant.keeps (keeps_given c.loop-b.w c.next.new.w c.next.ensures.world)) (keeps_read c.walk_len-base.result c.next.new.w c.read_byte.new.w c.read_byte.ensures.reading)) (keeps_back c.read_byte.new.w c.if-not-used.w (done_world g c))
 
 pub returns-in-Refuses-clause-syntax : goal.returns-in-Refuses-clause-syntax
-returns-in-Refuses-clause-syntax g c = λ k is. subst (λ (k : ℕ). WhereTold (g.T.Bytes.left c.args.text.now c.args.w.now.input) (g.T.Bytes.left c.next.new.self c.refused.new.w.input) (λ before now. IsRefusedText (g.T.Bytes.takes_turns c.args.text.now) c.args.w.now c.refused.new.w before now k)) (sym (same_place c.refused.result k c.loop-b.k c.refused.ensures.syntax is)) (told_refused (g.T.Bytes.takes_turns c.args.text.now) (g.T.Bytes.takes_turns c.loop-b.text) c.loop-b.invariant.turns c.args.w.now c.loop-b.w c.next.new.w c.walk_len-base.result (mode_of c.loop-b.mode c.loop-b.word.items) c.loop-b.group c.loop-b.k (g.T.Bytes.left c.args.text.now c.args.w.now.input) (g.T.Bytes.left c.loop-b.text c.loop-b.w.input) (λ i. g.T.Bytes.left c.next.new.self i) c.loop-b.invariant.goes c.next.ensures.world c.in-Ok-Some.field-0 c.in-Ok-Some.ensures.gives c.in-Ok-Some.ensures.turn c.in-Ok-Some.b c.in-Ok-Some.field-0-is c.refused.new.w.input (left_input c.read_byte.new.w c.refused.new.w c.refused.ensures.world ∙ read_input c.walk_len-base.result c.next.new.w c.read_byte.new.w c.read_byte.ensures.reading) (stock_of c.read_byte.new.w) c.refused.new.w (c.in-Ok.ensures.ok (g.T.Bytes.takes_turns c.args.text.now) ∙ ap (λ x. step_of c.walk_len-base.result c.read_byte.new.w c.read_byte.new.word.items x) c.in-Refuses.is) (levels_left c.read_byte.new.w c.refused.new.w c.refused.ensures.world))
+returns-in-Refuses-clause-syntax g c = λ k is. subst (λ (k : ℕ). TakesBytes (g.T.Bytes.unread c.args.text.now c.args.w.now.input) (g.T.Bytes.unread c.next.new.self c.refused.new.w.input) (λ before now. IsRefusedText (g.T.Bytes.takes_turns c.args.text.now) c.args.w.now c.refused.new.w before now k)) (sym (same_place c.refused.result k c.loop-b.k c.refused.ensures.syntax is)) (told_refused (g.T.Bytes.takes_turns c.args.text.now) (g.T.Bytes.takes_turns c.loop-b.text) c.loop-b.invariant.turns c.args.w.now c.loop-b.w c.next.new.w c.walk_len-base.result (mode_of c.loop-b.mode c.loop-b.word.items) c.loop-b.group c.loop-b.k (g.T.Bytes.unread c.args.text.now c.args.w.now.input) (g.T.Bytes.unread c.loop-b.text c.loop-b.w.input) (λ i. g.T.Bytes.unread c.next.new.self i) c.loop-b.invariant.goes c.next.ensures.world c.in-Ok-Some.field-0 c.in-Ok-Some.ensures.gives c.in-Ok-Some.ensures.turn c.in-Ok-Some.b c.in-Ok-Some.field-0-is c.refused.new.w.input (left_input c.read_byte.new.w c.refused.new.w c.refused.ensures.world ∙ read_input c.walk_len-base.result c.next.new.w c.read_byte.new.w c.read_byte.ensures.reading) (stock_of c.read_byte.new.w) c.refused.new.w (c.in-Ok.ensures.ok (g.T.Bytes.takes_turns c.args.text.now) ∙ ap (λ x. step_of c.walk_len-base.result c.read_byte.new.w c.read_byte.new.word.items x) c.in-Refuses.is) (levels_left c.read_byte.new.w c.refused.new.w c.refused.ensures.world))
 
 pub returns-in-Refuses-clause-printed : goal.returns-in-Refuses-clause-printed
 returns-in-Refuses-clause-printed g c = λ not. told_waits (λ waiting. g.T.Bytes.printed c.next.new.self waiting) (g.T.Bytes.printed c.args.text.now c.args.w.now.output.waiting) (g.T.Bytes.printed c.loop-b.text c.loop-b.w.output.waiting) c.next.new.w.output.waiting c.refused.new.w.output.waiting (left_waiting c.read_byte.new.w c.refused.new.w c.refused.ensures.world ∙ read_waiting c.walk_len-base.result c.next.new.w c.read_byte.new.w c.read_byte.ensures.reading) c.loop-b.invariant.printed (c.in-Ok-Some.ensures.printed (λ e. cc))
@@ -181,7 +184,7 @@ loop-b-preserved g c = let is = subst (λ x. IsStep c.walk_len-base.result c.rea
   ready = is.0;
   word = is.1;
   turns = c.next.ensures.same ∙ c.loop-b.invariant.turns;
-  goes = told_on (g.T.Bytes.takes_turns c.args.text.now) (g.T.Bytes.takes_turns c.loop-b.text) c.loop-b.invariant.turns c.args.w.now c.loop-b.w c.next.new.w c.walk_len-base.result (mode_of c.loop-b.mode c.loop-b.word.items) c.loop-b.group c.loop-b.k (g.T.Bytes.left c.args.text.now c.args.w.now.input) (g.T.Bytes.left c.loop-b.text c.loop-b.w.input) (λ i. g.T.Bytes.left c.next.new.self i) c.loop-b.invariant.goes c.next.ensures.world c.in-Ok-Some.field-0 c.in-Ok-Some.ensures.gives c.in-Ok-Some.ensures.turn c.in-Ok-Some.b c.in-Ok-Some.field-0-is c.read_byte.new.w.input (read_input c.walk_len-base.result c.next.new.w c.read_byte.new.w c.read_byte.ensures.reading) (mode_of c.in-Goes.next c.read_byte.new.word.items) (frames_in c.walk_len-base.result c.read_byte.new.w c.in-Goes.inside) (stock_of c.read_byte.new.w) c.saturating_add-k.result (c.in-Ok.ensures.ok (g.T.Bytes.takes_turns c.args.text.now) ∙ ap (λ x. step_of c.walk_len-base.result c.read_byte.new.w c.read_byte.new.word.items x) c.in-Goes.is) c.saturating_add-k.ensures;
+  goes = told_on (g.T.Bytes.takes_turns c.args.text.now) (g.T.Bytes.takes_turns c.loop-b.text) c.loop-b.invariant.turns c.args.w.now c.loop-b.w c.next.new.w c.walk_len-base.result (mode_of c.loop-b.mode c.loop-b.word.items) c.loop-b.group c.loop-b.k (g.T.Bytes.unread c.args.text.now c.args.w.now.input) (g.T.Bytes.unread c.loop-b.text c.loop-b.w.input) (λ i. g.T.Bytes.unread c.next.new.self i) c.loop-b.invariant.goes c.next.ensures.world c.in-Ok-Some.field-0 c.in-Ok-Some.ensures.gives c.in-Ok-Some.ensures.turn c.in-Ok-Some.b c.in-Ok-Some.field-0-is c.read_byte.new.w.input (read_input c.walk_len-base.result c.next.new.w c.read_byte.new.w c.read_byte.ensures.reading) (mode_of c.in-Goes.next c.read_byte.new.word.items) (frames_in c.walk_len-base.result c.read_byte.new.w c.in-Goes.inside) (stock_of c.read_byte.new.w) c.saturating_add-k.result (c.in-Ok.ensures.ok (g.T.Bytes.takes_turns c.args.text.now) ∙ ap (λ x. step_of c.walk_len-base.result c.read_byte.new.w c.read_byte.new.word.items x) c.in-Goes.is) c.saturating_add-k.ensures;
   printed = told_waits (λ waiting. g.T.Bytes.printed c.next.new.self waiting) (g.T.Bytes.printed c.args.text.now c.args.w.now.output.waiting) (g.T.Bytes.printed c.loop-b.text c.loop-b.w.output.waiting) c.next.new.w.output.waiting c.read_byte.new.w.output.waiting (read_waiting c.walk_len-base.result c.next.new.w c.read_byte.new.w c.read_byte.ensures.reading) c.loop-b.invariant.printed (c.in-Ok-Some.ensures.printed (λ e. cc));
   reads = c.in-Ok-Some.ensures.steady_reads (λ e. cc) ∙ c.loop-b.invariant.reads;
   writes = c.in-Ok-Some.ensures.steady_writes (λ e. cc) ∙ c.loop-b.invariant.writes;

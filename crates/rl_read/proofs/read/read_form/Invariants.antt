@@ -1,5 +1,6 @@
 use Rattle.std.proofs.Common.{◌≡◌, length}
 use Rattle.rl_io.specs.Told.{WhereTold}
+use Rattle.rl_read.specs.Taken.{TakesBytes}
 use Rattle.rl_read.specs.Stock.{stock_of}
 use Rattle.rl_read.specs.Frames.{IsReadyToRead, frames_in}
 use Rattle.rl_read.specs.Steps.{IsMode, mode_of}
@@ -16,7 +17,7 @@ invariant-loop-b g l = record {
   ready : IsReadyToRead l.base l.w l.group;
   word : IsMode l.mode l.word.items;
   turns : g.T.Bytes.takes_turns l.text ≡ g.T.Bytes.takes_turns l.fn.text;
-  goes : WhereTold (g.T.Bytes.left l.fn.text l.fn.w.input) (g.T.Bytes.left l.text l.w.input) (λ before now. IsGoing (g.T.Bytes.takes_turns l.fn.text) l.fn.w (mode_of l.mode l.word.items) (frames_in l.base l.w l.group) (stock_of l.w) l.k before now);
+  goes : TakesBytes (g.T.Bytes.unread l.fn.text l.fn.w.input) (g.T.Bytes.unread l.text l.w.input) (λ before now. IsGoing (g.T.Bytes.takes_turns l.fn.text) l.fn.w (mode_of l.mode l.word.items) (frames_in l.base l.w l.group) (stock_of l.w) l.k before now);
   printed : WhereTold (g.T.Bytes.printed l.fn.text l.fn.w.output.waiting) (g.T.Bytes.printed l.text l.w.output.waiting) (λ before now. now ≡ before);
   reads : g.T.Bytes.reads l.text ≡ g.T.Bytes.reads l.fn.text;
   writes : g.T.Bytes.writes l.text ≡ g.T.Bytes.writes l.fn.text;

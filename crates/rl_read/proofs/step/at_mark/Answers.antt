@@ -2,8 +2,8 @@ use Rattle.std.proofs.Common.{ap, ◌∙◌, []}
 use Rattle.rl_text.specs.Reader as reader
 use Rattle.rl_read.specs.Stock.{in_stock, stock_of}
 use Rattle.rl_read.specs.Frames.{frames_in}
-use Rattle.rl_read.specs.Steps.{mark_of}
-use Rattle.rl_read.specs.declared.word.Mark.{Mark}
+use Rattle.rl_text.specs.ByteClass.{mark_of}
+use Rattle.rl_text.specs.declared.bytes.Mark.{Mark}
 use Rattle.rl_read.proofs.Went.{halts_same, steps_same}
 use Rattle.rl_read.proofs.step.at_mark.Goals as goal
 

@@ -4,7 +4,7 @@ use Rattle.rl_read.proofs.Went.{atom_goes, ends_same, lacks_same}
 use Rattle.rl_read.proofs.step.atom_ended.Goals as goal
 
 pub value_ended-requires-clause-ready : goal.value_ended-requires-clause-ready
-value_ended-requires-clause-ready c = ready_stays c.args.base c.args.w.now c.make_atom.new.w c.args.group c.requires.ready c.make_atom.ensures.making c.make_atom.ensures.table
+value_ended-requires-clause-ready c = ready_stays c.args.base c.args.w.now c.make_atom.new.w c.args.group c.requires.ready c.make_atom.ensures.making c.make_atom.ensures.able
 
 pub returns-in-Ok-clause-ok : goal.returns-in-Ok-clause-ok
 returns-in-Ok-clause-ok c =

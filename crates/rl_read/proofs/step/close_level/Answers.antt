@@ -22,7 +22,7 @@ returns-then-owed-eq0-clause-stop c =
 
 pub returns-else-owed-eq0-clause-step : goal.returns-else-owed-eq0-clause-step
 returns-else-owed-eq0-clause-step c =
-    (rest_is_ready c.args.base c.args.w.now c.end_inner.new.w c.args.group.now c.args.l.now c.args.owed c.args.phase.now c.requires.list c.requires.ready c.end_inner.ensures.making c.end_inner.ensures.table, tt)
+    (rest_is_ready c.args.base c.args.w.now c.end_inner.new.w c.args.group.now c.args.l.now c.args.owed c.args.phase.now c.requires.list c.requires.ready c.end_inner.ensures.making c.end_inner.ensures.able, tt)
 
 pub returns-else-owed-eq0-clause-reading : goal.returns-else-owed-eq0-clause-reading
 returns-else-owed-eq0-clause-reading c = reading_of_making c.args.base c.args.w.now c.end_inner.new.w c.end_inner.ensures.making

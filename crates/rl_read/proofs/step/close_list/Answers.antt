@@ -8,6 +8,6 @@ returns-in_default c = record {
   stop = tt;
   counted = tt;
   step = (c.args.group.now, c.requires.ready);
-  table = c.requires.ready.table;
+  able = c.requires.ready.able;
   reading = reading_refl c.args.base c.args.w.now;
 }

@@ -5,14 +5,14 @@ use Rattle.rl_read.specs.Frames.{chain_of}
 use Rattle.rl_read.specs.declared.frames.Phase.TheVariants as phase
 use Rattle.rl_read.specs.declared.frames.Group.TheVariants as group
 use Rattle.rl_read.proofs.Making.{chain_stays, ready_made}
-use Rattle.rl_read.proofs.Went.{kept_same, list_ended}
+use Rattle.rl_read.proofs.Went.{kept_same, list_ended, list_lacks}
 use Rattle.std.proofs.Common.{sym}
 use Rattle.rl_read.proofs.step.in_list.Goals as goal
 
 pub returns-in-Dotted-clause-ended : goal.returns-in-Dotted-clause-ended
 returns-in-Dotted-clause-ended c =
     let m = c.end_with.ensures.making in
-    ready_made c.args.base c.args.w.now c.end_with.new.w (group.List c.args.l c.args.owed c.args.phase) (group.List c.args.l c.args.owed phase.Shut) c.requires.ready m c.end_with.ensures.table
+    ready_made c.args.base c.args.w.now c.end_with.new.w (group.List c.args.l c.args.owed c.args.phase) (group.List c.args.l c.args.owed phase.Shut) c.requires.ready m c.end_with.ensures.able
     (chain_stays c.args.w.now.cells.cells c.end_with.new.w.cells.cells c.args.l m.live c.requires.ready.group_is.0, omega (arith, c.requires.ready.group_is.1, m.longer))
     (λ e. absurd cc)
 
@@ -24,9 +24,21 @@ returns-in-Ok c =
           ∙ ap (λ fs. reader.Inside (reader.Listing (chain_of c.in-Ok.l) c.args.owed reader.Going ∷ fs) (stock_of c.extended.new.w)) (sym (kept_same c.args.base c.args.w.now c.extended.new.w m));
       stop = tt;
       counted = tt;
-      ended = ready_made c.args.base c.args.w.now c.extended.new.w (group.List c.args.l c.args.owed c.args.phase) (group.List c.in-Ok.l c.args.owed phase.Going) c.requires.ready m c.extended.ensures.table
+      ended = ready_made c.args.base c.args.w.now c.extended.new.w (group.List c.args.l c.args.owed c.args.phase) (group.List c.in-Ok.l c.args.owed phase.Going) c.requires.ready m c.extended.ensures.able
           (c.in-Ok.ensures.chain, omega (arith, c.requires.ready.group_is.1, c.in-Ok.ensures.longer))
           (λ e. absurd cc);
-      table = c.extended.ensures.table;
+      able = c.extended.ensures.able;
       making = m;
+    }
+
+pub returns-in-Err : goal.returns-in-Err
+returns-in-Err c =
+    let lacks = c.in-Err.ensures.stop in
+    record {
+      ok = tt;
+      stop = (lacks.0, λ t. list_lacks c.args.phase c.in_default.not-Dotted t c.args.v (chain_of c.args.l) c.args.owed _ c.in-Err.s (stock_of c.args.w.now) lacks.0 lacks.1);
+      counted = c.in-Err.ensures.counted;
+      ended = tt;
+      able = c.extended.ensures.able;
+      making = c.extended.ensures.making;
     }

@@ -10,13 +10,13 @@ use Rattle.rl_read.proofs.step.in_place.Goals as goal
 
 pub returns-in-Ok-clause-ended : goal.returns-in-Ok-clause-ended
 returns-in-Ok-clause-ended c =
-    ready_made c.args.base c.args.w.now c.extended.new.w c.args.group (group.Vector c.in-Ok.c) c.requires.ready c.extended.ensures.making c.extended.ensures.table c.in-Ok.ensures.chain (λ e. absurd cc)
+    ready_made c.args.base c.args.w.now c.extended.new.w c.args.group (group.Vector c.in-Ok.c) c.requires.ready c.extended.ensures.making c.extended.ensures.able c.in-Ok.ensures.chain (λ e. absurd cc)
 
 pub returns-in-Ok-extended-clause-ended : goal.returns-in-Ok-extended-clause-ended
 returns-in-Ok-extended-clause-ended c =
     let m = c.extended-in-VectorBehind.ensures.making in
     let is = group_in_place c.args.base c.args.w.now c.args.group (group.VectorBehind c.in-VectorBehind.c c.in-VectorBehind.l c.in-VectorBehind.owed) c.requires.ready c.in-VectorBehind.is in
-    ready_made c.args.base c.args.w.now c.extended-in-VectorBehind.new.w c.args.group (group.VectorBehind c.in-Ok-extended.c c.in-VectorBehind.l c.in-VectorBehind.owed) c.requires.ready m c.extended-in-VectorBehind.ensures.table
+    ready_made c.args.base c.args.w.now c.extended-in-VectorBehind.new.w c.args.group (group.VectorBehind c.in-Ok-extended.c c.in-VectorBehind.l c.in-VectorBehind.owed) c.requires.ready m c.extended-in-VectorBehind.ensures.able
     (c.in-Ok-extended.ensures.chain, chain_stays c.args.w.now.cells.cells c.extended-in-VectorBehind.new.w.cells.cells c.in-VectorBehind.l m.live is.1, omega (arith, is.2, m.longer))
     (λ e. absurd cc)
 

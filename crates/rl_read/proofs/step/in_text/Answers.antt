@@ -12,6 +12,6 @@ returns-else-b-eq34-2 c =
       stop = halts_same c.before-in_default.result _ _ (λ t. text_before t c.args.mode c.args.b c.args.word.now.items (frames_in c.args.base c.args.w.now c.args.group) (stock_of c.args.w.now) is c.if-b-eq34-2.false) c.before-in_default.ensures.stop;
       counted = c.before-in_default.ensures.counted;
       step = c.before-in_default.ensures.step;
-      table = c.before-in_default.ensures.table;
+      able = c.before-in_default.ensures.able;
       reading = c.before-in_default.ensures.reading;
     }

@@ -12,7 +12,7 @@ returns-in-Err-clause-reading c =
     reading_trans c.args.base c.args.w.now c.loop-w.w c.quoted.new.w c.loop-w.invariant.reading (reading_of_making c.args.base c.loop-w.w c.quoted.new.w c.quoted.ensures.making)
 
 pub around-group-requires-clause-ready : goal.around-group-requires-clause-ready
-around-group-requires-clause-ready c = ready_stays c.args.base c.loop-w.w c.quoted.new.w c.loop-w.group c.loop-w.invariant.ready c.quoted.ensures.making c.quoted.ensures.table
+around-group-requires-clause-ready c = ready_stays c.args.base c.loop-w.w c.quoted.new.w c.loop-w.group c.loop-w.invariant.ready c.quoted.ensures.making c.quoted.ensures.able
 
 pub loop-w-preserved : goal.loop-w-preserved
 loop-w-preserved c =

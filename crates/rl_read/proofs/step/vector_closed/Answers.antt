@@ -5,7 +5,7 @@ use Rattle.rl_read.proofs.Went.{halts_same, steps_same}
 use Rattle.rl_read.proofs.step.vector_closed.Goals as goal
 
 pub bracket_ended-requires-clause-ready : goal.bracket_ended-requires-clause-ready
-bracket_ended-requires-clause-ready c = ready_stays c.args.base c.args.w.now c.vector.new.w c.args.group.now c.requires.ready c.vector.ensures.making c.vector.ensures.table
+bracket_ended-requires-clause-ready c = ready_stays c.args.base c.args.w.now c.vector.new.w c.args.group.now c.requires.ready c.vector.ensures.making c.vector.ensures.able
 
 pub returns-clause-ok : goal.returns-clause-ok
 returns-clause-ok c =

@@ -26,6 +26,6 @@ returns-in_default c =
       stop = lacks_same c.atom_ended-in_default.result _ _ (λ t. atoms_same t c.args.base c.args.w.now c.args.group _ _ same) c.atom_ended-in_default.ensures.stop;
       counted = c.atom_ended-in_default.ensures.counted;
       ended = c.atom_ended-in_default.ensures.ended;
-      table = c.atom_ended-in_default.ensures.table;
+      able = c.atom_ended-in_default.ensures.able;
       reading = c.atom_ended-in_default.ensures.reading;
     }

@@ -4,9 +4,9 @@ ghost use Rattle.rl_world.specs.Counts.{counts_at_opening};
 ghost use Rattle.rl_world.specs.Errors.{AreTexts};
 ghost use Rattle.rl_world.specs.Input.{ended_after, given_after};
 
-use crate::{Limits, Stop, World};
 use rl_io::{Failed, Files, Io, MemFiles, MemSink, MemSource, Sink, Source};
 use rl_tags::{NIL, T, Val};
+use rl_world::{Limits, Stop, World};
 use std::cell::Cell;
 use std::test::Fail;
 

@@ -1,0 +1,5 @@
+//! Tests of the crates below, and nothing else. They stand above those crates, since the gate proves a crate that has tests of its own twice.
+#![tactic(auto)]
+
+#[cfg(test)]
+mod world;
