@@ -21,3 +21,4 @@ pub mod Gensyms
 pub mod Beginning
 pub mod BareShown
 pub mod Printings
+pub mod PrintingEnds

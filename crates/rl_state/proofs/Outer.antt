@@ -24,7 +24,7 @@ shows_outer w page noted place s o v column line taken h = record {
 
 pub grows_outer : (w x : World) (page : Output) (noted : List ℕ) (place : Input) → x ≡ record w { output = page; notes = noted; input = place } → IsWorld w → WorldGrows w x
 grows_outer w x page noted place e i = subst (λ (y : World). WorldGrows w y) (sym e) (record {
-  world = record { table = i.table; t = i.t; message = i.message; texts = i.texts; running = i.running; levels = i.levels; expanding = i.expanding };
+  world = record { table = i.table; t = i.t; message = i.message; texts = i.texts; running = i.running; levels = i.levels; made = i.made; expanding = i.expanding };
   live = λ v h. h;
   values = λ v h. refl;
 })

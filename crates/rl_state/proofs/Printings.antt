@@ -17,17 +17,20 @@ use Rattle.rl_cells.specs.Cell as cell
 use Rattle.rl_syms.specs.Contents.{ids_before, store_of, value_of}
 use Rattle.rl_syms.specs.Numbers.{IdentifiersAreNumbered, NamesAreNumbered, cell_names, numbered_name}
 use Rattle.rl_world.specs.Counts as counted
-use Rattle.rl_world.specs.Counts.{count_turns_left, turns_left_at}
+use Rattle.rl_world.specs.Bounds.{AreBoundsKept}
+use Rattle.rl_world.specs.Counts.{count_turns_left, ticked, turns_left_at}
+use Rattle.rl_print.specs.Counted.{ticks}
 use Rattle.rl_world.specs.declared.counts.Expansion as expansion
 use Rattle.rl_world.specs.declared.world.World.{World}
 use Rattle.rl_print.specs.Walk.{levels_left, progress_in_world, setting_in_world, whole_printed}
-use Rattle.rl_meaning.specs.State.{Counts, State, Symbol}
+use Rattle.rl_meaning.specs.State.{Counts, Expansion, State, Symbol}
 use Rattle.rl_meaning.specs.Outcome.{turns_left, turns_of}
 use Rattle.rl_meaning.specs.Symbols.{name_of_number, new_symbol, symbol_at}
-use Rattle.rl_meaning.specs.Printing.{levels_in, page_of, progress_in, setting_in}
+use Rattle.rl_meaning.specs.Printing.{levels_in, progress_in, setting_in, turns_taken}
 use Rattle.rl_state.specs.ShownState.{ShowsState, counts_in, expansion_in, symbol_meant, turns_in}
 use Rattle.rl_state.specs.Descents.{levels_shown}
 use Rattle.rl_state.specs.Worlds.{AreRunCounts, IsWorld}
+use Rattle.rl_state.proofs.Room.{running_ticked}
 
 -- ---- names
 
@@ -103,3 +106,31 @@ pub printed_shown : (numbers : IdentifiersAreNumbered) (named : NamesAreNumbered
 printed_shown numbers named w s style v i shown =
     ap (λ g. printed g (value_of w.cells.cells v) (levels_left w) (progress_in s)) (setting_shown numbers named w s style i shown)
     ∙ ap (λ p. printed (setting_in_world style w) (value_of w.cells.cells v) (levels_left w) p) (progress_shown w s i shown)
+
+-- ---- turns that were taken
+
+abbrev pub retaken : Option Expansion → ℕ → Counts → Counts
+retaken None n q = record q { turns = n }
+retaken (Some e) n q = record q { expansion = Some (record e { turns = n }) }
+
+pub taken_is : (e : Option Expansion) (n : ℕ) (s : State) → turns_taken e n s ≡ record s { counts = retaken e n s.counts }
+taken_is None n s = refl
+taken_is (Some e) n s = refl
+
+still_left : (c : cell.CellStore) (k : counted.WorldCounts) (o : Option ℕ) (outer : Option expansion.Expansion) → AreRunCounts c k → k.opening ≡ o → k.outermost ≡ outer
+    → counts_in c k ≡ retaken (expansion_in c.cells k.open_count outer) (turns_left_at o outer k.turns k.bound) (counts_in c k)
+still_left c k None None r eo ex = rw (eo, ex) refl
+still_left c k None (Some e) r eo ex = rw (eo, ex) refl
+still_left c k (Some n) None r eo ex = rw (eo, ex) refl
+still_left c k (Some n) (Some e) r eo ex = absurd (let none = r.unexpanded n eo in let f : Some e ≡ None = sym ex ∙ none in cc)
+
+after_tick : (c : cell.CellStore) (k : counted.WorldCounts) (n : ℕ) (o : Option ℕ) (outer : Option expansion.Expansion) → AreRunCounts c k → k.opening ≡ o → k.outermost ≡ outer
+    → retaken (counts_in c (counted.ticked_at o outer k)).expansion n (counts_in c (counted.ticked_at o outer k)) ≡ retaken (counts_in c k).expansion n (counts_in c k)
+after_tick c k n None None r eo ex = rw (eo, ex) refl
+after_tick c k n None (Some e) r eo ex = rw (eo, ex) refl
+after_tick c k n (Some m) None r eo ex = rw (eo, ex) refl
+after_tick c k n (Some m) (Some e) r eo ex = absurd (let none = r.unexpanded m eo in let f : Some e ≡ None = sym ex ∙ none in cc)
+
+pub retaken_ticks : AreBoundsKept → (number : ℕ) (c : cell.CellStore) (k : counted.WorldCounts) → AreRunCounts c k → counts_in c (ticks number k) ≡ retaken (counts_in c k).expansion (count_turns_left (ticks number k)) (counts_in c k)
+retaken_ticks law zero c k r = still_left c k k.opening k.outermost r refl refl
+retaken_ticks law (suc number) c k r = retaken_ticks law number c (ticked k) (running_ticked law c k r) ∙ after_tick c k (count_turns_left (ticks (suc number) k)) k.opening k.outermost r refl refl
