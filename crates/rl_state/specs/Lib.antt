@@ -6,5 +6,5 @@ pub mod Ending
 pub mod Descents
 pub mod StateOfWorld
 pub mod Ties
-pub mod TiesLaws
 pub mod BareStates
+pub mod TiesLaws

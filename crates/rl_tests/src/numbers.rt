@@ -1,5 +1,7 @@
-use crate::{NumFault, decimal, make, value};
+//! Whole numbers as values.
+
 use rl_cells::Cells;
+use rl_num::{NumFault, decimal, make, value};
 use std::test::Fail;
 
 /// Integers at the ends of 60 and of 128 bits, their decimal text, and the cells that each takes.
