@@ -1,5 +1,5 @@
 -- What values of the world are, and what a new pair keeps.
-use Rattle.std.proofs.Common.{◌≡◌, ℕ, zero, suc, ◌<◌, true, List, [], ◌++◌, length, Option, Some, None, refl, sym, ap, subst, arith}
+use Rattle.std.proofs.Common.{◌≡◌, ℕ, zero, suc, ◌<◌, true, List, [], ◌++◌, length, Option, Some, None, refl, ap, arith}
 use Rattle.rl_tags.specs.Tagged.{Tagged, Number, IdAt, StrAt, PairAt, VectorAt, BigAt, FunAt, tag_of}
 use Rattle.rl_tags.specs.declared.Tag.TheVariants as Tag
 use Rattle.rl_tags.specs.declared.names.TheConstants.{OPENING_NAMES}
@@ -7,14 +7,10 @@ use Rattle.rl_tags.specs.Opening.{opening_rows, place_of, name_at as opening_nam
 use Rattle.rl_cells.specs.Cell.{Cell, PairCell, placed, grown, is_live, is_pair, car_of, cdr_of}
 use Rattle.rl_syms.specs.Table.{IsTable, IsNamed}
 use Rattle.rl_syms.specs.Laws.{IsKept, LeaveIdentifiers}
-use Rattle.rl_syms.specs.Made.{IsOpening}
 use Rattle.rl_tree.specs.Name.{Name}
 use Rattle.rl_text.specs.Datum.{Pair}
 use Rattle.rl_read.specs.Data.{IsDatumWithin, datum_within}
 use Rattle.rl_read.specs.Laws.{PairsAreData}
-use Rattle.rl_read.specs.Frames.{CanMake}
-use Rattle.rl_world.specs.Bounds.{AreBoundsKept, BoundsAgree, IsMakingCounted}
-use Rattle.rl_world.specs.Counts.{WorldCounts, counts_at_opening}
 use Rattle.rl_world.specs.Output.{Output}
 use Rattle.rl_world.specs.declared.world.World.{World}
 use Rattle.rl_forms.specs.KnownData.{IsKnown, IsNameOf, IsRunning, IsBeginning, KeepsKnown, StandsForDatum, datum_in}
@@ -127,12 +123,4 @@ opened_beginning w table names output = record {
   };
   waiting = ap (λ (o : Output). o.waiting) output;
   column = ap (λ (o : Output). o.column) output;
-}
-
--- what is made in it counts
-pub opened_able : AreBoundsKept → (w : World) (turns bound : ℕ) → IsTable w.cells.cells w.syms.head → IsOpening w.cells bound → w.counts ≡ counts_at_opening turns bound → CanMake (settled w)
-opened_able law w turns bound table opening counts = record {
-  table = table;
-  bounds = law.opened w.counts w.cells (subst (λ (c : WorldCounts). BoundsAgree c w.cells) (sym counts) (law.opening w.cells turns bound opening)) opening.count;
-  counted = subst (λ (c : WorldCounts). IsMakingCounted c.aside c.outermost w.cells.mark) (sym counts) tt;
 }

@@ -7,10 +7,9 @@ ghost use Rattle.rl_forms.specs.KnownData.{IsBeginning, IsKnown, IsRunning, Keep
 ghost use Rattle.rl_forms.specs.SeenValues.{Sees};
 
 use rl_io::OutOfMemory;
-use rl_read::laws::pairs_are_data;
+use rl_read::laws::{opened_worlds_make, pairs_are_data};
 use rl_syms::laws::{others_leave_identifiers, table_is_kept};
 use rl_tags::{Tag, Val};
-use rl_world::laws::bounds_are_kept;
 use rl_world::{Limits, World};
 use std::alloc::Global;
 
@@ -36,7 +35,7 @@ pub(crate) fn open(alloc: Global) -> Result<World, OutOfMemory>
     ensures beginning { IfOk result IsBeginning }
     ensures able { IfOk result CanMake }
 {
-    bounds_are_kept();
+    opened_worlds_make();
     let limits = Limits {
         turns: TURNS,
         cells: CELLS,

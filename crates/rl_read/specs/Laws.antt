@@ -1,5 +1,5 @@
 -- What the crates above may say of reading in a world.
-use Rattle.std.specs.Prelude.{◌≡◌, ℕ, ◌-◌, Bool, true, List, ◌++◌, length, Option}
+use Rattle.std.specs.Prelude.{◌≡◌, ℕ, ◌-◌, Bool, true, List, ◌++◌, length, Option, Some, None}
 use Rattle.rl_tags.specs.Tagged.{Tagged, PairAt, index_of}
 use Rattle.rl_tags.specs.Ids.{nil_id}
 use Rattle.rl_cells.specs.Cell.{Cell, PairCell, is_live, is_pair, car_of, cdr_of, placed}
@@ -7,7 +7,11 @@ use Rattle.rl_syms.specs.Table.{IsTable, IsNamed, nil_value}
 use Rattle.rl_syms.specs.Contents.{ids_before, value_of, store_of}
 use Rattle.rl_syms.specs.Numbers.{numbered_name}
 use Rattle.rl_syms.specs.Laws.{IsKept, LeaveIdentifiers}
+use Rattle.rl_syms.specs.Made.{IsOpening}
 use Rattle.rl_world.specs.Bounds.{AreBoundsKept, RoomIsEnough}
+use Rattle.rl_world.specs.Counts.{counts_at_opening}
+use Rattle.rl_world.specs.declared.world.World.{World}
+use Rattle.rl_read.specs.Frames.{CanMake}
 use Rattle.rl_tree.specs.Name.{nil_name}
 use Rattle.rl_text.specs.Datum.{Datum, Pair}
 use Rattle.rl_text.specs.Stored.{IsStored}
@@ -58,3 +62,8 @@ pub record AreMakingLaws : Type 0 where
   pub leave : LeaveIdentifiers
   pub bounds : AreBoundsKept
   pub enough : RoomIsEnough
+
+-- after opening, what is made counts
+abbrev pub OpenedWorldsMake : Type 0
+OpenedWorldsMake = (w : World) (turns bound : ℕ) → IsTable w.cells.cells w.syms.head → IsOpening w.cells bound → w.counts ≡ counts_at_opening turns bound
+    → CanMake (record w { cells = record w.cells { count = Some 0 }; counts = record w.counts { opening = None } })

@@ -1,6 +1,6 @@
 //! Laws of reading in a world. A law is the contract of a function that does nothing.
 ghost use Rattle.rl_read.specs.ReadingKeepsCells.{ReadingKeepsCells};
-ghost use Rattle.rl_read.specs.Laws.{AreMakingLaws, MeansDatum, PairsAreData, ReadsData, ReadsText};
+ghost use Rattle.rl_read.specs.Laws.{AreMakingLaws, MeansDatum, OpenedWorldsMake, PairsAreData, ReadsData, ReadsText};
 
 use rl_cells::laws::{objects_are_added, objects_are_changed};
 use rl_syms::laws::{
@@ -58,6 +58,13 @@ pub fn what_is_read_is_the_datum()
     others_leave_identifiers();
     names_enter();
     names_are_identifiers();
+}
+
+/// After `World::open` and `World::opened` the world is one in which what is made counts, as `read_form` asks.
+pub fn opened_worlds_make()
+    ensures { OpenedWorldsMake }
+{
+    bounds_are_kept();
 }
 
 /// What making rests on: names stay a table, the bounds of counts and of cells agree, and where there is room the cells have it.
