@@ -228,6 +228,7 @@ printed_of before now style base old new v None e eb w g = record {
   follows = rw (ap (λ (p : Progress). p.page.text) (g.prints.means [])) g.prints.follows;
   column = sym (ap (λ (p : Progress). p.page.column) (g.prints.means []));
   turns = sym (ap (λ (p : Progress). p.turns) (g.prints.means []));
+  prints = g.prints;
   levels = levels_back base old.levels new.levels (sym eb) g.next_is w.steady;
 }
 printed_of before now style base old new v (Some x) e eb w g = absurd (cc)

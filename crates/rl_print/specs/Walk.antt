@@ -231,4 +231,6 @@ pub record IsPrinted (before now : Option (List ℕ)) (style : atoms.Style) (old
   pub follows : Follows before old.output.waiting now new.output.waiting (whole_printed style old v []).page.text
   pub column : new.output.column ≡ (whole_printed style old v []).page.column
   pub turns : count_turns_left new.counts ≡ (whole_printed style old v []).turns
+  -- so behind any text
+  pub prints : PrintsOn before now old.output.waiting new.output.waiting (whole_printed style old v) (progress_in_world new)
   pub levels : new.levels ≡ old.levels

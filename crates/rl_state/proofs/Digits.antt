@@ -16,6 +16,9 @@ below_tenth n p h = omega (arith, h)
 last_longer : (n : ℕ) → 10 ≤ n → n < 2 ^ 64 → length (decimal n) ≡ length (decimal (n / 10)) + 1
 last_longer n l h = ap length (decimal_step n l h) ∙ length-append (decimal (n / 10)) ((48 + n % 10) ∷ [])
 
+zeros_on : (w : ℕ) → ◌++◌ {A = ℕ} (replicate w 48) (48 ∷ []) ≡ replicate (suc w) 48
+zeros_on w = let more : w + 1 ≡ suc w = omega arith in replicate-append-replicate w 1 48 ∙ ap (λ k. replicate k 48) more
+
 padded_digits : (w n : ℕ) → n < 10 ^ suc w → n < 2 ^ 64 → digits (suc w) n ≡ replicate (suc w - length (decimal n)) 48 ++ decimal n
 padded_digits zero n l h =
     let small : n < 10 = l in
@@ -34,15 +37,13 @@ padded_digits (suc w) n l h =
         let last : n % 10 ≡ n = omega (arith, small) in
         let one : length (decimal n) ≡ 1 = ap length (decimal_digit n small) in
         let zero_is : decimal 0 ≡ 48 ∷ [] = decimal_digit 0 (omega arith) in
-        let more : w + 1 ≡ suc w = omega arith in
-        let front : replicate w 48 ++ 48 ∷ [] ≡ replicate (suc w) 48 = replicate-append-replicate w 1 48 ∙ ap (λ k. replicate k 48) more in
         let less : suc w - 1 ≡ w = omega arith in
         let less_now : suc (suc w) - 1 ≡ suc w = omega arith in
         ap (λ z. replicate (suc w - length (decimal z)) 48 ++ decimal z ++ (48 + n % 10) ∷ []) none
         ∙ ap (λ ds. replicate (suc w - length ds) 48 ++ ds ++ (48 + n % 10) ∷ []) zero_is
         ∙ ap (λ k. replicate k 48 ++ 48 ∷ [] ++ (48 + n % 10) ∷ []) less
         ∙ ap (λ d. replicate w 48 ++ 48 ∷ [] ++ (48 + d) ∷ []) last
-        ∙ ap (λ z. z ++ (48 + n) ∷ []) front
+        ∙ ap (λ z. z ++ (48 + n) ∷ []) (zeros_on w)
         ∙ sym (ap (λ k. replicate (suc (suc w) - k) 48 ++ decimal n) one ∙ ap (λ k. replicate k 48 ++ decimal n) less_now ∙ ap (λ ds. replicate (suc w) 48 ++ ds) (decimal_digit n small))
     go false e =
         let large = ltb-false n 10 e in

@@ -20,3 +20,5 @@ pub mod Digits
 pub mod Gensyms
 pub mod Beginning
 pub mod BareShown
+pub mod Printings
+pub mod PrintingEnds

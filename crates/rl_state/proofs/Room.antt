@@ -204,7 +204,7 @@ running_ticked_at c k (Some n) e r is b = record { bounds = b; together = r.toge
 running_ticked_at c k None (Some e) r is b = record { bounds = b; together = r.together; unexpanded = λ m h. absurd (let f : None ≡ Some m = sym is ∙ h in cc); untaken = r.untaken; few = r.few }
 running_ticked_at c k None None r is b = record { bounds = b; together = r.together; unexpanded = r.unexpanded; untaken = λ m h. absurd (let f : None ≡ Some m = sym is ∙ h in cc); few = r.few }
 
-running_ticked : AreBoundsKept → (c : cell.CellStore) (k : counted.WorldCounts) → AreRunCounts c k → AreRunCounts c (ticked k)
+pub running_ticked : AreBoundsKept → (c : cell.CellStore) (k : counted.WorldCounts) → AreRunCounts c k → AreRunCounts c (ticked k)
 running_ticked law c k r = running_ticked_at c k k.opening k.outermost r refl (law.ticked k c r.bounds)
 
 -- the counts after a turn, of a run and of opening

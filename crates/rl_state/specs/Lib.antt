@@ -8,3 +8,4 @@ pub mod StateOfWorld
 pub mod Ties
 pub mod BareStates
 pub mod TiesLaws
+pub mod Prints

@@ -10,6 +10,7 @@ mod natives;
 mod objects;
 mod opening;
 mod outside;
+mod printing;
 mod turns;
 mod variables;
 
@@ -25,5 +26,6 @@ pub use objects::{
 };
 pub use opening::{open, opened};
 pub use outside::{flush, next_byte, note_byte, peek, put_back, put_byte};
+pub use printing::{print1, print2};
 pub use turns::turn;
 pub use variables::{cell, set_cell};

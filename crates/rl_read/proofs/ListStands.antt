@@ -10,9 +10,9 @@ use Rattle.rl_text.specs.Maker.{Wants}
 use Rattle.rl_text.specs.Reading.{Items}
 use Rattle.rl_world.specs.declared.stop.Stop.TheVariants as stop
 use Rattle.rl_read.specs.Stock.{Stock, PairChain, elements_of, chain_ended, chain_extended, first_of_chain, chain_hung, object_made, pair_made, vector_made}
-use Rattle.rl_read.proofs.Standing.{Heap, IsHeap, Stands, AreStanding, Keeps, keeps_trans, stands_kept, are_kept, stands_wider, are_wider}
-use Rattle.rl_read.proofs.StandingChains.{IsOpen, Leads, HasPairs, leads_kept, leads_list, leads_on, open_elements, set_heap, set_here, set_keeps, with_cdr_at}
-use Rattle.rl_read.proofs.StandingMade.{AreLaws, Grows, IsValue, Makes, added, added_grows, added_longer, heap_of, object_makes, then_makes}
+use Rattle.rl_read.proofs.ValueStands.{Heap, IsHeap, Stands, AreStanding, Keeps, keeps_trans, stands_kept, are_kept, stands_wider, are_wider}
+use Rattle.rl_read.proofs.ChainStands.{IsOpen, Leads, HasPairs, leads_kept, leads_list, leads_on, open_elements, set_heap, set_here, set_keeps, with_cdr_at}
+use Rattle.rl_read.proofs.MadeStands.{AreLaws, Grows, IsValue, Makes, added, added_grows, added_longer, heap_of, object_makes, then_makes}
 
 -- ---- lists
 

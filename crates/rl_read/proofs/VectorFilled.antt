@@ -7,7 +7,7 @@ use Rattle.rl_tags.specs.declared.Tag.TheVariants as tag
 use Rattle.rl_cells.specs.Cell.{Cell, More, VectorCell, car_in, car_of, cdr_in, cdr_of, cell_at, changed_at, is_live, is_pair, is_vector, is_vector_cell, vector_in, vector_of}
 use Rattle.rl_world.specs.declared.world.World.{World}
 use Rattle.rl_read.specs.Stock.{elements_from}
-use Rattle.rl_read.proofs.MadeElements.{elements_other, elements_pair, pair_by_tag}
+use Rattle.rl_read.proofs.ListElements.{elements_other, elements_pair, pair_by_tag}
 
 -- ---- a changed vector
 

@@ -15,7 +15,7 @@ use Rattle.rl_read.specs.declared.read.ReadFault.{ReadFault}
 use Rattle.rl_read.specs.declared.read.ReadFault.TheVariants as fault
 use Rattle.rl_read.specs.declared.word.Mode.{Mode}
 use Rattle.rl_read.specs.declared.word.Mode.TheVariants as mode
-use Rattle.rl_read.proofs.Closed.{root_keeps_none}
+use Rattle.rl_read.proofs.BracketsClose.{root_keeps_none}
 
 -- inside something the text is refused
 pub inside_refused : (base : ℕ) (w : World) (g : Group) (k : Stock) → g ≢ group.Root → ended_between (frames_in base w g) k ≡ Refused k []

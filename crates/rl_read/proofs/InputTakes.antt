@@ -5,7 +5,7 @@ use Rattle.std.specs.Prelude.{Option, Some, None, IfSome, min}
 use Rattle.rl_io.specs.Told.{WhereTold}
 use Rattle.rl_world.specs.Input.{Input, Gives, given_after, ended_after, with_back}
 use Rattle.rl_read.specs.Taken.{Unread, came_of, MayCome, TakesBytes}
-use Rattle.rl_read.proofs.FormedTold.{told_first, told_mapped}
+use Rattle.rl_read.proofs.ToldByCalls.{told_first, told_mapped}
 
 pub takes_mapped : (a b : Unread) (P Q : List ℕ → List ℕ → Type 0) → ((x y : List ℕ) → P x y → Q x y) → TakesBytes a b P → TakesBytes a b Q
 takes_mapped a b P Q f p = record { bytes = p.bytes; told = p.told; dry = p.dry; ended = p.ended; counted = p.counted; means = λ rest h. f _ _ (p.means rest h) }

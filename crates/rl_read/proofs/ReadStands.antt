@@ -14,11 +14,11 @@ use Rattle.rl_text.specs.Word.{Atom, Integer, Identifier, String, signed, datum_
 use Rattle.rl_world.specs.Counts.{tick_stop}
 use Rattle.rl_world.specs.declared.stop.Stop.{Stop}
 use Rattle.rl_read.specs.Stock.{Stock, PairChain, atom_made, chain_ended, entered, entered_at, chain_extended, first_of_chain, in_stock, quote_made, turned, turned_at, vector_made}
-use Rattle.rl_read.proofs.Standing.{Heap}
-use Rattle.rl_read.proofs.StandingMade.{AreLaws, IsAtomic, IsValue, Makes, atom_makes, atom_size, heap_of, quote_makes}
-use Rattle.rl_read.proofs.StandingLists.{IsLonger, ended_makes, extended_makes, vector_makes}
-use Rattle.rl_read.proofs.StandingChains.{HasPairs, IsOpen}
-use Rattle.rl_read.proofs.StandingFrames.{Around, Holds, IsListing, IsOutside, IsPending, IsResult, admits_same, atom_pending, going_holds, list_pending, open_size, pending_left, quote_pending, shut_holds, size_ended, size_longer, vector_holds, vector_pending, whole_result}
+use Rattle.rl_read.proofs.ValueStands.{Heap}
+use Rattle.rl_read.proofs.MadeStands.{AreLaws, IsAtomic, IsValue, Makes, atom_makes, atom_size, heap_of, quote_makes}
+use Rattle.rl_read.proofs.ListStands.{IsLonger, ended_makes, extended_makes, vector_makes}
+use Rattle.rl_read.proofs.ChainStands.{HasPairs, IsOpen}
+use Rattle.rl_read.proofs.FramesStand.{Around, Holds, IsListing, IsOutside, IsPending, IsResult, admits_same, atom_pending, going_holds, list_pending, open_size, pending_left, quote_pending, shut_holds, size_ended, size_longer, vector_holds, vector_pending, whole_result}
 
 -- ---- an element ends
 

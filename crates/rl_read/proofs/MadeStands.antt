@@ -13,11 +13,11 @@ use Rattle.rl_tree.specs.Name.{Name, quote_name}
 use Rattle.rl_text.specs.Datum.{Datum, Pair, Id, nil, quoted}
 use Rattle.rl_text.specs.Maker.{Made, Has, Wants}
 use Rattle.rl_text.specs.Word.{Atom, Integer, Identifier, String, datum_of_atom}
-use Rattle.rl_world.specs.Counts.{room_stop, roomed}
+use Rattle.rl_world.specs.Counts.{room_stop}
 use Rattle.rl_world.specs.declared.stop.Stop.{Stop}
 use Rattle.rl_read.specs.Stock.{Stock, and_then_made, atom_made, identifier_at, identifier_made, named_among, object_made, pair_made, quote_made, with_room, with_room_at}
-use Rattle.rl_read.proofs.MadeNames.{longer_with_id}
-use Rattle.rl_read.proofs.Standing.{Heap, IsHeap, Stands, Keeps, keeps_refl, keeps_trans, stands_kept, stands_wider, size}
+use Rattle.rl_read.proofs.NameEntered.{longer_with_id}
+use Rattle.rl_read.proofs.ValueStands.{Heap, IsHeap, Stands, Keeps, keeps_refl, keeps_trans, stands_kept, stands_wider, size}
 
 -- what the crates below say of cells and names
 pub record AreLaws : Type 0 where
@@ -40,12 +40,12 @@ pub then_makes : {A B : Type 0} (P : A → Heap → Type 0) (Q : B → Heap → 
 then_makes P Q (Has a k) f h g = g a k h
 then_makes P Q (Wants s k) f h g = tt
 
-room_makes_at : (P : Heap → Type 0) (s : Option Stop) (k : Stock) → P (heap_of k) → Makes (λ (u : Unit {0}) w. P w) (with_room_at s k)
-room_makes_at P (Some s) k h = tt
-room_makes_at P None k h = h
+room_makes_at : (P : Heap → Type 0) (s : Option Stop) (cost : ℕ) (k : Stock) → P (heap_of k) → Makes (λ (u : Unit {0}) w. P w) (with_room_at s cost k)
+room_makes_at P (Some s) cost k h = tt
+room_makes_at P None cost k h = h
 
 room_makes : (P : Heap → Type 0) (cost : ℕ) (k : Stock) → P (heap_of k) → Makes (λ (u : Unit {0}) w. P w) (with_room cost k)
-room_makes P cost k h = room_makes_at P (room_stop k.counts k.cells cost) (record k { counts = roomed k.counts cost }) h
+room_makes P cost k h = room_makes_at P (room_stop k.counts k.cells cost) cost k h
 
 -- ---- objects
 

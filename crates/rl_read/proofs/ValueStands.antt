@@ -8,7 +8,7 @@ use Rattle.rl_syms.specs.Table.{IsTable, IsNamed, nil_value}
 use Rattle.rl_tree.specs.Name.{nil_name}
 use Rattle.rl_text.specs.Datum.{Datum, Elements, Int, Id, Str, Pair, Vector, NoElements, Element, elements}
 use Rattle.rl_read.specs.Data.{IsDatumWithin, datum_within}
-use Rattle.rl_read.proofs.DataKept.{Stays, stands_inside}
+use Rattle.rl_read.proofs.DataStay.{Stays, stands_inside}
 
 -- the cells, and where the chain of names begins
 pub record Heap : Type 0 where

@@ -11,8 +11,8 @@ use Rattle.rl_world.specs.declared.world.World.{World}
 use Rattle.rl_read.specs.Frames.{AreReadyToMake, CanMake, IsMaking}
 use Rattle.rl_read.specs.Laws.{AreMakingLaws}
 use Rattle.rl_read.specs.Stock.{identifier_at, stock_of}
-use Rattle.rl_read.proofs.MadeWorlds.{able_entered}
-use Rattle.rl_read.proofs.MadeStocks.{identifier_had}
+use Rattle.rl_read.proofs.MakingKeepsNames.{able_entered}
+use Rattle.rl_read.proofs.ObjectMade.{identifier_had}
 
 -- what no identifier has is not found
 pub entered : (old new : CellStore) (before after : Option Tagged) (name : List ℕ) (v : Tagged) → IsFree old.cells before name → Finds old new before after name v ⊎ Enters old new before after name v → Enters old new before after name v

@@ -19,7 +19,7 @@ use Rattle.rl_read.specs.declared.frames.Phase.{Phase}
 use Rattle.rl_read.specs.declared.frames.Phase.TheVariants as phase
 use Rattle.rl_read.specs.declared.frames.Group.{Group}
 use Rattle.rl_read.specs.declared.frames.Group.TheVariants as group
-use Rattle.rl_read.proofs.Making.{making_levels}
+use Rattle.rl_read.proofs.MakingStays.{making_levels}
 use Rattle.rl_world.specs.Walks.{kept_above}
 
 -- ---- answers
@@ -36,11 +36,11 @@ err_mapped (Err e) P Q f h = f e h
 pub ends_same : (base : ℕ) (w : World) (r : Result (Rattle.rl_read.specs.declared.step.Ended.TheVariants.the_data) Stop) (one other : Bool → reader.Ended Stock Tagged PairChain Stop) → ((t : Bool) → other t ≡ one t) → IfOk r (λ e. (t : Bool) → one t ≡ ended_of base w e) → IfOk r (λ e. (t : Bool) → other t ≡ ended_of base w e)
 ends_same base w r one other same h = ok_mapped r (λ e. (t : Bool) → one t ≡ ended_of base w e) (λ e. (t : Bool) → other t ≡ ended_of base w e) (λ e is t. same t ∙ is t) h
 
-pub lacking_same : (one other : Bool → reader.Ended Stock Tagged PairChain Stop) (s : Stop) → ((t : Bool) → other t ≡ one t) → IsLacking one s → IsLacking other s
-lacking_same one other s same h = (h.0, λ t. same t ∙ h.1 t)
+pub lacking_same : {k : Stock} → (one other : Bool → reader.Ended Stock Tagged PairChain Stop) (s : Stop) → ((t : Bool) → other t ≡ one t) → IsLacking one s k → IsLacking other s k
+lacking_same one other s same h t = same t ∙ h t
 
-pub lacks_same : {A : Type 0} (r : Result A Stop) (one other : Bool → reader.Ended Stock Tagged PairChain Stop) → ((t : Bool) → other t ≡ one t) → IfErr r (λ s. IsLacking one s) → IfErr r (λ s. IsLacking other s)
-lacks_same r one other same h = err_mapped r (λ s. IsLacking one s) (λ s. IsLacking other s) (λ s is. lacking_same one other s same is) h
+pub lacks_same : {A : Type 0} (r : Result A Stop) (k : Stock) (one other : Bool → reader.Ended Stock Tagged PairChain Stop) → ((t : Bool) → other t ≡ one t) → IfErr r (λ s. IsLacking one s k) → IfErr r (λ s. IsLacking other s k)
+lacks_same r k one other same h = err_mapped r (λ s. IsLacking one s k) (λ s. IsLacking other s k) (λ s is. lacking_same one other s same is) h
 
 -- ---- what is around stays as objects are made
 
@@ -136,8 +136,8 @@ steps_same base w bytes r one other same h = ok_mapped r (λ x. (t : Bool) → o
 pub steps_with : (base : ℕ) (w : World) (bytes : List ℕ) (r : Result (Rattle.rl_read.specs.declared.step.Step.TheVariants.the_data) Stop) (one : Bool → reader.ReaderStep Stock Tagged PairChain Stop) → bytes ≡ [] → IfOk r (λ x. (t : Bool) → one t ≡ step_of base w [] x) → IfOk r (λ x. (t : Bool) → one t ≡ step_of base w bytes x)
 steps_with base w bytes r one e h = subst (λ (bytes : List ℕ). IfOk r (λ x. (t : Bool) → one t ≡ step_of base w bytes x)) (sym e) h
 
-pub halts_same : {A : Type 0} (r : Result A Stop) (one other : Bool → reader.ReaderStep Stock Tagged PairChain Stop) → ((t : Bool) → other t ≡ one t) → IfErr r (λ s. IsHalting one s) → IfErr r (λ s. IsHalting other s)
-halts_same r one other same h = err_mapped r (λ s. IsHalting one s) (λ s. IsHalting other s) (λ s is. (is.0, λ t. same t ∙ is.1 t)) h
+pub halts_same : {A : Type 0} (r : Result A Stop) (k : Stock) (one other : Bool → reader.ReaderStep Stock Tagged PairChain Stop) → ((t : Bool) → other t ≡ one t) → IfErr r (λ s. IsHalting one s k) → IfErr r (λ s. IsHalting other s k)
+halts_same r k one other same h = err_mapped r (λ s. IsHalting one s k) (λ s. IsHalting other s k) (λ s is t. same t ∙ is t) h
 
 -- one special is an identifier, where a spelling may stand
 pub special_taken : (t : Bool) (b : ℕ) (fs : List (ReaderFrame PairChain)) (k : Stock) → reader.admits fs ≡ true → reader.at_class (in_stock t) byte.Special b fs k ≡ reader.goes_after (reader.atom_ended (in_stock t) (word.Identifier (b ∷ [])) fs k)

@@ -8,12 +8,12 @@ use Rattle.rl_world.specs.declared.stop.Stop.{Stop}
 use Rattle.rl_read.specs.Data.{KeepsData, IsDatum, datum_of}
 use Rattle.rl_read.specs.Laws.{IsNamedStock}
 use Rattle.rl_read.specs.Stock.{Stock, in_stock}
-use Rattle.rl_read.proofs.DataKept.{data_kept, stays_refl}
-use Rattle.rl_read.proofs.Standing.{Heap, stands_datum}
-use Rattle.rl_read.proofs.StandingFrames.{Holds, IsResult}
-use Rattle.rl_read.proofs.StandingMade.{AreLaws, heap_of}
-use Rattle.rl_read.proofs.StandingRead.{SimRead, read_sim}
-use Rattle.rl_read.proofs.Told.{ReadsAsData, reads_found}
+use Rattle.rl_read.proofs.DataStay.{data_kept, stays_refl}
+use Rattle.rl_read.proofs.ValueStands.{Heap, stands_datum}
+use Rattle.rl_read.proofs.FramesStand.{Holds, IsResult}
+use Rattle.rl_read.proofs.MadeStands.{AreLaws, heap_of}
+use Rattle.rl_read.proofs.ReadStands.{SimRead, read_sim}
+use Rattle.rl_read.proofs.ReadIsSpelled.{ReadsAsData, reads_found}
 
 -- nothing has begun
 at_first : (k : Stock) → IsNamedStock k → Holds (heap_of k) (heap_of k) [] []

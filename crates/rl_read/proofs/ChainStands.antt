@@ -8,7 +8,7 @@ use Rattle.rl_syms.specs.Table.{nil_value}
 use Rattle.rl_text.specs.Datum.{Datum, elements, listed, nil}
 use Rattle.rl_text.specs.Reading.{Items, listed_items}
 use Rattle.rl_read.specs.Stock.{PairChain, elements_from, first_of_chain}
-use Rattle.rl_read.proofs.Standing.{Heap, IsHeap, IsPairIn, Stands, AreStanding, Keeps, keeps_fewer, pair_in_kept, pair_inside, stands_kept, stands_wider}
+use Rattle.rl_read.proofs.ValueStands.{Heap, IsHeap, IsPairIn, Stands, AreStanding, Keeps, keeps_fewer, pair_in_kept, pair_inside, stands_kept, stands_wider}
 
 -- ---- pairs that lead to the one at q
 

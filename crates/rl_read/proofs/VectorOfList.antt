@@ -118,10 +118,10 @@ pub vector_few : (c : stock.PairChain) (k : Stock) (list : Tagged) (n : ℕ) →
 vector_few c k list n is count few = counted_made c k list true is (below (length (elements_from (2 ^ 31 + 1) k.cells.cells list)) (2 ^ 31) (omega arith))
 
 -- of more there is none
-pub vector_many : (c : stock.PairChain) (k : Stock) (list : Tagged) (n : ℕ) → list ≡ first_of_chain c → n ≡ length (elements_from (2 ^ 31 + 1) k.cells.cells list) → 2 ^ 31 < n → Lacks (vector_made c k) stop.Cells
-vector_many c k list n is count many = (k, counted_made c k list false is (above (length (elements_from (2 ^ 31 + 1) k.cells.cells list)) (2 ^ 31) (omega arith)))
+pub vector_many : (c : stock.PairChain) (k : Stock) (list : Tagged) (n : ℕ) → list ≡ first_of_chain c → n ≡ length (elements_from (2 ^ 31 + 1) k.cells.cells list) → 2 ^ 31 < n → Lacks (vector_made c k) stop.Cells k
+vector_many c k list n is count many = counted_made c k list false is (above (length (elements_from (2 ^ 31 + 1) k.cells.cells list)) (2 ^ 31) (omega arith))
 
 -- something is wanting for it
-pub vector_lacks : (c : stock.PairChain) (k : Stock) (list : Tagged) (n : ℕ) (s : Stop) → list ≡ first_of_chain c → n ≡ length (elements_from (2 ^ 31 + 1) k.cells.cells list) → n ≤ 2 ^ 31
-    → Lacks (object_made (λ n. VectorAt n) (VectorCell (elements_from (2 ^ 31 + 1) k.cells.cells list)) k) s → Lacks (vector_made c k) s
-vector_lacks c k list n s is count few h = (h.0, vector_few c k list n is count few ∙ h.1)
+pub vector_lacks : (c : stock.PairChain) (k made : Stock) (list : Tagged) (n : ℕ) (s : Stop) → list ≡ first_of_chain c → n ≡ length (elements_from (2 ^ 31 + 1) k.cells.cells list) → n ≤ 2 ^ 31
+    → Lacks (object_made (λ n. VectorAt n) (VectorCell (elements_from (2 ^ 31 + 1) k.cells.cells list)) k) s made → Lacks (vector_made c k) s made
+vector_lacks c k made list n s is count few h = vector_few c k list n is count few ∙ h

@@ -55,12 +55,12 @@ then_left : {A B : Type 0} (n : ℕ) (x : Made Stock A Stop) (f : A → Stock �
 then_left n (Has a k) f h g = g a k h
 then_left n (Wants s k) f h g = tt
 
-with_room_left_at : (n : ℕ) (s : Option Stop) (k : Stock) → Left n k → LeftMade n (with_room_at s k)
-with_room_left_at n (Some s) k h = tt
-with_room_left_at n None k h = h
+with_room_left_at : (n : ℕ) (s : Option Stop) (cost : ℕ) (k : Stock) → Left n (record k { counts = roomed k.counts cost }) → LeftMade n (with_room_at s cost k)
+with_room_left_at n (Some s) cost k h = tt
+with_room_left_at n None cost k h = h
 
 with_room_left : (n cost : ℕ) (k : Stock) → Left n k → LeftMade n (with_room cost k)
-with_room_left n cost k h = with_room_left_at n (room_stop k.counts k.cells cost) (record k { counts = roomed k.counts cost }) (room_left k.counts.opening k.counts.outermost cost k.counts.turns k.counts.bound ∙ h)
+with_room_left n cost k h = with_room_left_at n (room_stop k.counts k.cells cost) cost k (room_left k.counts.opening k.counts.outermost cost k.counts.turns k.counts.bound ∙ h)
 
 object_left : (n : ℕ) (at : ℕ → Tagged) (c : Cell) (k : Stock) → Left n k → LeftMade n (object_made at c k)
 object_left n at c k h = then_left n (with_room (cost_of c) k) _ (with_room_left n (cost_of c) k h) (λ a k h. h)

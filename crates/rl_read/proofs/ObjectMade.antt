@@ -11,7 +11,7 @@ use Rattle.rl_read.specs.Stock.{Stock, identifier_at, object_made, with_room}
 use Rattle.rl_read.specs.Steps.{Lacks}
 
 -- the counts do not allow it
-pub room_stopped : (cost : ℕ) (k : Stock) (s : Stop) → room_stop k.counts k.cells cost ≡ Some s → with_room cost k ≡ Wants s (record k { counts = roomed k.counts cost })
+pub room_stopped : (cost : ℕ) (k : Stock) (s : Stop) → room_stop k.counts k.cells cost ≡ Some s → with_room cost k ≡ Wants s k
 room_stopped cost k s e = rw e
 
 -- there is room
@@ -19,8 +19,8 @@ pub room_had : (cost : ℕ) (k : Stock) → room_stop k.counts k.cells cost ≡ 
 room_had cost k e = rw e
 
 -- no object is made where the counts do not allow it
-pub object_stopped : (at : ℕ → Tagged) (c : Cell) (k : Stock) (s : Stop) → room_stop k.counts k.cells (cost_of c) ≡ Some s → Lacks (object_made at c k) s
-object_stopped at c k s e = (record k { counts = roomed k.counts (cost_of c) }, rw (room_stopped (cost_of c) k s e))
+pub object_stopped : (at : ℕ → Tagged) (c : Cell) (k : Stock) (s : Stop) → room_stop k.counts k.cells (cost_of c) ≡ Some s → Lacks (object_made at c k) s k
+object_stopped at c k s e = rw (room_stopped (cost_of c) k s e)
 
 -- where there is room it stands behind the cells
 pub object_had : (at : ℕ → Tagged) (c : Cell) (k : Stock) → room_stop k.counts k.cells (cost_of c) ≡ None → object_made at c k ≡ Has (at (length k.cells.cells)) (record k { cells = grown k.cells c; counts = roomed k.counts (cost_of c) })
@@ -31,8 +31,8 @@ pub id_cost_is : (name : List ℕ) → 4 + (length name + 15) / 16 ≡ id_cost n
 id_cost_is name = omega arith
 
 -- no identifier is made where the counts do not allow it
-pub identifier_stopped : (name : List ℕ) (k : Stock) (s : Stop) → room_stop k.counts k.cells (id_cost name) ≡ Some s → Lacks (identifier_at None name k) s
-identifier_stopped name k s e = (record k { counts = roomed k.counts (id_cost name) }, rw (room_stopped (id_cost name) k s e))
+pub identifier_stopped : (name : List ℕ) (k : Stock) (s : Stop) → room_stop k.counts k.cells (id_cost name) ≡ Some s → Lacks (identifier_at None name k) s k
+identifier_stopped name k s e = rw (room_stopped (id_cost name) k s e)
 
 -- where there is room it begins the chain of names
 pub identifier_had : (name : List ℕ) (k : Stock) → room_stop k.counts k.cells (id_cost name) ≡ None → identifier_at None name k ≡ Has (new_id k.cells name) (record k { cells = with_id k.cells name nil_value k.head; head = Some (new_id k.cells name); counts = roomed k.counts (id_cost name) })

@@ -13,7 +13,7 @@ use Rattle.rl_read.specs.declared.frames.Phase.TheVariants as phase
 use Rattle.rl_read.specs.declared.frames.Group.{Group}
 use Rattle.rl_read.specs.declared.frames.Group.TheVariants as group
 use Rattle.rl_read.specs.declared.frames.Opening.{Opening}
-use Rattle.rl_read.proofs.Kept.{root_frames}
+use Rattle.rl_read.proofs.WalkKept.{root_frames}
 use Rattle.rl_world.specs.Walks.{kept_above}
 
 -- a spelling may stand there
@@ -37,8 +37,8 @@ pub opens_opened : (t : Bool) (o : Opening) (fs : List (ReaderFrame stock.PairCh
 opens_opened t o fs k h = rw h refl
 
 -- and what is wanting for it stops it
-pub opens_halts : (o : Opening) (fs : List (ReaderFrame stock.PairChain)) (k : Stock) (s : Stop) → admits fs ≡ true → IsHalting (λ t. opening_frame (in_stock t) o fs k) s → IsHalting (λ t. opens_at (in_stock t) o fs k) s
-opens_halts o fs k s h halts = (halts.0, λ t. opens_opened t o fs k h ∙ halts.1 t)
+pub opens_halts : {made : Stock} → (o : Opening) (fs : List (ReaderFrame stock.PairChain)) (k : Stock) (s : Stop) → admits fs ≡ true → IsHalting (λ t. opening_frame (in_stock t) o fs k) s made → IsHalting (λ t. opens_at (in_stock t) o fs k) s made
+opens_halts o fs k s h halts t = opens_opened t o fs k h ∙ halts t
 
 -- a dot has its place in a list alone
 pub dot_refuses : (t : Bool) (g : Group) (fs : List (ReaderFrame stock.PairChain)) (k : Stock) → (g ≡ group.Root → frames_of g fs ≡ []) → ((c : Chain) (owed : ℕ) (p : Phase) → g ≡ group.List c owed p → ⊥) → dot (in_stock t) (frames_of g fs) k ≡ Refuses k

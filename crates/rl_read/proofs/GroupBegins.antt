@@ -14,7 +14,7 @@ use Rattle.rl_read.specs.declared.frames.Group.{Group}
 use Rattle.rl_read.specs.declared.frames.Group.TheVariants as group
 use Rattle.rl_read.specs.declared.frames.Opening.{Opening}
 use Rattle.rl_read.specs.declared.frames.Opening.TheVariants as opening
-use Rattle.rl_read.proofs.Kept.{inner_frames, root_frames}
+use Rattle.rl_read.proofs.WalkKept.{inner_frames, root_frames}
 use Rattle.rl_world.specs.Walks.{kept_above}
 
 -- a list in what takes a level is no list behind a dot
@@ -64,9 +64,9 @@ opened_pushed base old new t o g h may e above is inner frames turns =
     ∙ ap (λ fs. Goes Gap fs (stock_of new)) (sym (frames (frames_kept (kept_above base new.levels)) ∙ ap (λ fs. frame_of o ∷ fs) kept)))
 
 -- nothing begins where no level may be entered
-pub opened_stops : (base : ℕ) (w : World) (o : Opening) (g : Group) (s : Stop) → enter_stop w.levels 1 ≡ Some s → is_inner_group g ≡ true → IsHalting (λ t. opening_frame (in_stock t) o (frames_in base w g) (stock_of w)) s
+pub opened_stops : (base : ℕ) (w : World) (o : Opening) (g : Group) (s : Stop) → enter_stop w.levels 1 ≡ Some s → is_inner_group g ≡ true → IsHalting (λ t. opening_frame (in_stock t) o (frames_in base w g) (stock_of w)) s (stock_of w)
 opened_stops base w o g s wants inner =
-    (stock_of w, λ t. opened_halts t o (frames_in base w g) (stock_of w) (inner_frames g (frames_kept (kept_above base w.levels)) inner) (no_level w.levels s wants) ∙ ap (λ s. Halts s (stock_of w)) (sym (stops_depth w.levels s wants)))
+    λ t. opened_halts t o (frames_in base w g) (stock_of w) (inner_frames g (frames_kept (kept_above base w.levels)) inner) (no_level w.levels s wants) ∙ ap (λ s. Halts s (stock_of w)) (sym (stops_depth w.levels s wants))
 
 -- with nothing around it no level is entered
 pub opened_alone : (t : Bool) (o : Opening) (k : Stock) → opening_frame (in_stock t) o [] k ≡ Goes Gap (frame_of o ∷ []) k

@@ -5,11 +5,11 @@ use Rattle.rl_text.specs.Datum.{Datum, Vector, quoted, elements, listed, nil}
 use Rattle.rl_text.specs.Reader.{Phase, Begun, Going, Dotted, Shut, ReaderFrame, Listing, Vectoring, Quoting, is_inner, admits, left}
 use Rattle.rl_text.specs.Reading.{Items, listed_items}
 use Rattle.rl_read.specs.Stock.{Stock, PairChain, first_of_chain, in_stock, level_left}
-use Rattle.rl_read.proofs.DataKept.{Stays}
-use Rattle.rl_read.proofs.Standing.{Heap, IsHeap, Stands, Keeps, keeps_fewer, stands_kept, stands_wider, stays_on, size, sizes}
-use Rattle.rl_read.proofs.StandingChains.{IsOpen, HasPairs, open_kept, open_list}
-use Rattle.rl_read.proofs.StandingMade.{IsValue, heap_of}
-use Rattle.rl_read.proofs.StandingLists.{IsLonger}
+use Rattle.rl_read.proofs.DataStay.{Stays}
+use Rattle.rl_read.proofs.ValueStands.{Heap, IsHeap, Stands, Keeps, keeps_fewer, stands_kept, stands_wider, stays_on, size, sizes}
+use Rattle.rl_read.proofs.ChainStands.{IsOpen, HasPairs, open_kept, open_list}
+use Rattle.rl_read.proofs.MadeStands.{IsValue, heap_of}
+use Rattle.rl_read.proofs.ListStands.{IsLonger}
 
 -- ---- frames
 

@@ -24,8 +24,8 @@ use Rattle.rl_read.specs.declared.frames.Group.TheVariants as group
 use Rattle.rl_read.specs.declared.read.ReadFault.{ReadFault}
 use Rattle.rl_read.specs.declared.read.ReadFault.TheVariants as fault
 use Rattle.std.specs.List.{AllByRecursion}
-use Rattle.rl_read.proofs.Counted.{tick_counted}
-use Rattle.rl_read.proofs.FormedTaken.{takes_first, takes_then}
+use Rattle.rl_read.proofs.StopsAreCounted.{tick_counted}
+use Rattle.rl_read.proofs.TakenByCalls.{takes_first, takes_then}
 
 -- ---- a byte was given
 
@@ -137,17 +137,16 @@ module _ (turns : Bool) (start : World) (m : Mode) (fs : List (ReaderFrame PairC
         given = refl;
       }
 
-  halted_at : (b : ℕ) (now : List ℕ) (taken made : Stock) (s : Stop) → mid ≡ b ∷ now → turned turns k ≡ Has tt taken → reader_step (in_stock turns) m b fs taken ≡ Halts s made → IsStoppedText turns start before now s
-  halted_at b now taken made s e turn is = record { made = made; stopped = byte_read b now taken (Halts s made) e turn is }
+  halted_at : (b : ℕ) (now : List ℕ) (taken : Stock) (last : World) (s : Stop) → mid ≡ b ∷ now → turned turns k ≡ Has tt taken → reader_step (in_stock turns) m b fs taken ≡ Halts s (stock_of last) → IsStoppedText turns start last before now s
+  halted_at b now taken last s e turn is = byte_read b now taken (Halts s (stock_of last)) e turn is
 
   -- no turn was left
-  turn_wanted : (b : ℕ) (now : List ℕ) (s : Stop) → mid ≡ b ∷ now → turned turns k ≡ Wants s k → IsStoppedText turns start before now s
-  turn_wanted b now s e wants = record {
-    made = k;
-    stopped = going.same
-        ∙ ap (λ bytes. read_from (in_stock turns) m fs k bytes) e
-        ∙ ap (λ t. after_turn now t (λ k. after_step b now (reader_step (in_stock turns) m b fs k) (λ m fs k. read_from (in_stock turns) m fs k now))) wants;
-  }
+  turn_wanted : (b : ℕ) (now : List ℕ) (last : World) (s : Stop) → mid ≡ b ∷ now → turned turns k ≡ Wants s k → stock_of last ≡ k → IsStoppedText turns start last before now s
+  turn_wanted b now last s e wants same =
+      going.same
+      ∙ ap (λ bytes. read_from (in_stock turns) m fs k bytes) e
+      ∙ ap (λ t. after_turn now t (λ k. after_step b now (reader_step (in_stock turns) m b fs k) (λ m fs k. read_from (in_stock turns) m fs k now))) wants
+      ∙ ap (λ k. Stopped s k now) (sym same)
 
   -- ---- the end
 
@@ -167,11 +166,8 @@ module _ (turns : Bool) (start : World) (m : Mode) (fs : List (ReaderFrame PairC
     given = e.1;
   }
 
-  end_stopped : (now : List ℕ) (answer : Bool → ReadAnswer) (s : Stop) → Gives mid now None → at_end (in_stock turns) m fs k ≡ answer turns → IsStopped answer s [] → IsStoppedText turns start before now s
-  end_stopped now answer s e is r = record {
-    made = r.made;
-    stopped = end_read now (Stopped s r.made []) e (is ∙ r.stopped turns) ∙ ap (λ bytes. Stopped s r.made bytes) (sym e.1);
-  }
+  end_stopped : (now : List ℕ) (last : World) (answer : Bool → ReadAnswer) (s : Stop) → Gives mid now None → at_end (in_stock turns) m fs k ≡ answer turns → IsStopped answer s [] (stock_of last) → IsStoppedText turns start last before now s
+  end_stopped now last answer s e is r = end_read now (Stopped s (stock_of last) []) e (is ∙ r turns) ∙ ap (λ bytes. Stopped s (stock_of last) bytes) (sym e.1)
 
 -- ---- where the bytes are told
 
@@ -212,8 +208,8 @@ module _ (turns turns_now : Bool) (same : turns_now ≡ turns) (start old new : 
     pub told_refused : (made : Stock) (last : World) → reader_step (in_stock turns) m b (frames_in base new group) (stock_of new) ≡ Refuses made → record made { left = (stock_of last).left } ≡ stock_of last → TakesBytes a (left i) (λ before now. IsRefusedText turns start last before now count)
     told_refused made last steps stays = told_byte (λ before now. IsRefusedText turns start last before now count) (λ before mid now goes e. refused_at turns start m (frames_in base old group) (stock_of old) count before mid goes b now (stock_of new) made last e taken (step_same turns base old new m b group passed ∙ steps) stays)
 
-    pub told_halted : (made : Stock) (s : Stop) → reader_step (in_stock turns) m b (frames_in base new group) (stock_of new) ≡ Halts s made → TakesBytes a (left i) (λ before now. IsStoppedText turns start before now s)
-    told_halted made s steps = told_byte (λ before now. IsStoppedText turns start before now s) (λ before mid now goes e. halted_at turns start m (frames_in base old group) (stock_of old) count before mid goes b now (stock_of new) made s e taken (step_same turns base old new m b group passed ∙ steps))
+    pub told_halted : (last : World) (s : Stop) → reader_step (in_stock turns) m b (frames_in base new group) (stock_of new) ≡ Halts s (stock_of last) → TakesBytes a (left i) (λ before now. IsStoppedText turns start last before now s)
+    told_halted last s steps = told_byte (λ before now. IsStoppedText turns start last before now s) (λ before mid now goes e. halted_at turns start m (frames_in base old group) (stock_of old) count before mid goes b now (stock_of new) last s e taken (step_same turns base old new m b group passed ∙ steps))
 
   module _ (is : o ≡ None) (i : Input) (input : i ≡ new.input) where
     ends : at_end (in_stock turns) m (frames_in base old group) (stock_of old) ≡ at_end (in_stock turns) m (frames_in base new group) (stock_of new)
@@ -233,20 +229,20 @@ module _ (turns turns_now : Bool) (same : turns_now ≡ turns) (start old new : 
     pub told_end_refused : (last : World) (k : ℕ) → (k ≡ count) × IsRefusal last (λ t. at_end (in_stock t) m (frames_in base new group) (stock_of new)) [] → TakesBytes a (left i) (λ before now. IsRefusedText turns start last before now k)
     told_end_refused last k r = told_end (λ before now. IsRefusedText turns start last before now k) (λ before mid now goes g. end_refused turns start m (frames_in base old group) (stock_of old) count before mid goes now last (λ t. at_end (in_stock t) m (frames_in base new group) (stock_of new)) k g ends r.1 r.0)
 
-    pub told_end_stopped : (s : Stop) → IsStopped (λ t. at_end (in_stock t) m (frames_in base new group) (stock_of new)) s [] → TakesBytes a (left i) (λ before now. IsStoppedText turns start before now s)
-    told_end_stopped s r = told_end (λ before now. IsStoppedText turns start before now s) (λ before mid now goes g. end_stopped turns start m (frames_in base old group) (stock_of old) count before mid goes now (λ t. at_end (in_stock t) m (frames_in base new group) (stock_of new)) s g ends r)
+    pub told_end_stopped : (last : World) (s : Stop) → IsStopped (λ t. at_end (in_stock t) m (frames_in base new group) (stock_of new)) s [] (stock_of last) → TakesBytes a (left i) (λ before now. IsStoppedText turns start last before now s)
+    told_end_stopped last s r = told_end (λ before now. IsStoppedText turns start last before now s) (λ before mid now goes g. end_stopped turns start m (frames_in base old group) (stock_of old) count before mid goes now last (λ t. at_end (in_stock t) m (frames_in base new group) (stock_of new)) s g ends r)
 
 -- no turn was left for a byte
 wants_turn : (turns : Bool) (mid now : Unread) (old new : World) (s : Stop) → WantsTurn turns mid now old new s → (turned turns (stock_of old) ≡ Wants s (stock_of old)) × TakesBytes mid now (λ before now. (b : ℕ) × (before ≡ b ∷ now))
 wants_turn true mid now old new s w = (ap (λ x. turned_at x (stock_of old)) w.stop_is, w.given)
 wants_turn false mid now old new s w = absurd w
 
-pub told_wants : (turns turns_now : Bool) → turns_now ≡ turns → (start old new : World) (m : Mode) (fs : List (ReaderFrame PairChain)) (count : ℕ) (a mid now : Unread) (s : Stop) → TakesBytes a mid (λ before now. IsGoing turns start m fs (stock_of old) count before now) → WantsTurn turns_now mid now old new s ⊎ (is_fault s ≡ true) → is_fault s ≡ false
-    → TakesBytes a now (λ before now. IsStoppedText turns start before now s)
-told_wants turns turns_now same start old new m fs count a mid now s going why not = elim why [
+pub told_wants : (turns turns_now : Bool) → turns_now ≡ turns → (start old new : World) (m : Mode) (fs : List (ReaderFrame PairChain)) (count : ℕ) (a mid now : Unread) (s : Stop) → TakesBytes a mid (λ before now. IsGoing turns start m fs (stock_of old) count before now) → WantsTurn turns_now mid now old new s ⊎ (is_fault s ≡ true) → stock_of new ≡ stock_of old → is_fault s ≡ false
+    → TakesBytes a now (λ before now. IsStoppedText turns start new before now s)
+told_wants turns turns_now same start old new m fs count a mid now s going why stays not = elim why [
   | inl w ↦
       let x = wants_turn turns mid now old new s (subst (λ (t : Bool). WantsTurn t mid now old new s) same w) in
-      takes_then a mid now (λ before now. IsGoing turns start m fs (stock_of old) count before now) (λ before now. (b : ℕ) × (before ≡ b ∷ now)) (λ before now. IsStoppedText turns start before now s) (λ before mid now goes e. turn_wanted turns start m fs (stock_of old) count before mid goes e.0 now s e.1 x.0) going x.1
+      takes_then a mid now (λ before now. IsGoing turns start m fs (stock_of old) count before now) (λ before now. (b : ℕ) × (before ≡ b ∷ now)) (λ before now. IsStoppedText turns start new before now s) (λ before mid now goes e. turn_wanted turns start m fs (stock_of old) count before mid goes e.0 now new s e.1 x.0 stays) going x.1
   | inr f ↦ absurd (let clash : true ≡ false = sym f ∙ not in cc)
 ]
 

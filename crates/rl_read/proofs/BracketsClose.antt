@@ -17,9 +17,9 @@ use Rattle.rl_read.specs.declared.frames.Phase.{Phase}
 use Rattle.rl_read.specs.declared.frames.Phase.TheVariants as phase
 use Rattle.rl_read.specs.declared.frames.Group.{Group}
 use Rattle.rl_read.specs.declared.frames.Group.TheVariants as group
-use Rattle.rl_read.proofs.Making.{chain_stays, ready_made}
+use Rattle.rl_read.proofs.MakingStays.{chain_stays, ready_made}
 use Rattle.std.proofs.lemmas.Option.{same_Some}
-use Rattle.rl_read.proofs.Went.{around_same, kept_same}
+use Rattle.rl_read.proofs.ElementEnds.{around_same, kept_same}
 use Rattle.rl_world.specs.Walks.{kept_above}
 
 -- a list, a vector or a quote has ended, and its level is left

@@ -2,7 +2,7 @@
 use Rattle.std.proofs.Common.{◌≡◌, ℕ, ◌+◌, List, [], ◌++◌, length, refl, sym, ap, ◌∙◌, subst, append_assoc, length-append, arith}
 use Rattle.rl_world.specs.Input.{with_back}
 use Rattle.rl_read.specs.Taken.{Unread, came_of, MayCome, TakesBytes}
-use Rattle.rl_read.proofs.FormedTold.{told_first, told_through}
+use Rattle.rl_read.proofs.ToldByCalls.{told_first, told_through}
 
 -- nothing was taken
 pub takes_first : (a : Unread) (P : List ℕ → List ℕ → Type 0) → ((bytes : List ℕ) → P bytes bytes) → TakesBytes a a P
