@@ -8,7 +8,7 @@ use Rattle.rl_tags.specs.declared.Tag.{Tag}
 use Rattle.rl_tags.specs.declared.Tag.TheVariants as tag
 use Rattle.rl_cells.specs.Cell.{Cell, PairCell, VectorCell, BlockCell, cell_at, is_id_cell, is_fun_cell, is_pair_cell, is_vector_cell, is_pair, is_vector, bytes_in, bytes_of, big_in, vector_in, vector_of, car_in, cdr_in, car_of, cdr_of, block_with, changed_at}
 use Rattle.rl_tree.specs.Value.{Value, Int, Id, Str, Ref, Fun, Object, Pair, Vector}
-use Rattle.rl_syms.specs.Contents.{object_count, number_at, ids_before, funs_before, value_of, object_in, objects_meant, store_of}
+use Rattle.rl_syms.specs.Contents.{object_count, number_at, value_of, object_in, store_of}
 use Rattle.rl_syms.specs.Laws.{MeansSame, ChangesObject}
 use Rattle.rl_syms.proofs.Meant.{one_object, number_within}
 use Rattle.rl_syms.proofs.Numbers.{ids_numbered, funs_numbered}

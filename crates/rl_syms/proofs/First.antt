@@ -1,5 +1,5 @@
 -- Opening makes the names that have a constant one after the other, and there is room for all names that it makes.
-use Rattle.std.proofs.Common.{◌≡◌, ℕ, ◌+◌, ◌-◌, ◌*◌, ◌<◌, ◌≤◌, ◌⊎◌, true, nat_le, min, List, [], ◌∷◌, ◌++◌, length, set, take, Option, Some, None, refl, sym, ap, ◌∙◌, arith, inl, inr}
+use Rattle.std.proofs.Common.{◌≡◌, ℕ, ◌+◌, ◌-◌, ◌<◌, ◌≤◌, ◌⊎◌, true, nat_le, List, [], ◌∷◌, ◌++◌, length, set, take, Option, Some, None, refl, sym, ap, ◌∙◌, arith, inl, inr}
 use borrow.Author.Count.{below_more}
 use Rattle.std.proofs.lemmas.List.{length-append, length-replicate, take_more}
 use Rattle.std.proofs.lemmas.Bool.{cases_eq}

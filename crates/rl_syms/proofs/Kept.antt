@@ -1,5 +1,5 @@
 -- Setting a word of an identifier that is neither its name nor its link leaves what all means.
-use Rattle.std.proofs.Common.{◌≡◌, ◌≢◌, ℕ, zero, suc, ◌<◌, true, List, ◌∷◌, length, Option, Some, None, refl, sym, ap, ◌∙◌, arith}
+use Rattle.std.proofs.Common.{◌≡◌, ℕ, zero, suc, ◌<◌, true, List, ◌∷◌, Option, Some, None, refl, sym, ap, ◌∙◌, arith}
 use Rattle.rl_tags.specs.Tagged.{Tagged, Number, IdAt, StrAt, PairAt, VectorAt, BigAt, FunAt, index_of, tagged_of}
 use Rattle.rl_cells.specs.Cell.{Cell, cell_at, changed_at, block_with, bytes_of}
 use Rattle.rl_cells.specs.Laws.{IsChanged}

@@ -1,5 +1,5 @@
 -- The objects that cells mean, and what a new one does to that meaning.
-use Rattle.std.proofs.Common.{◌≡◌, ℕ, zero, suc, ◌+◌, ◌-◌, ◌<◌, ◌==◌, Bool, true, ◌≤◌, ◌/◌, ◌%◌, ◌^◌, List, [], ◌∷◌, ◌++◌, length, map, take, replicate, get_or, slice_get, Some, refl, sym, ap, ◌∙◌, arith, length-append, append-nil}
+use Rattle.std.proofs.Common.{◌≡◌, ℕ, zero, suc, ◌+◌, ◌-◌, ◌<◌, ◌==◌, Bool, true, ◌/◌, ◌%◌, ◌^◌, List, [], ◌∷◌, ◌++◌, length, map, take, replicate, get_or, slice_get, Some, refl, sym, ap, ◌∙◌, arith, length-append, append-nil}
 use Rattle.std.specs.List.{flat_map, list_all}
 use Rattle.std.proofs.lemmas.List.{get_or_append_left, take-append-le}
 use Rattle.std.proofs.lemmas.List.Concat.{get_or-flat_map}
@@ -11,7 +11,7 @@ use Rattle.std.proofs.Math.Seq.{take-append_seam, get_or-append_seam}
 use Rattle.rl_tags.specs.Tagged.{Tagged, Number, IdAt, StrAt, PairAt, VectorAt, BigAt, FunAt}
 use Rattle.rl_cells.specs.Cell.{Cell, PairCell, StrCell, VectorCell, BigCell, BlockCell, More, IsClosed, cost_of, cell_at, is_live, is_id_cell, is_fun_cell, is_str_cell, is_pair_cell, is_vector_cell, is_big_cell, is_closed_cell, is_pair, is_vector, bytes_in, big_in, car_in, cdr_in, vector_in, car_of, cdr_of, vector_of, placed}
 use Rattle.rl_tree.specs.Value.{Value, Int, Id, Str, Ref, Fun, Object, Pair, Vector, cons_store}
-use Rattle.rl_syms.specs.Contents.{object_count, objects_among, number_at, ids_before, funs_before, value_of, object_in, objects_meant, store_of}
+use Rattle.rl_syms.specs.Contents.{object_count, objects_among, number_at, funs_before, value_of, object_in, objects_meant, store_of}
 use Rattle.rl_syms.specs.Laws.{RefersTo}
 use Rattle.rl_syms.specs.Readings.{ReadAlike}
 use Rattle.rl_syms.proofs.New.{tested_inside}

@@ -1,15 +1,14 @@
 -- An identifier has the name of its number.
-use Rattle.std.proofs.Common.{◌≡◌, ℕ, zero, suc, ◌+◌, ◌<◌, true, List, [], ◌∷◌, ◌++◌, length, get_or, take, refl, sym, ap, ◌∙◌, arith}
+use Rattle.std.proofs.Common.{◌≡◌, ◌+◌, true, List, [], ◌∷◌, length, get_or, take, refl, sym, ap, ◌∙◌, arith}
 use Rattle.std.specs.List.{flat_map, count_by}
 use Rattle.std.proofs.lemmas.List.Concat.{get_or-flat_map}
 use Rattle.std.proofs.lemmas.List.{length-append}
 use Rattle.std.proofs.lemmas.List.Sums.{sum_by-cons}
 use Rattle.std.specs.Prelude.{cond}
-use Rattle.rl_tags.specs.declared.Tag.{Tag}
 use Rattle.rl_tags.specs.declared.Tag.TheVariants as tag
 use Rattle.rl_cells.specs.Cell.{Cell, PairCell, StrCell, VectorCell, BigCell, BlockCell, More, cell_at, is_id_cell, bytes_of, words_in}
 use Rattle.rl_syms.specs.Contents.{ids_before}
-use Rattle.rl_syms.specs.Table.{name_in_cells, symbol_of}
+use Rattle.rl_syms.specs.Table.{symbol_of}
 use Rattle.rl_syms.specs.Numbers.{NamesAreNumbered, cell_names, numbered_name}
 use Rattle.rl_syms.proofs.New.{tested_inside}
 

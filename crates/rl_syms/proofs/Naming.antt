@@ -1,18 +1,16 @@
 -- A new identifier has the next number, and leaves what all means.
-use Rattle.std.proofs.Common.{◌≡◌, ℕ, zero, suc, ◌+◌, ◌-◌, ◌<◌, ◌≤◌, true, false, List, [], ◌∷◌, ◌++◌, length, replicate, Option, Some, None, refl, sym, ap, ◌∙◌, append_assoc, append-nil, arith, inl, inr}
-use Rattle.std.specs.List.{flat_map}
+use Rattle.std.proofs.Common.{◌≡◌, ℕ, zero, suc, ◌+◌, ◌-◌, ◌<◌, ◌≤◌, true, false, List, [], ◌++◌, length, Option, refl, ap, ◌∙◌, append_assoc, append-nil, arith, inl, inr}
 use Rattle.std.proofs.lemmas.Bool.{cases_Bool}
 use Rattle.std.proofs.lemmas.Grind.{flat_map-append}
 use Rattle.std.proofs.lemmas.List.{length-append, length-replicate}
-use Rattle.rl_tags.specs.Tagged.{Tagged, IdAt, StrAt, index_of}
+use Rattle.rl_tags.specs.Tagged.{Tagged, StrAt}
 use Rattle.rl_tags.specs.declared.Tag.TheVariants as tag
 use Rattle.rl_cells.specs.Cell.{Cell, CellStore, StrCell, BlockCell, More, IsClosed, cell_at, cost_of, is_id_cell, is_live, placed, words_in}
 use Rattle.rl_cells.specs.Laws.{IsAdded}
-use Rattle.rl_tree.specs.Value.{Value, Id, Object}
+use Rattle.rl_tree.specs.Value.{Value, Id}
 use Rattle.rl_syms.specs.Contents.{ids_before, object_count, object_in, objects_meant, store_of, value_of}
-use Rattle.rl_syms.specs.Table.{IsTable, ids_from, nil_value, rank_of, symbol_in_cells, symbol_of}
-use Rattle.rl_syms.specs.Made.{id_cost, new_id, new_words, with_id}
-use Rattle.rl_syms.specs.Opened.{IsBlank}
+use Rattle.rl_syms.specs.Table.{IsTable, ids_from, nil_value, rank_of}
+use Rattle.rl_syms.specs.Made.{id_cost, new_words, with_id}
 use Rattle.rl_syms.specs.Readings.{NamingMeans}
 use Rattle.rl_syms.proofs.Numbers.{ids_numbered}
 use Rattle.rl_syms.proofs.New.{adds_carries, with_id_adds, with_id_alone, with_id_block, with_id_new}
