@@ -44,7 +44,9 @@ enum Step {
 type Pieces = &'static [(&'static [u8], usize)];
 
 /// How a value is made, and its text by PRIN1 and by PRIN2.
-const TEXTS: [(&[Step], &[u8], &[u8]); 24] = [
+type Texts = (&'static [Step], &'static [u8], &'static [u8]);
+
+const TEXTS: [Texts; 24] = [
     (&[Step::Name(b"NIL")], b"NIL", b"NIL"),
     (&[Step::Name(b"a1_+")], b"!a1_!+", b"a1_+"),
     (&[Step::Name(b"1A")], b"!1A", b"1A"),
@@ -133,7 +135,9 @@ const LINE: &[u8] =
 type Bounds = (Option<u64>, u32, u64, &'static [u64]);
 
 /// How a value is made, what bounds the run, how printing by PRIN1 ends, and what has come to the output.
-const ENDS: [(&[Step], Bounds, Result<(), Stop>, Pieces); 12] = [
+type End = (&'static [Step], Bounds, Result<(), Stop>, Pieces);
+
+const ENDS: [End; 12] = [
     (THREE, (None, 10, 12, &[]), Ok(()), &[(b"(100 101 102)", 1)]),
     (
         THREE,
@@ -456,27 +460,26 @@ impl Bench {
         self.world.flush(io)
     }
 
+    fn print_name(&mut self, b: u8) -> bool {
+        self.name(&[b]) && self.print(Style::Prin1).is_ok() && self.print(Style::Prin2).is_ok()
+    }
+
     fn bytes(&self) -> &[u8] {
         self.out.bytes()
     }
 }
 
-/// Makes a value within these bounds and prints it.
-fn printed(
+/// Makes a value within these bounds and prints it. Whether it ends so, with these bytes in the output.
+fn prints(
     rt: &HostRuntime,
     steps: &[Step],
     bounds: &Bounds,
     style: Style,
     end: Result<(), Stop>,
-) -> Result<Bench, Fail> {
+    text: &[u8],
+) -> Result<bool, Fail> {
     let mut bench = Bench::new(rt, bounds)?;
-    if !bench.make(steps) {
-        return Err(Fail::new("no value is made so"));
-    }
-    if bench.print(style) != end {
-        return Err(Fail::new("it ends otherwise"));
-    }
-    Ok(bench)
+    Ok(bench.make(steps) && bench.print(style) == end && bench.bytes() == text)
 }
 
 /// The bytes of texts.
@@ -490,41 +493,76 @@ fn bytes_of(rt: &HostRuntime, pieces: Pieces) -> Result<Vec<u8>, Fail> {
     Ok(bytes)
 }
 
+/// The number of the first row that says otherwise.
+fn other_text(rt: &HostRuntime, rows: &[Texts]) -> Result<Option<usize>, Fail> {
+    for i in 0..rows.len() {
+        let (steps, prin1, prin2) = &rows[i];
+        let bounds: &Bounds = &(None, 10, 80, &[]);
+        if !prints(rt, steps, bounds, Style::Prin1, Ok(()), prin1)?
+            || !prints(rt, steps, bounds, Style::Prin2, Ok(()), prin2)?
+        {
+            return Ok(Some(i));
+        }
+    }
+    Ok(None)
+}
+
 #[test]
 fn values_have_their_texts(rt: HostRuntime) -> Result<(), Fail> {
-    for (steps, prin1, prin2) in &TEXTS {
-        let bench = printed(&rt, steps, &(None, 10, 80, &[]), Style::Prin1, Ok(()))?;
-        assert_eq!(rt; bench.bytes(), *prin1);
-        let bench = printed(&rt, steps, &(None, 10, 80, &[]), Style::Prin2, Ok(()))?;
-        assert_eq!(rt; bench.bytes(), *prin2);
-    }
+    assert_eq!(rt; other_text(&rt, &TEXTS)?, None);
     Ok(())
+}
+
+/// Whether a row says how printing ends, and what comes to the output.
+fn ends_so(rt: &HostRuntime, (steps, bounds, end, pieces): &End) -> Result<bool, Fail> {
+    let text = bytes_of(rt, pieces)?;
+    prints(rt, steps, bounds, Style::Prin1, *end, text.as_slice())
+}
+
+/// The number of the first row that says otherwise.
+fn other_end(rt: &HostRuntime, rows: &[End]) -> Result<Option<usize>, Fail> {
+    for i in 0..rows.len() {
+        if !ends_so(rt, &rows[i])? {
+            return Ok(Some(i));
+        }
+    }
+    Ok(None)
 }
 
 #[test]
 fn printing_ends_as_it_says(rt: HostRuntime) -> Result<(), Fail> {
-    for (steps, bounds, end, pieces) in &ENDS {
-        let bench = printed(&rt, steps, bounds, Style::Prin1, *end)?;
-        assert_eq!(rt; bench.bytes(), bytes_of(&rt, pieces)?.as_slice());
-    }
+    assert_eq!(rt; other_end(&rt, &ENDS)?, None);
     Ok(())
+}
+
+/// Prints all names of one byte, each by PRIN1 and then by PRIN2. Whether all ends well.
+fn print_names(bench: &mut Bench) -> bool {
+    for b in 0..=255u8 {
+        if !bench.print_name(b) {
+            return false;
+        }
+    }
+    true
+}
+
+/// The texts of all names of one byte, each by PRIN1 and then by PRIN2.
+fn texts_of_names(rt: &HostRuntime) -> Result<Vec<u8>, Fail> {
+    let mut text = Vec::new(rt.alloc());
+    for b in 0..=255u8 {
+        if !b.is_ascii_uppercase() && b < 128 {
+            text.push(b'!')?;
+        }
+        text.extend_from_slice(&[b, b])?;
+    }
+    Ok(text)
 }
 
 /// Names of one byte in a line, which none of them breaks.
 #[test]
 fn names_of_one_byte(rt: HostRuntime) -> Result<(), Fail> {
     let mut bench = Bench::new(&rt, &(None, 10, 1_000, &[]))?;
-    let mut text = Vec::new(rt.alloc());
-    for b in 0..=255u8 {
-        assert!(rt; bench.name(&[b]));
-        assert_eq!(rt; bench.print(Style::Prin1), Ok(()));
-        if !b.is_ascii_uppercase() && b < 128 {
-            text.push(b'!')?;
-        }
-        text.push(b)?;
-        assert_eq!(rt; bench.print(Style::Prin2), Ok(()));
-        text.push(b)?;
-    }
+    assert!(rt; print_names(&mut bench));
+    let text = texts_of_names(&rt)?;
     assert_eq!(rt; bench.bytes(), text.as_slice());
     Ok(())
 }
@@ -533,13 +571,9 @@ fn names_of_one_byte(rt: HostRuntime) -> Result<(), Fail> {
 #[test]
 fn a_line_of_79_and_two_more(rt: HostRuntime) -> Result<(), Fail> {
     let mut bench = Bench::new(&rt, &(None, 10, 80, &[]))?;
-    assert!(rt; bench.text(&[b'x'; 79]));
-    assert_eq!(rt; bench.print(Style::Prin2), Ok(()));
-    assert!(rt; bench.text(b"yy"));
-    assert_eq!(rt; bench.print(Style::Prin2), Ok(()));
-    assert_eq!(rt;
-        bench.bytes(),
-        bytes_of(&rt, &[(b"x", 79), (b"\nyy", 1)])?.as_slice()
-    );
+    assert!(rt; bench.text(&[b'x'; 79]) && bench.print(Style::Prin2).is_ok());
+    assert!(rt; bench.text(b"yy") && bench.print(Style::Prin2).is_ok());
+    let text = bytes_of(&rt, &[(b"x", 79), (b"\nyy", 1)])?;
+    assert_eq!(rt; bench.bytes(), text.as_slice());
     Ok(())
 }
