@@ -11,7 +11,7 @@ use Rattle.rl_io.specs.Faults.{Rose}
 use Rattle.rl_tree.specs.Printing.{Page}
 use Rattle.rl_text.specs.Laws.{FindsSpelled, FindsNone}
 use Rattle.rl_world.specs.Output.{Output}
-use Rattle.rl_world.specs.Waiting.{Follows, IsCutOff}
+use Rattle.rl_world.specs.Waiting.{GoesOut, FrontGoesOut}
 use Rattle.rl_world.specs.declared.world.World.{World}
 use Rattle.rl_print.specs.Laws.{PiecesGoOn}
 use Rattle.rl_forms.specs.BuiltForms.{page_after}
@@ -33,18 +33,18 @@ use Rattle.rl_forms.proofs.Finding.{spelled_found}
 -- ---- fronts
 
 -- all that waits was written
-follows_all : (old new : Option (List ℕ)) (text : List ℕ) → Follows old [] new [] text → Appended old new text
+follows_all : (old new : Option (List ℕ)) (text : List ℕ) → GoesOut old [] new [] text → Appended old new text
 follows_all None new text h = tt
 follows_all (Some x) None text h = absurd h
 follows_all (Some x) (Some y) text h = h.1 ∙ ap (λ t. x ++ t) (sym (append-nil (take h.0 text)) ∙ (ap (λ t. take h.0 text ++ t) h.2 ∙ take-append-drop h.0 text))
 
-front_of : PiecesGoOn → (old new : Option (List ℕ)) (bytes rest text : List ℕ) → IsCutOff old new bytes → text ≡ bytes ++ rest → AppendedFront old new text
+front_of : PiecesGoOn → (old new : Option (List ℕ)) (bytes rest text : List ℕ) → FrontGoesOut old new bytes → text ≡ bytes ++ rest → AppendedFront old new text
 front_of law old new bytes rest text h e = rw e (law.longer old new [] bytes rest h)
 
 -- what waited was written, all or less
-flushed_front : PiecesGoOn → (a b c : Option (List ℕ)) (y bytes : List ℕ) → Follows a [] b y bytes → IsCutOff b c y → IsCutOff a c bytes
+flushed_front : PiecesGoOn → (a b c : Option (List ℕ)) (y bytes : List ℕ) → GoesOut a [] b y bytes → FrontGoesOut b c y → FrontGoesOut a c bytes
 flushed_front law a b c y bytes p q =
-    let whole : IsCutOff a c (bytes ++ []) = law.cut a b c [] y bytes [] p (rw (append-nil y) q) in
+    let whole : FrontGoesOut a c (bytes ++ []) = law.cut a b c [] y bytes [] p (rw (append-nil y) q) in
     rw (append-nil bytes) at whole
 
 -- ---- what the forms print, on an empty page
@@ -69,15 +69,15 @@ front_bytes w vs bytes is h =
 
 -- ---- how a run ends
 
-pub done : PiecesGoOn → (a b c : Option (List ℕ)) (w v : World) (vs : List Tagged) → IsBeginning w → PrintsOnPage a b w.output.waiting v.output.waiting (page_of_forms w vs) (λ t. Some (page_in v t)) → Follows b v.output.waiting c [] [] → Appended a c (output_of w vs)
+pub done : PiecesGoOn → (a b c : Option (List ℕ)) (w v : World) (vs : List Tagged) → IsBeginning w → PrintsOnPage a b w.output.waiting v.output.waiting (page_of_forms w vs) (λ t. Some (page_in v t)) → GoesOut b v.output.waiting c [] [] → Appended a c (output_of w vs)
 done law a b c w v vs is p q =
-    let whole : Follows a [] c [] (p.bytes ++ []) = law.follows a b c [] v.output.waiting [] p.bytes [] (rw is.waiting at p.follows) q in
+    let whole : GoesOut a [] c [] (p.bytes ++ []) = law.follows a b c [] v.output.waiting [] p.bytes [] (rw is.waiting at p.follows) q in
     rw (all_bytes a b w v vs is p, ← append-nil p.bytes) (follows_all a c (p.bytes ++ []) whole)
 
-pub cut_at_end : PiecesGoOn → (a b c : Option (List ℕ)) (w v : World) (vs : List Tagged) → IsBeginning w → PrintsOnPage a b w.output.waiting v.output.waiting (page_of_forms w vs) (λ t. Some (page_in v t)) → IsCutOff b c v.output.waiting → AppendedFront a c (output_of w vs)
+pub cut_at_end : PiecesGoOn → (a b c : Option (List ℕ)) (w v : World) (vs : List Tagged) → IsBeginning w → PrintsOnPage a b w.output.waiting v.output.waiting (page_of_forms w vs) (λ t. Some (page_in v t)) → FrontGoesOut b c v.output.waiting → AppendedFront a c (output_of w vs)
 cut_at_end law a b c w v vs is p q = rw (all_bytes a b w v vs is p) (flushed_front law a b c v.output.waiting p.bytes (rw is.waiting at p.follows) q)
 
-pub halted : PiecesGoOn → (a b c : Option (List ℕ)) (w v : World) (vs : List Tagged) → IsBeginning w → HaltsPage a b w.output.waiting v.output.waiting (page_of_forms w vs) → IsCutOff b c v.output.waiting → AppendedFront a c (output_of w vs)
+pub halted : PiecesGoOn → (a b c : Option (List ℕ)) (w v : World) (vs : List Tagged) → IsBeginning w → HaltsPage a b w.output.waiting v.output.waiting (page_of_forms w vs) → FrontGoesOut b c v.output.waiting → AppendedFront a c (output_of w vs)
 halted law a b c w v vs is h q =
     let front = front_bytes w vs h.bytes is h.front in
     front_of law a c h.bytes front.0 (output_of w vs) (flushed_front law a b c v.output.waiting h.bytes (rw is.waiting at h.follows) q) front.1

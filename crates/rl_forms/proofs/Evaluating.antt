@@ -11,7 +11,7 @@ use Rattle.rl_tree.specs.Name.{quote_name}
 use Rattle.rl_tree.specs.Printing.{Page}
 use Rattle.rl_text.specs.Datum.{Datum, Id, Pair}
 use Rattle.rl_text.specs.Printed.{with_datum}
-use Rattle.rl_world.specs.Waiting.{Follows}
+use Rattle.rl_world.specs.Waiting.{GoesOut}
 use Rattle.rl_world.specs.declared.world.World.{World}
 use Rattle.rl_print.specs.Laws.{PiecesGoOn}
 use Rattle.rl_forms.specs.BuiltForms.{line_length, prin1_name, prin2_name, Valued, is_built, evaluated, printed_on_page, with_end_of_line}
@@ -110,7 +110,7 @@ then_front F adds old bytes h = record { more = λ text. go text (F (old text)) 
     go text (Some p) a r = (r.0 ++ a.0, a.1 ∙ (ap (λ t. t ++ a.0) r.1 ∙ append_assoc (text ++ bytes) r.0 a.0))
 
 -- nothing follows
-nothing_follows : (told : Option (List ℕ)) (waited waiting : List ℕ) → waiting ≡ waited → Follows told waited told waiting []
+nothing_follows : (told : Option (List ℕ)) (waited waiting : List ℕ) → waiting ≡ waited → GoesOut told waited told waiting []
 nothing_follows None waited waiting e = tt
 nothing_follows (Some now) waited waiting e = (0, sym (append-nil now), e ∙ sym (append-nil waited))
 

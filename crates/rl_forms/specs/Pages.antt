@@ -1,7 +1,7 @@
 -- What is printed, and where it goes: bytes follow what waited, and the page is told for any text that was printed before.
 use Rattle.std.specs.Prelude.{◌≡◌, ℕ, List, ◌++◌, Option, IfSome}
 use Rattle.rl_tree.specs.Printing.{Page}
-use Rattle.rl_world.specs.Waiting.{Follows, IsCutOff}
+use Rattle.rl_world.specs.Waiting.{GoesOut, FrontGoesOut}
 use Rattle.rl_world.specs.declared.world.World.{World}
 
 -- the page of a world, when this text was printed on it
@@ -15,7 +15,7 @@ Told = List ℕ → Option Page
 -- some bytes were printed, and behind them comes what came of all before
 pub record PrintsOnPage (before now : Option (List ℕ)) (waited waiting : List ℕ) (old new : Told) : Type 0 where
   pub bytes : List ℕ
-  pub follows : Follows before waited now waiting bytes
+  pub follows : GoesOut before waited now waiting bytes
   pub means : (text : List ℕ) → old text ≡ new (text ++ bytes)
 
 -- the bytes are a front of what is printed
@@ -25,13 +25,13 @@ pub record IsFrontOfPage (whole : Told) (bytes : List ℕ) : Type 0 where
 -- a front of what is printed follows what waited
 pub record HaltsPage (before now : Option (List ℕ)) (waited waiting : List ℕ) (whole : Told) : Type 0 where
   pub bytes : List ℕ
-  pub follows : Follows before waited now waiting bytes
+  pub follows : GoesOut before waited now waiting bytes
   pub front : IsFrontOfPage whole bytes
 
 -- a front of what waited and of what is printed came to the sink
 pub record CutsPage (before now : Option (List ℕ)) (waited : List ℕ) (whole : Told) : Type 0 where
   pub bytes : List ℕ
-  pub cut : IsCutOff before now (waited ++ bytes)
+  pub cut : FrontGoesOut before now (waited ++ bytes)
   pub front : IsFrontOfPage whole bytes
 
 -- of the world only turns, levels and what is printed have changed

@@ -8,7 +8,7 @@ use Rattle.rl_tree.specs.Printing.{Ending, Whole, NoTurn, TooDeep, Progress, Set
 use Rattle.rl_world.specs.Counts.{WorldCounts, ticked}
 use Rattle.rl_world.specs.Levels.{WorldLevels}
 use Rattle.rl_world.specs.Output.{Output}
-use Rattle.rl_world.specs.Waiting.{Follows}
+use Rattle.rl_world.specs.Waiting.{GoesOut}
 use Rattle.rl_world.specs.declared.stop.Stop.{Stop}
 use Rattle.rl_world.specs.declared.world.World.{World}
 use Rattle.rl_print.specs.Counted.{IsStop, IsTicked, last_count_stop, ticks}
@@ -64,7 +64,7 @@ next_written old new base (Some (state.Next c)) e h = rw e h
 next_written old new base (Some (state.Element v c)) e h = rw e h
 
 -- nothing follows
-pub nothing_follows : (told : Option (List ℕ)) (waited waiting : List ℕ) → waiting ≡ waited → Follows told waited told waiting []
+pub nothing_follows : (told : Option (List ℕ)) (waited waiting : List ℕ) → waiting ≡ waited → GoesOut told waited told waiting []
 nothing_follows None waited waiting e = tt
 nothing_follows (Some now) waited waiting e = (0, sym (append-nil now), e ∙ sym (append-nil waited))
 

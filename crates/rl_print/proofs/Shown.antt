@@ -12,7 +12,7 @@ use Rattle.rl_tree.specs.Atoms as atoms
 use Rattle.rl_tree.specs.Atoms.{atom_text}
 use Rattle.rl_tree.specs.Printing.{Page}
 use Rattle.rl_tree.specs.Printing.{Progress, Whole, column_with, marked, with_atom, with_atom_of, with_text}
-use Rattle.rl_world.specs.Waiting.{Follows, IsCutOff}
+use Rattle.rl_world.specs.Waiting.{GoesOut, FrontGoesOut}
 use Rattle.rl_world.specs.declared.world.World.{World}
 use Rattle.rl_print.specs.AtomText.{line_break}
 use Rattle.rl_print.specs.Walk.{Shows, ShowsFront, progress_in_world, setting_in_world, shown}
@@ -31,14 +31,14 @@ progress_written old new text column e c =
 
 -- ---- a mark
 
-pub mark_shows : (before now : Option (List ℕ)) (style : atoms.Style) (old new : World) (bytes : Bor (List ℕ)) → Writes old new → Follows before old.output.waiting now new.output.waiting bytes.now → new.output.column ≡ fold column_with old.output.column bytes.now → Shows before now style old new (piece.Mark bytes)
+pub mark_shows : (before now : Option (List ℕ)) (style : atoms.Style) (old new : World) (bytes : Bor (List ℕ)) → Writes old new → GoesOut before old.output.waiting now new.output.waiting bytes.now → new.output.column ≡ fold column_with old.output.column bytes.now → Shows before now style old new (piece.Mark bytes)
 mark_shows before now style old new bytes e follows column = record {
   bytes = bytes.now;
   follows = follows;
   means = λ text. progress_written old new (text ++ bytes.now) (fold column_with old.output.column bytes.now) e column;
 }
 
-pub mark_front : (before now : Option (List ℕ)) (style : atoms.Style) (old : World) (bytes : Bor (List ℕ)) → IsCutOff before now (old.output.waiting ++ bytes.now) → ShowsFront before now style old (piece.Mark bytes)
+pub mark_front : (before now : Option (List ℕ)) (style : atoms.Style) (old : World) (bytes : Bor (List ℕ)) → FrontGoesOut before now (old.output.waiting ++ bytes.now) → ShowsFront before now style old (piece.Mark bytes)
 mark_front before now style old bytes cut = record {
   bytes = bytes.now;
   cut = cut;
@@ -70,7 +70,7 @@ atom_shown style old new v text e column =
     ap (λ (page : Page). record (progress_in_world old text) { page = page }) (atom_apart old.output.line_length (record { text = text; column = old.output.column }) (atom_text style (numbered_name old.cells.cells) (value_of old.cells.cells v)))
     ∙ progress_written old new (text ++ (atom_page old style v).text) (atom_page old style v).column e column
 
-pub atom_shows : (before now : Option (List ℕ)) (style : atoms.Style) (old new : World) (v : Tagged) → Writes old new → Follows before old.output.waiting now new.output.waiting (atom_page old style v).text → new.output.column ≡ (atom_page old style v).column → Shows before now style old new (piece.Atom v)
+pub atom_shows : (before now : Option (List ℕ)) (style : atoms.Style) (old new : World) (v : Tagged) → Writes old new → GoesOut before old.output.waiting now new.output.waiting (atom_page old style v).text → new.output.column ≡ (atom_page old style v).column → Shows before now style old new (piece.Atom v)
 atom_shows before now style old new v e follows column = record {
   bytes = (atom_page old style v).text;
   follows = follows;
@@ -80,7 +80,7 @@ atom_shows before now style old new v e follows column = record {
 atom_text_is : (style : atoms.Style) (old : World) (v : Tagged) (text : List ℕ) → (with_atom_of (setting_in_world style old) (value_of old.cells.cells v) (progress_in_world old text)).page.text ≡ text ++ (atom_page old style v).text
 atom_text_is style old v text = ap (λ (page : Page). page.text) (atom_apart old.output.line_length (record { text = text; column = old.output.column }) (atom_text style (numbered_name old.cells.cells) (value_of old.cells.cells v)))
 
-pub atom_front : (before now : Option (List ℕ)) (style : atoms.Style) (old : World) (v : Tagged) → IsCutOff before now (old.output.waiting ++ (atom_page old style v).text) → ShowsFront before now style old (piece.Atom v)
+pub atom_front : (before now : Option (List ℕ)) (style : atoms.Style) (old : World) (v : Tagged) → FrontGoesOut before now (old.output.waiting ++ (atom_page old style v).text) → ShowsFront before now style old (piece.Atom v)
 atom_front before now style old v cut = record {
   bytes = (atom_page old style v).text;
   cut = cut;
@@ -102,7 +102,7 @@ taken_more n m a b c x y first more eb ey ec =
     ∙ (ap (λ t. a ++ t) (sym (take-append-add front (rest ++ more) m)) ∙ ap (λ t. a ++ take (length front + m) t) (sym (cut_at n x first more))))))
 
 -- what follows what waited, and then more
-pub follows_more : (a b c : Option (List ℕ)) (x y z first more : List ℕ) → Follows a x b y first → Follows b y c z more → Follows a x c z (first ++ more)
+pub follows_more : (a b c : Option (List ℕ)) (x y z first more : List ℕ) → GoesOut a x b y first → GoesOut b y c z more → GoesOut a x c z (first ++ more)
 follows_more None b c x y z first more p q = tt
 follows_more (Some a) None c x y z first more p q = absurd p
 follows_more (Some a) (Some b) None x y z first more p q = absurd q
@@ -115,14 +115,14 @@ follows_more (Some a) (Some b) (Some c) x y z first more p q =
     )
 
 -- and then a front of more
-pub cut_more : (a b c : Option (List ℕ)) (x y first more : List ℕ) → Follows a x b y first → IsCutOff b c (y ++ more) → IsCutOff a c (x ++ (first ++ more))
+pub cut_more : (a b c : Option (List ℕ)) (x y first more : List ℕ) → GoesOut a x b y first → FrontGoesOut b c (y ++ more) → FrontGoesOut a c (x ++ (first ++ more))
 cut_more None b c x y first more p q = tt
 cut_more (Some a) None c x y first more p q = absurd p
 cut_more (Some a) (Some b) None x y first more p q = absurd q
 cut_more (Some a) (Some b) (Some c) x y first more p q = (length (take p.0 (x ++ first)) + q.0, taken_more p.0 q.0 a b c x y first more p.1 p.2 q.1)
 
 -- a front is one of more
-pub cut_longer : (a c : Option (List ℕ)) (x first more : List ℕ) → IsCutOff a c (x ++ first) → IsCutOff a c (x ++ (first ++ more))
+pub cut_longer : (a c : Option (List ℕ)) (x first more : List ℕ) → FrontGoesOut a c (x ++ first) → FrontGoesOut a c (x ++ (first ++ more))
 cut_longer None c x first more h = tt
 cut_longer (Some a) None x first more h = absurd h
 cut_longer (Some a) (Some c) x first more h =
@@ -133,14 +133,14 @@ take_next : (bytes : List ℕ) (i : ℕ) → i < length bytes → take (i + 1) b
 take_next bytes i l = let n : i + 1 ≡ suc i = omega arith in ap (λ k. take k bytes) n ∙ take-suc bytes i 0 l
 
 -- one byte more follows
-pub byte_follows : (a b c : Option (List ℕ)) (x y z bytes : List ℕ) (i : ℕ) → i < length bytes → Follows a x b y (take i bytes) → Follows b y c z (get_or bytes i 0 ∷ []) → Follows a x c z (take (i + 1) bytes)
+pub byte_follows : (a b c : Option (List ℕ)) (x y z bytes : List ℕ) (i : ℕ) → i < length bytes → GoesOut a x b y (take i bytes) → GoesOut b y c z (get_or bytes i 0 ∷ []) → GoesOut a x c z (take (i + 1) bytes)
 byte_follows a b c x y z bytes i l p q = rw (take_next bytes i l) (follows_more a b c x y z (take i bytes) (get_or bytes i 0 ∷ []) p q)
 
 pub byte_column : (column : ℕ) (bytes : List ℕ) (i : ℕ) → i < length bytes → column_with (fold column_with column (take i bytes)) (get_or bytes i 0) ≡ fold column_with column (take (i + 1) bytes)
 byte_column column bytes i l = sym (ap (fold column_with column) (take_next bytes i l) ∙ fold-append column_with column (take i bytes) (get_or bytes i 0 ∷ []))
 
 -- or the sink fails at it
-pub byte_cut : (a b c : Option (List ℕ)) (x y bytes : List ℕ) (i : ℕ) → i < length bytes → Follows a x b y (take i bytes) → IsCutOff b c (y ++ get_or bytes i 0 ∷ []) → IsCutOff a c (x ++ bytes)
+pub byte_cut : (a b c : Option (List ℕ)) (x y bytes : List ℕ) (i : ℕ) → i < length bytes → GoesOut a x b y (take i bytes) → FrontGoesOut b c (y ++ get_or bytes i 0 ∷ []) → FrontGoesOut a c (x ++ bytes)
 byte_cut a b c x y bytes i l p q =
     let first = take i bytes ++ get_or bytes i 0 ∷ [] in
     let whole : bytes ≡ first ++ drop (i + 1) bytes = sym (take-append-drop (i + 1) bytes) ∙ ap (λ t. t ++ drop (i + 1) bytes) (take_next bytes i l) in
@@ -182,7 +182,7 @@ dotted_after_mark style old v text =
     let a = after_trans p q (marked (41 ∷ []) q) (atom_after (setting_in_world style old) (value_of old.cells.cells v) p) (marked_after (41 ∷ []) q) in
     (a.more, a.text)
 
-pub dot_front : (before now : Option (List ℕ)) (style : atoms.Style) (old : World) (v : Tagged) (dot : List ℕ) → dot ≡ 32 ∷ 46 ∷ 32 ∷ [] → IsCutOff before now (old.output.waiting ++ dot) → ShowsFront before now style old (piece.Dotted v)
+pub dot_front : (before now : Option (List ℕ)) (style : atoms.Style) (old : World) (v : Tagged) (dot : List ℕ) → dot ≡ 32 ∷ 46 ∷ 32 ∷ [] → FrontGoesOut before now (old.output.waiting ++ dot) → ShowsFront before now style old (piece.Dotted v)
 dot_front before now style old v dot e cut = record {
   bytes = dot;
   cut = cut;
@@ -207,7 +207,7 @@ atom_behind_front before one now style old mid v dot ed wm m a = record {
 }
 
 pub close_front : (before one two now : Option (List ℕ)) (style : atoms.Style) (old mid late : World) (v : Tagged) (dot : Bor (List ℕ)) (close : List ℕ) → dot.now ≡ 32 ∷ 46 ∷ 32 ∷ [] → close ≡ 41 ∷ [] → Writes old mid → Shows before one style old mid (piece.Mark dot)
-    → Shows one two style mid late (piece.Atom v) → IsCutOff two now (late.output.waiting ++ close) → ShowsFront before now style old (piece.Dotted v)
+    → Shows one two style mid late (piece.Atom v) → FrontGoesOut two now (late.output.waiting ++ close) → ShowsFront before now style old (piece.Dotted v)
 close_front before one two now style old mid late v dot close ed ec wm m a cut = record {
   bytes = m.bytes ++ (a.bytes ++ close);
   cut = cut_more before one now old.output.waiting mid.output.waiting m.bytes (a.bytes ++ close) m.follows (cut_more one two now mid.output.waiting late.output.waiting a.bytes close a.follows cut);
@@ -222,17 +222,17 @@ close_front before one two now style old mid late v dot close ed ec wm m a cut =
 pub record TextGoes (before now : Option (List ℕ)) (waited waiting : List ℕ) (begun column : ℕ) (whole left : List ℕ) : Type 0 where
   pub done : List ℕ
   pub is : whole ≡ done ++ left
-  pub follows : Follows before waited now waiting done
+  pub follows : GoesOut before waited now waiting done
   pub column_is : column ≡ fold column_with begun done
 
 pub text_begins : (told : Option (List ℕ)) (waited : List ℕ) (column : ℕ) (whole : List ℕ) → TextGoes told told waited waited column column whole whole
 text_begins told waited column whole = record { done = []; is = refl; follows = no_bytes told; column_is = refl }
   where
-    no_bytes : (t : Option (List ℕ)) → Follows t waited t waited []
+    no_bytes : (t : Option (List ℕ)) → GoesOut t waited t waited []
     no_bytes None = tt
     no_bytes (Some now) = (0, sym (append-nil now), sym (append-nil waited))
 
-pub text_goes_on : (a b c : Option (List ℕ)) (x y z : List ℕ) (begun column after : ℕ) (whole left more : List ℕ) (byte : ℕ) → TextGoes a b x y begun column whole left → left ≡ byte ∷ more → Follows b y c z (byte ∷ []) → after ≡ column_with column byte → TextGoes a c x z begun after whole more
+pub text_goes_on : (a b c : Option (List ℕ)) (x y z : List ℕ) (begun column after : ℕ) (whole left more : List ℕ) (byte : ℕ) → TextGoes a b x y begun column whole left → left ≡ byte ∷ more → GoesOut b y c z (byte ∷ []) → after ≡ column_with column byte → TextGoes a c x z begun after whole more
 text_goes_on a b c x y z begun column after whole left more byte g e f k = record {
   done = g.done ++ byte ∷ [];
   is = g.is ∙ (ap (λ t. g.done ++ t) e ∙ sym (append_assoc g.done (byte ∷ []) more));
@@ -240,13 +240,13 @@ text_goes_on a b c x y z begun column after whole left more byte g e f k = recor
   column_is = k ∙ (ap (λ n. column_with n byte) g.column_is ∙ sym (fold-append column_with begun g.done (byte ∷ [])));
 }
 
-pub text_cut : (a b c : Option (List ℕ)) (x y : List ℕ) (begun column : ℕ) (whole left more : List ℕ) (byte : ℕ) → TextGoes a b x y begun column whole left → left ≡ byte ∷ more → IsCutOff b c (y ++ byte ∷ []) → IsCutOff a c (x ++ whole)
+pub text_cut : (a b c : Option (List ℕ)) (x y : List ℕ) (begun column : ℕ) (whole left more : List ℕ) (byte : ℕ) → TextGoes a b x y begun column whole left → left ≡ byte ∷ more → FrontGoesOut b c (y ++ byte ∷ []) → FrontGoesOut a c (x ++ whole)
 text_cut a b c x y begun column whole left more byte g e q =
     let all : whole ≡ (g.done ++ byte ∷ []) ++ more = g.is ∙ (ap (λ t. g.done ++ t) e ∙ sym (append_assoc g.done (byte ∷ []) more)) in
     rw all (cut_longer a c x (g.done ++ byte ∷ []) more (cut_more a b c x y g.done (byte ∷ []) g.follows q))
 
 -- all of it
-pub text_follows : (a b : Option (List ℕ)) (x y : List ℕ) (begun column : ℕ) (whole left : List ℕ) → TextGoes a b x y begun column whole left → left ≡ [] → Follows a x b y whole × (column ≡ fold column_with begun whole)
+pub text_follows : (a b : Option (List ℕ)) (x y : List ℕ) (begun column : ℕ) (whole left : List ℕ) → TextGoes a b x y begun column whole left → left ≡ [] → GoesOut a x b y whole × (column ≡ fold column_with begun whole)
 text_follows a b x y begun column whole left g e =
     let all : whole ≡ g.done = g.is ∙ (ap (λ t. g.done ++ t) e ∙ append-nil g.done) in
     rw all (g.follows, g.column_is)
@@ -274,9 +274,9 @@ abbrev pub IsBroken : World → Bool → List ℕ → Type 0
 IsBroken w broken bytes = broken ≡ (nat_lt 0 w.output.column && nat_lt w.output.line_length (w.output.column + length bytes))
 
 pub atom_follows : (a b c : Option (List ℕ)) (style : atoms.Style) (old mid new : World) (v : Tagged) (broken : Bool) (left : List Cell → List ℕ) → IsTextOf style v left → IsBroken old broken (left old.cells.cells) → Writes old mid
-    → Follows a old.output.waiting b mid.output.waiting (line_break broken) → Follows b mid.output.waiting c new.output.waiting (left mid.cells.cells) → Follows a old.output.waiting c new.output.waiting (atom_page old style v).text
+    → GoesOut a old.output.waiting b mid.output.waiting (line_break broken) → GoesOut b mid.output.waiting c new.output.waiting (left mid.cells.cells) → GoesOut a old.output.waiting c new.output.waiting (atom_page old style v).text
 atom_follows a b c style old mid new v broken left is e w f g =
-    let more : Follows b mid.output.waiting c new.output.waiting (left old.cells.cells) = rw (sym (same_left left old mid w)) g in
+    let more : GoesOut b mid.output.waiting c new.output.waiting (left old.cells.cells) = rw (sym (same_left left old mid w)) g in
     rw (ap (λ (p : Page). p.text) (atom_written style old v broken (left old.cells.cells) (is old.cells.cells) e)) (follows_more a b c old.output.waiting mid.output.waiting new.output.waiting (line_break broken) (left old.cells.cells) f more)
 
 pub atom_column : (style : atoms.Style) (old mid new : World) (v : Tagged) (broken : Bool) (left : List Cell → List ℕ) → IsTextOf style v left → IsBroken old broken (left old.cells.cells) → Writes old mid
@@ -286,12 +286,12 @@ atom_column style old mid new v broken left is e w f g =
     more ∙ (ap (λ n. fold column_with n (left old.cells.cells)) f ∙ sym (ap (λ (p : Page). p.column) (atom_written style old v broken (left old.cells.cells) (is old.cells.cells) e)))
 
 pub atom_cut : (a b c : Option (List ℕ)) (style : atoms.Style) (old mid : World) (v : Tagged) (broken : Bool) (left : List Cell → List ℕ) → IsTextOf style v left → IsBroken old broken (left old.cells.cells) → Writes old mid
-    → Follows a old.output.waiting b mid.output.waiting (line_break broken) → IsCutOff b c (mid.output.waiting ++ left mid.cells.cells) → IsCutOff a c (old.output.waiting ++ (atom_page old style v).text)
+    → GoesOut a old.output.waiting b mid.output.waiting (line_break broken) → FrontGoesOut b c (mid.output.waiting ++ left mid.cells.cells) → FrontGoesOut a c (old.output.waiting ++ (atom_page old style v).text)
 atom_cut a b c style old mid v broken left is e w f g =
-    let more : IsCutOff b c (mid.output.waiting ++ left old.cells.cells) = rw (sym (same_left left old mid w)) g in
+    let more : FrontGoesOut b c (mid.output.waiting ++ left old.cells.cells) = rw (sym (same_left left old mid w)) g in
     rw (ap (λ (p : Page). p.text) (atom_written style old v broken (left old.cells.cells) (is old.cells.cells) e)) (cut_more a b c old.output.waiting mid.output.waiting (line_break broken) (left old.cells.cells) f more)
 
 pub break_cut : (a c : Option (List ℕ)) (style : atoms.Style) (old : World) (v : Tagged) (broken : Bool) (left : List Cell → List ℕ) → IsTextOf style v left → IsBroken old broken (left old.cells.cells)
-    → IsCutOff a c (old.output.waiting ++ line_break broken) → IsCutOff a c (old.output.waiting ++ (atom_page old style v).text)
+    → FrontGoesOut a c (old.output.waiting ++ line_break broken) → FrontGoesOut a c (old.output.waiting ++ (atom_page old style v).text)
 break_cut a c style old v broken left is e f =
     rw (ap (λ (p : Page). p.text) (atom_written style old v broken (left old.cells.cells) (is old.cells.cells) e)) (cut_longer a c old.output.waiting (line_break broken) (left old.cells.cells) f)

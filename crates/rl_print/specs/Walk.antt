@@ -11,7 +11,7 @@ use Rattle.rl_tree.specs.Value.{Value}
 use Rattle.rl_tree.specs.Atoms as atoms
 use Rattle.rl_tree.specs.Printing.{Setting, Progress, Ending, Whole, Printer, marked, with_atom_of, and_then, places_printed, value_printed, dotted_atom, rest_printed, job_printed, printed}
 use Rattle.rl_world.specs.Walks.{IsSteady, kept_above}
-use Rattle.rl_world.specs.Waiting.{Follows, IsCutOff}
+use Rattle.rl_world.specs.Waiting.{GoesOut, FrontGoesOut}
 use Rattle.rl_world.specs.declared.world.World.{World}
 use Rattle.rl_world.specs.declared.stop.Stop.{Stop}
 use Rattle.rl_print.specs.Counted.{IsStop, IsTicked}
@@ -96,13 +96,13 @@ stopped w ending text = record (progress_in_world w text) { ending = ending }
 -- some bytes were printed, and the whole comes to the same
 pub record PrintsOn (before now : Option (List ℕ)) (waited waiting : List ℕ) (old new : List ℕ → Progress) : Type 0 where
   pub bytes : List ℕ
-  pub follows : Follows before waited now waiting bytes
+  pub follows : GoesOut before waited now waiting bytes
   pub means : (text : List ℕ) → old text ≡ new (text ++ bytes)
 
 -- a front of what waited and of the whole came to the sink
 pub record CutsPrinting (before now : Option (List ℕ)) (waited : List ℕ) (old : List ℕ → Progress) : Type 0 where
   pub bytes : List ℕ
-  pub cut : IsCutOff before now (waited ++ bytes)
+  pub cut : FrontGoesOut before now (waited ++ bytes)
   pub more : (text : List ℕ) → (rest : List ℕ) × ((old text).page.text ≡ (text ++ bytes) ++ rest)
 
 -- ---- what may be printed
@@ -177,13 +177,13 @@ pub record EndsPrinting (base : ℕ) (old new : World) (at : Option State) (s : 
 -- these bytes follow what waited, and make what the piece is to show
 pub record Shows (before now : Option (List ℕ)) (style : atoms.Style) (old new : World) (piece : Piece) : Type 0 where
   pub bytes : List ℕ
-  pub follows : Follows before old.output.waiting now new.output.waiting bytes
+  pub follows : GoesOut before old.output.waiting now new.output.waiting bytes
   pub means : (text : List ℕ) → shown (setting_in_world style old) old.cells.cells piece (progress_in_world old text) ≡ progress_in_world new (text ++ bytes)
 
 -- a front of what waited and of these bytes came to the sink
 pub record ShowsFront (before now : Option (List ℕ)) (style : atoms.Style) (old : World) (piece : Piece) : Type 0 where
   pub bytes : List ℕ
-  pub cut : IsCutOff before now (old.output.waiting ++ bytes)
+  pub cut : FrontGoesOut before now (old.output.waiting ++ bytes)
   pub more : (text : List ℕ) → (rest : List ℕ) × ((shown (setting_in_world style old) old.cells.cells piece (progress_in_world old text)).page.text ≡ (text ++ bytes) ++ rest)
 
 -- ---- a value from its root on
@@ -228,7 +228,7 @@ pub record HaltsPrinting (before now : Option (List ℕ)) (old new : World) (sta
 -- all that the definition prints follows what waited, in as many turns, and levels are as they were
 pub record IsPrinted (before now : Option (List ℕ)) (style : atoms.Style) (old new : World) (v : Tagged) : Type 0 where
   pub whole : (whole_printed style old v []).ending ≡ Whole
-  pub follows : Follows before old.output.waiting now new.output.waiting (whole_printed style old v []).page.text
+  pub follows : GoesOut before old.output.waiting now new.output.waiting (whole_printed style old v []).page.text
   pub column : new.output.column ≡ (whole_printed style old v []).page.column
   pub turns : count_turns_left new.counts ≡ (whole_printed style old v []).turns
   -- so behind any text

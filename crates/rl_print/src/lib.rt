@@ -7,8 +7,6 @@ pub mod laws;
 mod print;
 mod put;
 mod show;
-#[cfg(test)]
-mod tests;
 mod walk;
 
 pub use atom::{AtomText, Style, bare};

@@ -5,7 +5,7 @@ ghost use Rattle.rl_syms.specs.Numbers.{numbered_name};
 ghost use Rattle.rl_syms.specs.Table.{IsTable};
 ghost use Rattle.rl_tree.specs.Atoms.{atom_text};
 ghost use Rattle.rl_tree.specs.Printing.{column_with, with_atom};
-ghost use Rattle.rl_world.specs.Waiting.{Follows, IsCutOff};
+ghost use Rattle.rl_world.specs.Waiting.{GoesOut, FrontGoesOut};
 ghost use Rattle.rl_world.specs.Writing.{ChangesOutAlone, OnlyWriteFaults};
 ghost use Rattle.rl_print.specs.AtomText.{is_atom, line_break, style_of, text_left};
 
@@ -20,9 +20,9 @@ pub(crate) fn put_bytes<I: Source, O: Sink, N: Sink, F: Files>(
     bytes: &[u8],
     io: &mut Io<'_, I, O, N, F>,
 ) -> Result<(), Stop>
-    ensures ok { OnOk result (Follows (O.contents io.old.out.now) w.old.output.waiting (O.contents io.new.out.now) w.new.output.waiting bytes.now) }
+    ensures ok { OnOk result (GoesOut (O.contents io.old.out.now) w.old.output.waiting (O.contents io.new.out.now) w.new.output.waiting bytes.now) }
     ensures column { OnOk result (w.new.output.column ≡ fold column_with w.old.output.column bytes.now) }
-    ensures front { OnErr result (IsCutOff (O.contents io.old.out.now) (O.contents io.new.out.now) (w.old.output.waiting ++ bytes.now)) }
+    ensures front { OnErr result (FrontGoesOut (O.contents io.old.out.now) (O.contents io.new.out.now) (w.old.output.waiting ++ bytes.now)) }
     ensures faults { OnlyWriteFaults result (O.faults io.old.out.now) (O.faults io.new.out.now) w.new.output.waiting }
     ensures outside { ChangesOutAlone w.old w.new io.old io.new }
 {
@@ -44,9 +44,9 @@ pub(crate) fn put_atom<I: Source, O: Sink, N: Sink, F: Files>(
 ) -> Result<(), Stop>
     requires table { IsTable w.old.cells.cells w.old.syms.head }
     requires atom { IsTrue (is_atom w.old.cells.cells a) }
-    ensures ok { OnOk result (Follows (O.contents io.old.out.now) w.old.output.waiting (O.contents io.new.out.now) w.new.output.waiting (with_atom w.old.output.line_length (record { text = []; column = w.old.output.column }) (atom_text (style_of style) (numbered_name w.old.cells.cells) (value_of w.old.cells.cells a))).text) }
+    ensures ok { OnOk result (GoesOut (O.contents io.old.out.now) w.old.output.waiting (O.contents io.new.out.now) w.new.output.waiting (with_atom w.old.output.line_length (record { text = []; column = w.old.output.column }) (atom_text (style_of style) (numbered_name w.old.cells.cells) (value_of w.old.cells.cells a))).text) }
     ensures column { OnOk result (w.new.output.column ≡ (with_atom w.old.output.line_length (record { text = []; column = w.old.output.column }) (atom_text (style_of style) (numbered_name w.old.cells.cells) (value_of w.old.cells.cells a))).column) }
-    ensures front { OnErr result (IsCutOff (O.contents io.old.out.now) (O.contents io.new.out.now) (w.old.output.waiting ++ (with_atom w.old.output.line_length (record { text = []; column = w.old.output.column }) (atom_text (style_of style) (numbered_name w.old.cells.cells) (value_of w.old.cells.cells a))).text)) }
+    ensures front { OnErr result (FrontGoesOut (O.contents io.old.out.now) (O.contents io.new.out.now) (w.old.output.waiting ++ (with_atom w.old.output.line_length (record { text = []; column = w.old.output.column }) (atom_text (style_of style) (numbered_name w.old.cells.cells) (value_of w.old.cells.cells a))).text)) }
     ensures faults { OnlyWriteFaults result (O.faults io.old.out.now) (O.faults io.new.out.now) w.new.output.waiting }
     ensures outside { ChangesOutAlone w.old w.new io.old io.new }
 {
@@ -67,9 +67,9 @@ fn put_break<I: Source, O: Sink, N: Sink, F: Files>(
     broken: bool,
     io: &mut Io<'_, I, O, N, F>,
 ) -> Result<(), Stop>
-    ensures ok { OnOk result (Follows (O.contents io.old.out.now) w.old.output.waiting (O.contents io.new.out.now) w.new.output.waiting (line_break broken)) }
+    ensures ok { OnOk result (GoesOut (O.contents io.old.out.now) w.old.output.waiting (O.contents io.new.out.now) w.new.output.waiting (line_break broken)) }
     ensures column { OnOk result (w.new.output.column ≡ fold column_with w.old.output.column (line_break broken)) }
-    ensures front { OnErr result (IsCutOff (O.contents io.old.out.now) (O.contents io.new.out.now) (w.old.output.waiting ++ line_break broken)) }
+    ensures front { OnErr result (FrontGoesOut (O.contents io.old.out.now) (O.contents io.new.out.now) (w.old.output.waiting ++ line_break broken)) }
     ensures faults { OnlyWriteFaults result (O.faults io.old.out.now) (O.faults io.new.out.now) w.new.output.waiting }
     ensures outside { ChangesOutAlone w.old w.new io.old io.new }
 {
@@ -113,9 +113,9 @@ fn put_text<I: Source, O: Sink, N: Sink, F: Files>(
 ) -> Result<(), Stop>
     requires table { IsTable w.old.cells.cells w.old.syms.head }
     requires atom { IsTrue (is_atom w.old.cells.cells text.atom) }
-    ensures ok { OnOk result (Follows (O.contents io.old.out.now) w.old.output.waiting (O.contents io.new.out.now) w.new.output.waiting (text_left w.old.cells.cells text)) }
+    ensures ok { OnOk result (GoesOut (O.contents io.old.out.now) w.old.output.waiting (O.contents io.new.out.now) w.new.output.waiting (text_left w.old.cells.cells text)) }
     ensures column { OnOk result (w.new.output.column ≡ fold column_with w.old.output.column (text_left w.old.cells.cells text)) }
-    ensures front { OnErr result (IsCutOff (O.contents io.old.out.now) (O.contents io.new.out.now) (w.old.output.waiting ++ text_left w.old.cells.cells text)) }
+    ensures front { OnErr result (FrontGoesOut (O.contents io.old.out.now) (O.contents io.new.out.now) (w.old.output.waiting ++ text_left w.old.cells.cells text)) }
     ensures faults { OnlyWriteFaults result (O.faults io.old.out.now) (O.faults io.new.out.now) w.new.output.waiting }
     ensures outside { ChangesOutAlone w.old w.new io.old io.new }
 {

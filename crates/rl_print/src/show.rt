@@ -1,7 +1,7 @@
 //! What is printed at once.
 ghost use Rattle.std.specs.Prelude.{◌++◌, IsTrue, OnOk, OnErr};
 ghost use Rattle.rl_syms.specs.Table.{IsTable};
-ghost use Rattle.rl_world.specs.Waiting.{IsCutOff};
+ghost use Rattle.rl_world.specs.Waiting.{FrontGoesOut};
 ghost use Rattle.rl_world.specs.Writing.{ChangesOutAlone, OnlyWriteFaults};
 ghost use Rattle.rl_print.specs.AtomText.{is_atom, style_of};
 ghost use Rattle.rl_print.specs.Walk.{IsPiece, Shows, ShowsFront};
@@ -43,7 +43,7 @@ fn show_mark<I: Source, O: Sink, N: Sink, F: Files>(
     io: &mut Io<'_, I, O, N, F>,
 ) -> Result<(), Stop>
     ensures ok { OnOk result (Shows (O.contents io.old.out.now) (O.contents io.new.out.now) (style_of style) w.old w.new (piece.Mark bytes.entry)) }
-    ensures cut { OnErr result (IsCutOff (O.contents io.old.out.now) (O.contents io.new.out.now) (w.old.output.waiting ++ bytes.now)) }
+    ensures cut { OnErr result (FrontGoesOut (O.contents io.old.out.now) (O.contents io.new.out.now) (w.old.output.waiting ++ bytes.now)) }
     ensures front { OnErr result (ShowsFront (O.contents io.old.out.now) (O.contents io.new.out.now) (style_of style) w.old (piece.Mark bytes.entry)) }
     ensures faults { OnlyWriteFaults result (O.faults io.old.out.now) (O.faults io.new.out.now) w.new.output.waiting }
     ensures outside { ChangesOutAlone w.old w.new io.old io.new }

@@ -12,7 +12,7 @@ use Rattle.rl_syms.specs.Numbers.{NamesAreNumbered}
 use Rattle.rl_world.specs.Counts as counted
 use Rattle.rl_world.specs.Counts.{count_turns_left}
 use Rattle.rl_world.specs.Input.{with_back}
-use Rattle.rl_world.specs.Waiting.{Follows}
+use Rattle.rl_world.specs.Waiting.{GoesOut}
 use Rattle.rl_world.specs.declared.counts.Expansion as expansion
 use Rattle.rl_world.specs.declared.stop.Stop as stops
 use Rattle.rl_world.specs.declared.stop.Stop.TheVariants as stop
@@ -74,7 +74,7 @@ module _ (law : AreCellLaws) (named : NamesAreNumbered) (at : ToldAtStart) (w x 
     bound = h.shows.bound;
   })
 
-  ties_printed : (bytes : List ℕ) → Follows o w.output.waiting p x.output.waiting bytes → Ties at (and_told x p m j) coming (state_with bytes)
+  ties_printed : (bytes : List ℕ) → GoesOut o w.output.waiting p x.output.waiting bytes → Ties at (and_told x p m j) coming (state_with bytes)
   ties_printed bytes f = record {
     shows = shows_printed bytes;
     output = out_follows at.out o p w.output.waiting x.output.waiting s.outside.output bytes h.output f;

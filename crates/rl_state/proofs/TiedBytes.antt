@@ -4,7 +4,7 @@ use Rattle.std.specs.Prelude.{IfSome}
 use Rattle.rl_io.specs.Faults.{Rose}
 use Rattle.rl_io.specs.Told.{WhereTold}
 use Rattle.rl_tree.specs.Printing.{column_with}
-use Rattle.rl_world.specs.Waiting.{Follows, IsCutOff}
+use Rattle.rl_world.specs.Waiting.{GoesOut, FrontGoesOut}
 use Rattle.rl_world.specs.Input.{Input, Gives, ended_after, given_after, with_back}
 use Rattle.rl_world.specs.declared.stop.Stop as stops
 use Rattle.rl_world.specs.declared.stop.Stop.TheVariants as stop
@@ -43,27 +43,27 @@ still_tied at w x o p n m i j coming s printed noted column e k shows output not
 
 pub put : (at : ToldAtStart) (w x : World) (b : ℕ) (o p n m i j : Option (List ℕ)) (coming : List ℕ) (s : State)
     → x ≡ record w { output = record w.output { waiting = x.output.waiting; column = x.output.column } } → x.output.column ≡ column_with w.output.column b
-    → m ≡ n → j ≡ i → Follows o w.output.waiting p x.output.waiting (b ∷ []) → Ties at (and_told w o n i) coming s → Ties at (and_told x p m j) coming (print_mark (b ∷ []) s)
+    → m ≡ n → j ≡ i → GoesOut o w.output.waiting p x.output.waiting (b ∷ []) → Ties at (and_told w o n i) coming s → Ties at (and_told x p m j) coming (print_mark (b ∷ []) s)
 put at w x b o p n m i j coming s e column q k f h =
     still_tied at w x o p n m i j coming s _ _ _ (ap (λ (y : World). y.input) e) k (shows_put w x b s e column h.shows)
     (out_follows at.out o p w.output.waiting x.output.waiting s.outside.output (b ∷ []) h.output f)
     (out_kept at.notes n m w.notes x.notes s.outside.notes q (ap (λ (y : World). y.notes) e) h.notes) h
 
-pub put_cut : (at : ToldAtStart) (w x : World) (b : ℕ) (o p n m i j : Option (List ℕ)) (coming : List ℕ) (s : State) → m ≡ n → IsCutOff o p (w.output.waiting ++ b ∷ []) → Ties at (and_told w o n i) coming s → LeavesFronts at (and_told x p m j) (print_mark (b ∷ []) s)
+pub put_cut : (at : ToldAtStart) (w x : World) (b : ℕ) (o p n m i j : Option (List ℕ)) (coming : List ℕ) (s : State) → m ≡ n → FrontGoesOut o p (w.output.waiting ++ b ∷ []) → Ties at (and_told w o n i) coming s → LeavesFronts at (and_told x p m j) (print_mark (b ∷ []) s)
 put_cut at w x b o p n m i j coming s q f h = record {
   output = out_cut at.out o p w.output.waiting s.outside.output (b ∷ []) h.output f;
   notes = out_kept_cut at.notes n m w.notes s.outside.notes q h.notes;
 }
 
 pub put_note : (at : ToldAtStart) (w x : World) (b : ℕ) (o p n m i j : Option (List ℕ)) (coming : List ℕ) (s : State)
-    → x ≡ record w { notes = x.notes } → p ≡ o → j ≡ i → Follows n w.notes m x.notes (b ∷ []) → Ties at (and_told w o n i) coming s → Ties at (and_told x p m j) coming (with_noted (b ∷ []) s)
+    → x ≡ record w { notes = x.notes } → p ≡ o → j ≡ i → GoesOut n w.notes m x.notes (b ∷ []) → Ties at (and_told w o n i) coming s → Ties at (and_told x p m j) coming (with_noted (b ∷ []) s)
 put_note at w x b o p n m i j coming s e q k f h =
     still_tied at w x o p n m i j coming s _ _ _ (ap (λ (y : World). y.input) e) k
     (subst (λ (y : World). ShowsState y (with_noted (b ∷ []) s)) (sym e) (shows_outer w w.levels w.output x.notes w.input s (with_noted (b ∷ []) s).outside s.watched h.shows.column h.shows.line_length h.shows.taken h.shows))
     (out_kept at.out o p w.output.waiting x.output.waiting s.outside.output q (ap (λ (y : World). y.output.waiting) e) h.output)
     (out_follows at.notes n m w.notes x.notes s.outside.notes (b ∷ []) h.notes f) h
 
-pub put_note_cut : (at : ToldAtStart) (w x : World) (b : ℕ) (o p n m i j : Option (List ℕ)) (coming : List ℕ) (s : State) → p ≡ o → IsCutOff n m (w.notes ++ b ∷ []) → Ties at (and_told w o n i) coming s → LeavesFronts at (and_told x p m j) (with_noted (b ∷ []) s)
+pub put_note_cut : (at : ToldAtStart) (w x : World) (b : ℕ) (o p n m i j : Option (List ℕ)) (coming : List ℕ) (s : State) → p ≡ o → FrontGoesOut n m (w.notes ++ b ∷ []) → Ties at (and_told w o n i) coming s → LeavesFronts at (and_told x p m j) (with_noted (b ∷ []) s)
 put_note_cut at w x b o p n m i j coming s q f h = record {
   output = out_kept_cut at.out o p w.output.waiting s.outside.output q h.output;
   notes = out_cut at.notes n m w.notes s.outside.notes (b ∷ []) h.notes f;
@@ -72,20 +72,20 @@ put_note_cut at w x b o p n m i j coming s q f h = record {
 -- ---- writing what waits
 
 pub flushed : (at : ToldAtStart) (w x : World) (o p n m i j : Option (List ℕ)) (coming : List ℕ) (s : State) → x ≡ record w { output = record w.output { waiting = [] }; notes = [] }
-    → j ≡ i → Follows o w.output.waiting p [] [] → Follows n w.notes m [] [] → Ties at (and_told w o n i) coming s → Ties at (and_told x p m j) coming s
+    → j ≡ i → GoesOut o w.output.waiting p [] [] → GoesOut n w.notes m [] [] → Ties at (and_told w o n i) coming s → Ties at (and_told x p m j) coming s
 flushed at w x o p n m i j coming s e k f g h =
     still_tied at w x o p n m i j coming s _ _ _ (ap (λ (y : World). y.input) e) k
     (subst (λ (y : World). ShowsState y s) (sym e) (shows_outer w w.levels (record w.output { waiting = [] }) [] w.input s s.outside s.watched h.shows.column h.shows.line_length h.shows.taken h.shows))
     (out_flushed at.out o p w.output.waiting x.output.waiting s.outside.output h.output f (ap (λ (y : World). y.output.waiting) e))
     (out_flushed at.notes n m w.notes x.notes s.outside.notes h.notes g (ap (λ (y : World). y.notes) e)) h
 
-pub flush_cut : (at : ToldAtStart) (w x : World) (o p n m i j : Option (List ℕ)) (coming : List ℕ) (s : State) → IsCutOff o p w.output.waiting → IsCutOff n m w.notes → Ties at (and_told w o n i) coming s → LeavesFronts at (and_told x p m j) s
+pub flush_cut : (at : ToldAtStart) (w x : World) (o p n m i j : Option (List ℕ)) (coming : List ℕ) (s : State) → FrontGoesOut o p w.output.waiting → FrontGoesOut n m w.notes → Ties at (and_told w o n i) coming s → LeavesFronts at (and_told x p m j) s
 flush_cut at w x o p n m i j coming s f g h = record {
   output = out_cut_flushed at.out o p w.output.waiting s.outside.output h.output f;
   notes = out_cut_flushed at.notes n m w.notes s.outside.notes h.notes g;
 }
 
-pub taking_cut : (at : ToldAtStart) (w x : World) (o p n m i j : Option (List ℕ)) (coming : List ℕ) (s : State) → m ≡ n → IsCutOff o p w.output.waiting → Ties at (and_told w o n i) coming s → LeavesFronts at (and_told x p m j) s
+pub taking_cut : (at : ToldAtStart) (w x : World) (o p n m i j : Option (List ℕ)) (coming : List ℕ) (s : State) → m ≡ n → FrontGoesOut o p w.output.waiting → Ties at (and_told w o n i) coming s → LeavesFronts at (and_told x p m j) s
 taking_cut at w x o p n m i j coming s q f h = record {
   output = out_cut_flushed at.out o p w.output.waiting s.outside.output h.output f;
   notes = out_kept_cut at.notes n m w.notes s.outside.notes q h.notes;
@@ -184,7 +184,7 @@ pub next : (w x : World) (b : Option ℕ) (o p n m i j : Option (List ℕ))
     → (w.input.back ≡ None → w.input.ended ≡ false → WhereTold i j (λ before now. Gives before now b))
     → (w.input.back ≡ None → w.input.ended ≡ true → b ≡ None)
     → IfSome w.input.back (λ c. b ≡ Some c) → IfSome w.input.back (λ c. j ≡ i) → (w.input.ended ≡ true → j ≡ i)
-    → Follows o w.output.waiting p [] [] → m ≡ n
+    → GoesOut o w.output.waiting p [] [] → m ≡ n
     → TakesInput (and_told w o n i) (and_told x p m j) (EndsTied (GivesNext b) (and_told x p m j))
 next w x b o p n m i j e place gives none back unread unended f q =
     let told = came_told w.input.back b w.input.ended i j gives none unread unended in

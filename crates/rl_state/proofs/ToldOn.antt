@@ -1,7 +1,7 @@
 -- What is told, from call to call.
 use Rattle.std.proofs.Common.{◌≡◌, ℕ, List, [], ◌++◌, take, drop, Option, Some, None, sym, ap, subst, ◌∙◌, append_assoc, append-nil, take-append-drop}
 use Rattle.rl_io.specs.Told.{WhereTold}
-use Rattle.rl_world.specs.Waiting.{Follows, IsCutOff}
+use Rattle.rl_world.specs.Waiting.{GoesOut, FrontGoesOut}
 use Rattle.rl_state.specs.Ties.{IsPrintedBefore, IsPrintedInPart}
 
 pub told_through : {X : Type 0} (a b c : Option X) (P Q R : X → X → Type 0) → ((x y z : X) → P x y → Q y z → R x z) → WhereTold a b P → WhereTold b c Q → WhereTold a c R
@@ -28,27 +28,27 @@ told_mapped None b P R f p = tt
 told_mapped (Some x) None P R f p = absurd p
 told_mapped (Some x) (Some y) P R f p = f x y p
 
-pub out_follows : (start old new : Option (List ℕ)) (waited waiting output bytes : List ℕ) → IsPrintedBefore start old waited output → Follows old waited new waiting bytes → IsPrintedBefore start new waiting (output ++ bytes)
+pub out_follows : (start old new : Option (List ℕ)) (waited waiting output bytes : List ℕ) → IsPrintedBefore start old waited output → GoesOut old waited new waiting bytes → IsPrintedBefore start new waiting (output ++ bytes)
 out_follows start old new waited waiting output bytes h f =
     told_through start old new (λ before held. before ++ output ≡ held ++ waited)
     (λ before now. (n : ℕ) × (now ≡ before ++ take n (waited ++ bytes)) × (waiting ≡ drop n (waited ++ bytes)))
     (λ before held. before ++ (output ++ bytes) ≡ held ++ waiting)
     (λ x y z p q. moved x output y waited z waiting bytes q.0 p q.1 ∙ ap (λ l. z ++ l) (sym q.2)) h f
 
-pub out_flushed : (start old new : Option (List ℕ)) (waited waiting output : List ℕ) → IsPrintedBefore start old waited output → Follows old waited new [] [] → waiting ≡ [] → IsPrintedBefore start new waiting output
+pub out_flushed : (start old new : Option (List ℕ)) (waited waiting output : List ℕ) → IsPrintedBefore start old waited output → GoesOut old waited new [] [] → waiting ≡ [] → IsPrintedBefore start new waiting output
 out_flushed start old new waited waiting output h f e =
     subst (λ l. IsPrintedBefore start new l output) (sym e) (subst (λ l. IsPrintedBefore start new [] l) (append-nil output) (out_follows start old new waited [] output [] h f))
 
-pub out_cut : (start old new : Option (List ℕ)) (waited output bytes : List ℕ) → IsPrintedBefore start old waited output → IsCutOff old new (waited ++ bytes) → IsPrintedInPart start new (output ++ bytes)
+pub out_cut : (start old new : Option (List ℕ)) (waited output bytes : List ℕ) → IsPrintedBefore start old waited output → FrontGoesOut old new (waited ++ bytes) → IsPrintedInPart start new (output ++ bytes)
 out_cut start old new waited output bytes h f =
     told_through start old new (λ before held. before ++ output ≡ held ++ waited)
     (λ before now. (n : ℕ) × (now ≡ before ++ take n (waited ++ bytes)))
     (λ before held. (lost : List ℕ) × (before ++ (output ++ bytes) ≡ held ++ lost))
     (λ x y z p q. (drop q.0 (waited ++ bytes), moved x output y waited z [] bytes q.0 p q.1)) h f
 
-pub out_cut_flushed : (start old new : Option (List ℕ)) (waited output : List ℕ) → IsPrintedBefore start old waited output → IsCutOff old new waited → IsPrintedInPart start new output
+pub out_cut_flushed : (start old new : Option (List ℕ)) (waited output : List ℕ) → IsPrintedBefore start old waited output → FrontGoesOut old new waited → IsPrintedInPart start new output
 out_cut_flushed start old new waited output h f =
-    subst (λ l. IsPrintedInPart start new l) (append-nil output) (out_cut start old new waited output [] h (subst (λ l. IsCutOff old new l) (sym (append-nil waited)) f))
+    subst (λ l. IsPrintedInPart start new l) (append-nil output) (out_cut start old new waited output [] h (subst (λ l. FrontGoesOut old new l) (sym (append-nil waited)) f))
 
 -- what is told, and what waits, is as it was
 pub out_kept : (start old new : Option (List ℕ)) (waited waiting output : List ℕ) → new ≡ old → waiting ≡ waited → IsPrintedBefore start old waited output → IsPrintedBefore start new waiting output

@@ -8,4 +8,6 @@ mod names;
 #[cfg(test)]
 mod numbers;
 #[cfg(test)]
+mod printing;
+#[cfg(test)]
 mod world;

@@ -9,13 +9,13 @@ use Rattle.rl_text.specs.Spelling.{IsSpelled, AreTokens}
 use Rattle.rl_text.specs.Reader.{ReaderFrame, Mode, Gap, Comment, InName, InEscape, AfterSign, InNumber, InText, AfterQuote, Ended, Whole, Inside, Lacks, ReaderStep, Goes, Done, Refuses, Halts, atom_ended, reader_step, ReaderOutcome, Read, NoneLeft, Refused, Stopped, ends_after, at_end, at_end_between, after_step, read_from, read_by}
 use Rattle.rl_text.specs.Reading.{Items, plain, Found, reading, reading_of}
 use Rattle.rl_text.proofs.Classed.{class_says, sign_is_special}
-use Rattle.rl_text.proofs.SoundBytes.{TokensWith, Comes, WordGoes, Lexes, Follows, Leaves, after_value, comes_tokens, tokens_mapped}
+use Rattle.rl_text.proofs.SoundBytes.{TokensWith, Comes, WordGoes, Lexes, GoesOut, Leaves, after_value, comes_tokens, tokens_mapped}
 use Rattle.rl_text.proofs.SoundWords.{word_ends, gap_byte, gap_step, name_step, escape_step, number_step, sign_step, text_step, after_quote_step}
 
 -- ---- a byte
 
 -- a byte in a comment
-comment_step : (d : Datum) (rest : List ℕ) (b : ℕ) (bs : List ℕ) (fs : List (ReaderFrame Items)) (s : Unit {0}) → Follows d rest b bs (reader_step plain Comment b fs s) → Comes d rest true fs (b ∷ bs)
+comment_step : (d : Datum) (rest : List ℕ) (b : ℕ) (bs : List ℕ) (fs : List (ReaderFrame Items)) (s : Unit {0}) → GoesOut d rest b bs (reader_step plain Comment b fs s) → Comes d rest true fs (b ∷ bs)
 comment_step d rest b bs fs s f =
     cond_both (b == 10) Gap Comment (λ mode. Lexes d rest mode fs bs → Comes d rest true fs (b ∷ bs))
     (λ e f. gap_byte d rest true false fs b bs (λ gap g. rw e g) f)
@@ -23,7 +23,7 @@ comment_step d rest b bs fs s f =
     f
 
 -- where reading goes on after a byte, what may come begins with the byte
-byte_step : (d : Datum) (rest : List ℕ) (b : ℕ) (bs : List ℕ) (mode : Mode) (fs : List (ReaderFrame Items)) (s : Unit {0}) → Follows d rest b bs (reader_step plain mode b fs s) → Lexes d rest mode fs (b ∷ bs)
+byte_step : (d : Datum) (rest : List ℕ) (b : ℕ) (bs : List ℕ) (mode : Mode) (fs : List (ReaderFrame Items)) (s : Unit {0}) → GoesOut d rest b bs (reader_step plain mode b fs s) → Lexes d rest mode fs (b ∷ bs)
 byte_step d rest b bs Gap fs s f = gap_step d rest b bs (class_of b) fs s (class_says b) f
 byte_step d rest b bs Comment fs s f = comment_step d rest b bs fs s f
 byte_step d rest b bs (InName cs) fs s f = name_step d rest b bs cs fs s f
@@ -66,7 +66,7 @@ end_step d rest (AfterQuote cs) fs s t e = λ short. word_at_end d rest (word_te
 -- ---- all bytes
 
 -- what is read after a step comes after it
-step_follows : (d : Datum) (rest : List ℕ) (t : Unit {0}) (b : ℕ) (bs : List ℕ) → ((mode : Mode) (fs : List (ReaderFrame Items)) (s : Unit {0}) → read_from plain mode fs s bs ≡ Read d t rest → Lexes d rest mode fs bs) → (st : ReaderStep (Unit {0}) Datum Items ⊥) → after_step b bs st (λ mode fs s. read_from plain mode fs s bs) ≡ Read d t rest → Follows d rest b bs st
+step_follows : (d : Datum) (rest : List ℕ) (t : Unit {0}) (b : ℕ) (bs : List ℕ) → ((mode : Mode) (fs : List (ReaderFrame Items)) (s : Unit {0}) → read_from plain mode fs s bs ≡ Read d t rest → Lexes d rest mode fs bs) → (st : ReaderStep (Unit {0}) Datum Items ⊥) → after_step b bs st (λ mode fs s. read_from plain mode fs s bs) ≡ Read d t rest → GoesOut d rest b bs st
 step_follows d rest t b bs further (Goes mode fs s) e = further mode fs s e
 step_follows d rest t b bs further (Done v true s) e = ((cc), (cc))
 step_follows d rest t b bs further (Done v false s) e = ((cc), (cc))

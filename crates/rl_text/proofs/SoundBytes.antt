@@ -59,12 +59,12 @@ Lexes d rest (InText cs) fs bytes = length cs ≤ 65535 → WordGoes d rest (34 
 Lexes d rest (AfterQuote cs) fs bytes = length cs ≤ 65535 → WordGoes d rest (word_text (word.Text cs)) fs bytes
 
 -- what a step leads to, after its byte and before further bytes
-abbrev pub Follows : Datum → List ℕ → ℕ → List ℕ → ReaderStep (Unit {0}) Datum Items ⊥ → Type 0
-Follows d rest b bs (Goes mode fs s) = Lexes d rest mode fs bs
-Follows d rest b bs (Done v true s) = (d ≡ v) × (bs ≡ rest)
-Follows d rest b bs (Done v false s) = (d ≡ v) × (b ∷ bs ≡ rest)
-Follows d rest b bs (Refuses s) = ⊥
-Follows d rest b bs (Halts w s) = ⊥
+abbrev pub GoesOut : Datum → List ℕ → ℕ → List ℕ → ReaderStep (Unit {0}) Datum Items ⊥ → Type 0
+GoesOut d rest b bs (Goes mode fs s) = Lexes d rest mode fs bs
+GoesOut d rest b bs (Done v true s) = (d ≡ v) × (bs ≡ rest)
+GoesOut d rest b bs (Done v false s) = (d ≡ v) × (b ∷ bs ≡ rest)
+GoesOut d rest b bs (Refuses s) = ⊥
+GoesOut d rest b bs (Halts w s) = ⊥
 
 -- what may come where an element has ended
 abbrev pub Leaves : Datum → Ended (Unit {0}) Datum Items ⊥ → List LispToken → Type 0
@@ -89,7 +89,7 @@ pub comes_tokens : (d : Datum) (rest : List ℕ) (fs : List (ReaderFrame Items))
 comes_tokens d rest fs bytes c = (c.token ∷ c.tokens, (c.after, record { gap = c.gap; is_gap = c.is_gap; is = c.is; token_is = c.token_is; ends = c.ends }, c.more), c.awaited)
 
 -- an element ends with this byte
-pub ended_after : (d : Datum) (rest : List ℕ) (b : ℕ) (bs : List ℕ) (e : Ended (Unit {0}) Datum Items ⊥) → Follows d rest b bs (goes_after e) → TokensWith (Leaves d e) rest bs
+pub ended_after : (d : Datum) (rest : List ℕ) (b : ℕ) (bs : List ℕ) (e : Ended (Unit {0}) Datum Items ⊥) → GoesOut d rest b bs (goes_after e) → TokensWith (Leaves d e) rest bs
 ended_after d rest b bs (Whole v s) f = ([], f.1, (refl, f.0))
 ended_after d rest b bs (Inside fs s) f = comes_tokens d rest fs bs f
 ended_after d rest b bs (Lacks w s) f = absurd f
@@ -121,37 +121,37 @@ mark_comes d rest b bs fs mark P is f t = record {
 }
 
 -- what begins with a mark leaves a gap
-begun_comes : (d : Datum) (rest : List ℕ) (b : ℕ) (bs : List ℕ) (frame : ReaderFrame Items) (fs : List (ReaderFrame Items)) (s : Unit {0}) → Follows d rest b bs (group_begins plain frame fs s) → TokensWith (Awaited d (frame ∷ fs)) rest bs
+begun_comes : (d : Datum) (rest : List ℕ) (b : ℕ) (bs : List ℕ) (frame : ReaderFrame Items) (fs : List (ReaderFrame Items)) (s : Unit {0}) → GoesOut d rest b bs (group_begins plain frame fs s) → TokensWith (Awaited d (frame ∷ fs)) rest bs
 begun_comes d rest b bs frame fs s =
-    cond_both (is_inner fs) (Goes Gap (frame ∷ fs) s) (Goes Gap (frame ∷ fs) s) (λ st. Follows d rest b bs st → TokensWith (Awaited d (frame ∷ fs)) rest bs)
+    cond_both (is_inner fs) (Goes Gap (frame ∷ fs) s) (Goes Gap (frame ∷ fs) s) (λ st. GoesOut d rest b bs st → TokensWith (Awaited d (frame ∷ fs)) rest bs)
     (λ e f. comes_tokens d rest (frame ∷ fs) bs f) (λ e f. comes_tokens d rest (frame ∷ fs) bs f)
 
 -- what needs a place has one
-pub admitted_follows : (d : Datum) (rest : List ℕ) (b : ℕ) (bs : List ℕ) (fs : List (ReaderFrame Items)) (st : ReaderStep (Unit {0}) Datum Items ⊥) (s : Unit {0}) → Follows d rest b bs (if admits fs then st else Refuses s) → (admits fs ≡ true) × Follows d rest b bs st
+pub admitted_follows : (d : Datum) (rest : List ℕ) (b : ℕ) (bs : List ℕ) (fs : List (ReaderFrame Items)) (st : ReaderStep (Unit {0}) Datum Items ⊥) (s : Unit {0}) → GoesOut d rest b bs (if admits fs then st else Refuses s) → (admits fs ≡ true) × GoesOut d rest b bs st
 admitted_follows d rest b bs fs st s =
-    cond_both (admits fs) st (Refuses s) (λ x. Follows d rest b bs x → (admits fs ≡ true) × Follows d rest b bs st) (λ e f. (e, f)) (λ e f. absurd f)
+    cond_both (admits fs) st (Refuses s) (λ x. GoesOut d rest b bs x → (admits fs ≡ true) × GoesOut d rest b bs st) (λ e f. (e, f)) (λ e f. absurd f)
 
 -- a byte `(`
-open_comes : (d : Datum) (rest : List ℕ) (b : ℕ) (bs : List ℕ) (fs : List (ReaderFrame Items)) (s : Unit {0}) → b ≡ 40 → admits fs ≡ true → Follows d rest b bs (open_list plain fs s) → Comes d rest false fs (b ∷ bs)
+open_comes : (d : Datum) (rest : List ℕ) (b : ℕ) (bs : List ℕ) (fs : List (ReaderFrame Items)) (s : Unit {0}) → b ≡ 40 → admits fs ≡ true → GoesOut d rest b bs (open_list plain fs s) → Comes d rest false fs (b ∷ bs)
 open_comes d rest b bs (Listing l n reader.Dotted ∷ fs) s is admitted f =
     mark_comes d rest b bs (Listing l n reader.Dotted ∷ fs) Open (Awaited d (Listing l (suc n) Begun ∷ fs)) is (open_awaited_behind d fs l n) (comes_tokens d rest (Listing l (suc n) Begun ∷ fs) bs f)
 open_comes d rest b bs fs s is admitted f =
     mark_comes d rest b bs fs Open (Awaited d (Listing plain.empty 0 Begun ∷ fs)) is (λ tokens. open_awaited d fs plain.empty tokens refl refl admitted) (begun_comes d rest b bs (Listing plain.empty 0 Begun) fs s f)
 
 -- a byte `.`
-dot_comes : (d : Datum) (rest : List ℕ) (b : ℕ) (bs : List ℕ) (fs : List (ReaderFrame Items)) (s : Unit {0}) → b ≡ 46 → Follows d rest b bs (dot plain fs s) → Comes d rest false fs (b ∷ bs)
+dot_comes : (d : Datum) (rest : List ℕ) (b : ℕ) (bs : List ℕ) (fs : List (ReaderFrame Items)) (s : Unit {0}) → b ≡ 46 → GoesOut d rest b bs (dot plain fs s) → Comes d rest false fs (b ∷ bs)
 dot_comes d rest b bs (Listing l n Going ∷ fs) s is f =
     mark_comes d rest b bs (Listing l n Going ∷ fs) Dot (Awaited d (Listing l n reader.Dotted ∷ fs)) is (dot_awaited d fs l n) (comes_tokens d rest (Listing l n reader.Dotted ∷ fs) bs f)
 dot_comes d rest b bs _ s is f = absurd f
 
 -- a byte `]`
-close_vector_comes : (d : Datum) (rest : List ℕ) (b : ℕ) (bs : List ℕ) (fs : List (ReaderFrame Items)) (s : Unit {0}) → b ≡ 93 → Follows d rest b bs (close_vector plain fs s) → Comes d rest false fs (b ∷ bs)
+close_vector_comes : (d : Datum) (rest : List ℕ) (b : ℕ) (bs : List ℕ) (fs : List (ReaderFrame Items)) (s : Unit {0}) → b ≡ 93 → GoesOut d rest b bs (close_vector plain fs s) → Comes d rest false fs (b ∷ bs)
 close_vector_comes d rest b bs (Vectoring l ∷ fs) s is f =
     mark_comes d rest b bs (Vectoring l ∷ fs) CloseVector _ is (λ tokens e. close_vector_awaited d fs l tokens (after_value d fs _ _ tokens e)) (ended_after d rest b bs _ f)
 close_vector_comes d rest b bs _ s is f = absurd f
 
 -- a byte `)`
-close_comes : (d : Datum) (rest : List ℕ) (b : ℕ) (bs : List ℕ) (fs : List (ReaderFrame Items)) (s : Unit {0}) → b ≡ 41 → Follows d rest b bs (close_list plain fs s) → Comes d rest false fs (b ∷ bs)
+close_comes : (d : Datum) (rest : List ℕ) (b : ℕ) (bs : List ℕ) (fs : List (ReaderFrame Items)) (s : Unit {0}) → b ≡ 41 → GoesOut d rest b bs (close_list plain fs s) → Comes d rest false fs (b ∷ bs)
 close_comes d rest b bs (Listing l zero Begun ∷ fs) s is f =
     mark_comes d rest b bs _ Close _ is (λ tokens e. close_awaited d fs l Begun tokens (λ e. cc) (after_value d fs _ _ tokens e)) (ended_after d rest b bs _ f)
 close_comes d rest b bs (Listing l zero Going ∷ fs) s is f =
@@ -167,7 +167,7 @@ close_comes d rest b bs (Listing l (suc n) Going ∷ fs) s is f =
 close_comes d rest b bs _ s is f = absurd f
 
 -- a byte that is a mark
-pub mark_step : (d : Datum) (rest : List ℕ) (b : ℕ) (bs : List ℕ) (mark : Mark) (fs : List (ReaderFrame Items)) (s : Unit {0}) → b ≡ mark_byte mark → Follows d rest b bs (at_mark plain mark fs s) → Comes d rest false fs (b ∷ bs)
+pub mark_step : (d : Datum) (rest : List ℕ) (b : ℕ) (bs : List ℕ) (mark : Mark) (fs : List (ReaderFrame Items)) (s : Unit {0}) → b ≡ mark_byte mark → GoesOut d rest b bs (at_mark plain mark fs s) → Comes d rest false fs (b ∷ bs)
 mark_step d rest b bs Close fs s is f = close_comes d rest b bs fs s is f
 mark_step d rest b bs CloseVector fs s is f = close_vector_comes d rest b bs fs s is f
 mark_step d rest b bs Dot fs s is f = dot_comes d rest b bs fs s is f

@@ -19,7 +19,7 @@ use Rattle.rl_text.specs.Reader.{ReaderFrame, Mode, InName, InEscape, AfterSign,
 use Rattle.rl_text.specs.Reading.{Items, plain}
 use Rattle.rl_text.proofs.Classed.{IsOf, class_says, sign_is_special, plus_left}
 use Rattle.rl_text.proofs.SoundComing.{After, element_awaited}
-use Rattle.rl_text.proofs.SoundBytes.{TokensWith, Comes, WordGoes, Lexes, Follows, Leaves, after_value, comes_tokens, ended_after, tokens_mapped, mark_step, admitted_follows}
+use Rattle.rl_text.proofs.SoundBytes.{TokensWith, Comes, WordGoes, Lexes, GoesOut, Leaves, after_value, comes_tokens, ended_after, tokens_mapped, mark_step, admitted_follows}
 
 -- ---- a word ends, and a byte of it
 
@@ -107,7 +107,7 @@ special_ends c [] unsigned = tt
 special_ends c (b ∷ bs) unsigned = and_left (is_sign c) (is_digit b) unsigned
 
 -- a special that is no sign is a word
-special_word : (d : Datum) (rest : List ℕ) (fs : List (ReaderFrame Items)) (s : Unit {0}) (b : ℕ) (bs : List ℕ) → IsOf Special b → Follows d rest b bs (goes_after (atom_ended plain (Identifier (b ∷ [])) fs s)) → WordGoes d rest (b ∷ []) fs bs
+special_word : (d : Datum) (rest : List ℕ) (fs : List (ReaderFrame Items)) (s : Unit {0}) (b : ℕ) (bs : List ℕ) → IsOf Special b → GoesOut d rest b bs (goes_after (atom_ended plain (Identifier (b ∷ [])) fs s)) → WordGoes d rest (b ∷ []) fs bs
 special_word d rest fs s b bs is f =
     word_ends d rest (b ∷ []) fs bs (Single b) refl is.0 (special_ends b bs is.1)
     (tokens_mapped _ _ rest bs (after_value d fs _ s) (ended_after d rest b bs (atom_ended plain (Identifier (b ∷ [])) fs s) f))
@@ -128,7 +128,7 @@ gap_byte d rest before inside fs b bs opens c = record {
 }
 
 -- a byte in a gap, by its class
-pub gap_step : (d : Datum) (rest : List ℕ) (b : ℕ) (bs : List ℕ) (c : Class) (fs : List (ReaderFrame Items)) (s : Unit {0}) → IsOf c b → Follows d rest b bs (at_class plain c b fs s) → Comes d rest false fs (b ∷ bs)
+pub gap_step : (d : Datum) (rest : List ℕ) (b : ℕ) (bs : List ℕ) (c : Class) (fs : List (ReaderFrame Items)) (s : Unit {0}) → IsOf c b → GoesOut d rest b bs (at_class plain c b fs s) → Comes d rest false fs (b ∷ bs)
 gap_step d rest b bs Blank fs s is f = gap_byte d rest false false fs b bs (λ gap e. rw is e) f
 gap_step d rest b bs Percent fs s is f = gap_byte d rest false true fs b bs (λ gap e. rw is e) f
 gap_step d rest b bs (Marks mark) fs s is f = mark_step d rest b bs mark fs s is f
@@ -155,13 +155,13 @@ gap_step d rest b bs Nothing fs s is f = absurd f
 -- ---- an atom ends before a byte
 
 -- an element ends before this byte
-ended_before : (d : Datum) (rest : List ℕ) (b : ℕ) (bs : List ℕ) (e : Ended (Unit {0}) Datum Items ⊥) → Follows d rest b bs (goes_before plain b e) → TokensWith (Leaves d e) rest (b ∷ bs)
+ended_before : (d : Datum) (rest : List ℕ) (b : ℕ) (bs : List ℕ) (e : Ended (Unit {0}) Datum Items ⊥) → GoesOut d rest b bs (goes_before plain b e) → TokensWith (Leaves d e) rest (b ∷ bs)
 ended_before d rest b bs (Whole v s) f = ([], f.1, (refl, f.0))
 ended_before d rest b bs (Inside fs s) f = comes_tokens d rest fs (b ∷ bs) (gap_step d rest b bs (class_of b) fs s (class_says b) f)
 ended_before d rest b bs (Lacks w s) f = absurd f
 
 -- a word ends before this byte, with which it does not go on
-word_before : (d : Datum) (rest first : List ℕ) (fs : List (ReaderFrame Items)) (s : Unit {0}) (b : ℕ) (bs : List ℕ) (w : Word) → word_text w ≡ first → IsWord w → spelling_goes_on w b ≡ false → Follows d rest b bs (atom_before plain (atom_of w) b fs s) → WordGoes d rest first fs (b ∷ bs)
+word_before : (d : Datum) (rest first : List ℕ) (fs : List (ReaderFrame Items)) (s : Unit {0}) (b : ℕ) (bs : List ℕ) (w : Word) → word_text w ≡ first → IsWord w → spelling_goes_on w b ≡ false → GoesOut d rest b bs (atom_before plain (atom_of w) b fs s) → WordGoes d rest first fs (b ∷ bs)
 word_before d rest first fs s b bs w is word_is ends f =
     word_ends d rest first fs (b ∷ bs) w is word_is ends
     (tokens_mapped _ _ rest (b ∷ bs) (after_value d fs _ s) (ended_before d rest b bs (atom_ended plain (atom_of w) fs s) f))
@@ -176,9 +176,9 @@ name_grows (x ∷ xs) c name continues =
     and_from _ _ parts.0 (list_all-append continues_name xs (c ∷ []) ∙ and_from _ _ parts.1 (and_from (continues_name c) true continues refl))
 
 -- what is short goes on, and what is long does not
-grown_follows : (d : Datum) (rest : List ℕ) (b : ℕ) (bs : List ℕ) (most : ℕ) (cs : List ℕ) (mode : Mode) (fs : List (ReaderFrame Items)) (s : Unit {0}) → Follows d rest b bs (grown_to most cs mode fs s) → (length cs < most) × Lexes d rest mode fs bs
+grown_follows : (d : Datum) (rest : List ℕ) (b : ℕ) (bs : List ℕ) (most : ℕ) (cs : List ℕ) (mode : Mode) (fs : List (ReaderFrame Items)) (s : Unit {0}) → GoesOut d rest b bs (grown_to most cs mode fs s) → (length cs < most) × Lexes d rest mode fs bs
 grown_follows d rest b bs most cs mode fs s =
-    cond_both (nat_lt (length cs) most) (Goes mode fs s) (Refuses s) (λ x. Follows d rest b bs x → (length cs < most) × Lexes d rest mode fs bs) (λ e f. (ltb-true _ _ e, f)) (λ e f. absurd f)
+    cond_both (nat_lt (length cs) most) (Goes mode fs s) (Refuses s) (λ x. GoesOut d rest b bs x → (length cs < most) × Lexes d rest mode fs bs) (λ e f. (ltb-true _ _ e, f)) (λ e f. absurd f)
 
 -- one more character of a name
 name_longer : (d : Datum) (rest : List ℕ) (fs : List (ReaderFrame Items)) (bs cs : List ℕ) (chars : List Character) (c : Character) → cs ≡ map character_of chars → are_name_characters (chars ++ c ∷ []) ≡ true → length chars < 255 → Lexes d rest (InName (cs ++ character_of c ∷ [])) fs bs → WordGoes d rest (word_text (Named chars) ++ character_text c) fs bs
@@ -192,15 +192,15 @@ length_of_name : (cs : List ℕ) (chars : List Character) → cs ≡ map charact
 length_of_name cs chars is short = omega (arith, ap length is, length-map chars character_of)
 
 -- a byte in a name
-pub name_step : (d : Datum) (rest : List ℕ) (b : ℕ) (bs cs : List ℕ) (fs : List (ReaderFrame Items)) (s : Unit {0}) → Follows d rest b bs (reader_step plain (InName cs) b fs s) → Lexes d rest (InName cs) fs (b ∷ bs)
+pub name_step : (d : Datum) (rest : List ℕ) (b : ℕ) (bs cs : List ℕ) (fs : List (ReaderFrame Items)) (s : Unit {0}) → GoesOut d rest b bs (reader_step plain (InName cs) b fs s) → Lexes d rest (InName cs) fs (b ∷ bs)
 name_step d rest b bs cs fs s f chars is name short =
-    cond_both (is_name_byte b) (grown_to 255 cs (InName (cs ++ raised b ∷ [])) fs s) _ (λ x. Follows d rest b bs x → WordGoes d rest (word_text (Named chars)) fs (b ∷ bs))
+    cond_both (is_name_byte b) (grown_to 255 cs (InName (cs ++ raised b ∷ [])) fs s) _ (λ x. GoesOut d rest b bs x → WordGoes d rest (word_text (Named chars)) fs (b ∷ bs))
     (λ passes f.
     let g = grown_follows d rest b bs 255 cs (InName (cs ++ raised b ∷ [])) fs s f in
     word_byte d rest (word_text (Named chars)) fs b bs
     (name_longer d rest fs bs cs chars (Plain b) is (name_grows chars (Plain b) name passes) (length_of_name cs chars is g.0) g.1))
     (λ fails.
-    cond_both (b == 33) (grown_to 255 cs (InEscape cs) fs s) (atom_before plain (Identifier cs) b fs s) (λ x. Follows d rest b bs x → WordGoes d rest (word_text (Named chars)) fs (b ∷ bs))
+    cond_both (b == 33) (grown_to 255 cs (InEscape cs) fs s) (atom_before plain (Identifier cs) b fs s) (λ x. GoesOut d rest b bs x → WordGoes d rest (word_text (Named chars)) fs (b ∷ bs))
     (λ bang f.
     let g = grown_follows d rest b bs 255 cs (InEscape cs) fs s f in
     let w = g.1 chars is (λ c. name_grows chars (Escaped c) name refl) (length_of_name cs chars is g.0) in
@@ -210,7 +210,7 @@ name_step d rest b bs cs fs s f chars is name short =
     f
 
 -- a byte after `!`
-pub escape_step : (d : Datum) (rest : List ℕ) (b : ℕ) (bs cs : List ℕ) (fs : List (ReaderFrame Items)) (s : Unit {0}) → Follows d rest b bs (reader_step plain (InEscape cs) b fs s) → Lexes d rest (InEscape cs) fs (b ∷ bs)
+pub escape_step : (d : Datum) (rest : List ℕ) (b : ℕ) (bs cs : List ℕ) (fs : List (ReaderFrame Items)) (s : Unit {0}) → GoesOut d rest b bs (reader_step plain (InEscape cs) b fs s) → Lexes d rest (InEscape cs) fs (b ∷ bs)
 escape_step d rest b bs cs fs s f chars is name short =
     word_byte d rest (word_text (Named chars) ++ 33 ∷ []) fs b bs
     (rw (append_assoc (word_text (Named chars)) (33 ∷ []) (b ∷ [])) (name_longer d rest fs bs cs chars (Escaped b) is (name b) short f))
@@ -223,11 +223,11 @@ number_after-append n [] b = refl
 number_after-append n (d ∷ ds) b = number_after-append (10 * n + (d - 48)) ds b
 
 -- what is in range goes on
-in_number_follows : (d : Datum) (rest : List ℕ) (b : ℕ) (bs : List ℕ) (minus : Bool) (n : ℕ) (fs : List (ReaderFrame Items)) (s : Unit {0}) → Follows d rest b bs (in_number minus n fs s) → is_in_range minus n × Lexes d rest (InNumber minus n) fs bs
+in_number_follows : (d : Datum) (rest : List ℕ) (b : ℕ) (bs : List ℕ) (minus : Bool) (n : ℕ) (fs : List (ReaderFrame Items)) (s : Unit {0}) → GoesOut d rest b bs (in_number minus n fs s) → is_in_range minus n × Lexes d rest (InNumber minus n) fs bs
 in_number_follows d rest b bs true n fs s =
-    cond_both (nat_le n (2 ^ 59)) (Goes (InNumber true n) fs s) (Refuses s) (λ x. Follows d rest b bs x → (n ≤ 2 ^ 59) × Lexes d rest (InNumber true n) fs bs) (λ e f. (leb-true _ _ e, f)) (λ e f. absurd f)
+    cond_both (nat_le n (2 ^ 59)) (Goes (InNumber true n) fs s) (Refuses s) (λ x. GoesOut d rest b bs x → (n ≤ 2 ^ 59) × Lexes d rest (InNumber true n) fs bs) (λ e f. (leb-true _ _ e, f)) (λ e f. absurd f)
 in_number_follows d rest b bs false n fs s =
-    cond_both (nat_lt n (2 ^ 59)) (Goes (InNumber false n) fs s) (Refuses s) (λ x. Follows d rest b bs x → (n < 2 ^ 59) × Lexes d rest (InNumber false n) fs bs) (λ e f. (ltb-true _ _ e, f)) (λ e f. absurd f)
+    cond_both (nat_lt n (2 ^ 59)) (Goes (InNumber false n) fs s) (Refuses s) (λ x. GoesOut d rest b bs x → (n < 2 ^ 59) × Lexes d rest (InNumber false n) fs bs) (λ e f. (ltb-true _ _ e, f)) (λ e f. absurd f)
 
 -- and where the number so far is known by another name
 number_after-grown : (n : ℕ) (digits : List ℕ) (b : ℕ) → n ≡ digits_number digits → 10 * n + (b - 48) ≡ digits_number (digits ++ b ∷ [])
@@ -248,9 +248,9 @@ number_longer d rest b bs minus n fs sign digits minus_is is number digit in_ran
     (rw (append_assoc (sign_text sign) digits (b ∷ [])) (goes sign (digits ++ b ∷ []) minus_is (number_after-grown n digits b is) (more_digits sign minus n digits b minus_is is number digit in_range)))
 
 -- a byte in a number
-pub number_step : (d : Datum) (rest : List ℕ) (b : ℕ) (bs : List ℕ) (minus : Bool) (n : ℕ) (fs : List (ReaderFrame Items)) (s : Unit {0}) → Follows d rest b bs (reader_step plain (InNumber minus n) b fs s) → Lexes d rest (InNumber minus n) fs (b ∷ bs)
+pub number_step : (d : Datum) (rest : List ℕ) (b : ℕ) (bs : List ℕ) (minus : Bool) (n : ℕ) (fs : List (ReaderFrame Items)) (s : Unit {0}) → GoesOut d rest b bs (reader_step plain (InNumber minus n) b fs s) → Lexes d rest (InNumber minus n) fs (b ∷ bs)
 number_step d rest b bs minus n fs s f sign digits minus_is is number =
-    cond_both (is_digit b) (in_number minus (10 * n + (b - 48)) fs s) (atom_before plain (Integer (signed minus n)) b fs s) (λ x. Follows d rest b bs x → WordGoes d rest (word_text (Number sign digits)) fs (b ∷ bs))
+    cond_both (is_digit b) (in_number minus (10 * n + (b - 48)) fs s) (atom_before plain (Integer (signed minus n)) b fs s) (λ x. GoesOut d rest b bs x → WordGoes d rest (word_text (Number sign digits)) fs (b ∷ bs))
     (λ digit f.
     let g = in_number_follows d rest b bs minus (10 * n + (b - 48)) fs s f in
     number_longer d rest b bs minus n fs sign digits minus_is is number digit g.0 g.1)
@@ -267,9 +267,9 @@ signed_word d rest b bs c fs sign digit goes =
     ]
 
 -- a byte after a sign
-pub sign_step : (d : Datum) (rest : List ℕ) (b : ℕ) (bs : List ℕ) (c : ℕ) (fs : List (ReaderFrame Items)) (s : Unit {0}) → Follows d rest b bs (reader_step plain (AfterSign c) b fs s) → Lexes d rest (AfterSign c) fs (b ∷ bs)
+pub sign_step : (d : Datum) (rest : List ℕ) (b : ℕ) (bs : List ℕ) (c : ℕ) (fs : List (ReaderFrame Items)) (s : Unit {0}) → GoesOut d rest b bs (reader_step plain (AfterSign c) b fs s) → Lexes d rest (AfterSign c) fs (b ∷ bs)
 sign_step d rest b bs c fs s f sign =
-    cond_both (is_digit b) (Goes (InNumber (c == 45) (b - 48)) fs s) (atom_before plain (Identifier (c ∷ [])) b fs s) (λ x. Follows d rest b bs x → WordGoes d rest (c ∷ []) fs (b ∷ bs))
+    cond_both (is_digit b) (Goes (InNumber (c == 45) (b - 48)) fs s) (atom_before plain (Identifier (c ∷ [])) b fs s) (λ x. GoesOut d rest b bs x → WordGoes d rest (c ∷ []) fs (b ∷ bs))
     (λ digit f. word_byte d rest (c ∷ []) fs b bs (signed_word d rest b bs c fs sign digit f))
     (λ none f. word_before d rest (c ∷ []) fs s b bs (Single c) refl (sign_is_special c sign) (and_right (is_sign c) (is_digit b) none) f)
     f
@@ -286,9 +286,9 @@ doubled-append (x ∷ xs) ys =
     ]
 
 -- a byte in a string
-pub text_step : (d : Datum) (rest : List ℕ) (b : ℕ) (bs cs : List ℕ) (fs : List (ReaderFrame Items)) (s : Unit {0}) → Follows d rest b bs (reader_step plain (InText cs) b fs s) → Lexes d rest (InText cs) fs (b ∷ bs)
+pub text_step : (d : Datum) (rest : List ℕ) (b : ℕ) (bs cs : List ℕ) (fs : List (ReaderFrame Items)) (s : Unit {0}) → GoesOut d rest b bs (reader_step plain (InText cs) b fs s) → Lexes d rest (InText cs) fs (b ∷ bs)
 text_step d rest b bs cs fs s f short =
-    cond_both (b == 34) (Goes (AfterQuote cs) fs s) (grown_to 65535 cs (InText (cs ++ b ∷ [])) fs s) (λ x. Follows d rest b bs x → WordGoes d rest (34 ∷ doubled cs) fs (b ∷ bs))
+    cond_both (b == 34) (Goes (AfterQuote cs) fs s) (grown_to 65535 cs (InText (cs ++ b ∷ [])) fs s) (λ x. GoesOut d rest b bs x → WordGoes d rest (34 ∷ doubled cs) fs (b ∷ bs))
     (λ quote f. word_byte d rest (34 ∷ doubled cs) fs b bs (rw (eqb-true b 34 quote) (f short)))
     (λ other f.
     let g = grown_follows d rest b bs 65535 cs (InText (cs ++ b ∷ [])) fs s f in
@@ -297,9 +297,9 @@ text_step d rest b bs cs fs s f short =
     f
 
 -- a byte after a `"` in a string
-pub after_quote_step : (d : Datum) (rest : List ℕ) (b : ℕ) (bs cs : List ℕ) (fs : List (ReaderFrame Items)) (s : Unit {0}) → Follows d rest b bs (reader_step plain (AfterQuote cs) b fs s) → Lexes d rest (AfterQuote cs) fs (b ∷ bs)
+pub after_quote_step : (d : Datum) (rest : List ℕ) (b : ℕ) (bs cs : List ℕ) (fs : List (ReaderFrame Items)) (s : Unit {0}) → GoesOut d rest b bs (reader_step plain (AfterQuote cs) b fs s) → Lexes d rest (AfterQuote cs) fs (b ∷ bs)
 after_quote_step d rest b bs cs fs s f short =
-    cond_both (b == 34) (grown_to 65535 cs (InText (cs ++ 34 ∷ [])) fs s) (atom_before plain (String cs) b fs s) (λ x. Follows d rest b bs x → WordGoes d rest (word_text (word.Text cs)) fs (b ∷ bs))
+    cond_both (b == 34) (grown_to 65535 cs (InText (cs ++ 34 ∷ [])) fs s) (atom_before plain (String cs) b fs s) (λ x. GoesOut d rest b bs x → WordGoes d rest (word_text (word.Text cs)) fs (b ∷ bs))
     (λ quote f.
     let g = grown_follows d rest b bs 65535 cs (InText (cs ++ 34 ∷ [])) fs s f in
     let w = g.1 (omega (arith, g.0, length-append cs (34 ∷ []))) in

@@ -4,9 +4,9 @@ use Rattle.rl_io.specs.Told.{WhereTold}
 use Rattle.rl_io.specs.Pieces.{AppendsFront}
 
 -- the sink took a front of what waited and these bytes, none or more, and the rest waits
-abbrev pub Follows : Option (List ℕ) → List ℕ → Option (List ℕ) → List ℕ → List ℕ → Type 0
-Follows old waited new waiting bytes = WhereTold old new (λ before now. (n : ℕ) × (now ≡ before ++ take n (waited ++ bytes)) × (waiting ≡ drop n (waited ++ bytes)))
+abbrev pub GoesOut : Option (List ℕ) → List ℕ → Option (List ℕ) → List ℕ → List ℕ → Type 0
+GoesOut old waited new waiting bytes = WhereTold old new (λ before now. (n : ℕ) × (now ≡ before ++ take n (waited ++ bytes)) × (waiting ≡ drop n (waited ++ bytes)))
 
 -- a front of these bytes came to the sink, all or less
-abbrev pub IsCutOff : Option (List ℕ) → Option (List ℕ) → List ℕ → Type 0
-IsCutOff old new bytes = WhereTold old new (λ before now. AppendsFront before now bytes)
+abbrev pub FrontGoesOut : Option (List ℕ) → Option (List ℕ) → List ℕ → Type 0
+FrontGoesOut old new bytes = WhereTold old new (λ before now. AppendsFront before now bytes)

@@ -1,7 +1,7 @@
 //! Bytes that wait to be written.
 ghost use Rattle.std.specs.Prelude.{◌≡◌, [], ◌∷◌, ◌++◌, OnOk, OnErr};
 ghost use Rattle.rl_io.specs.Faults.{Rose};
-ghost use Rattle.rl_world.specs.Waiting.{Follows, IsCutOff};
+ghost use Rattle.rl_world.specs.Waiting.{GoesOut, FrontGoesOut};
 
 use arrayvec::ArrayVec;
 use rl_io::{Failed, Sink};
@@ -35,8 +35,8 @@ impl Buffer {
 
     /// Adds a byte, and writes all when they are 4,096. After `Failed` a front of them may have been written, and none waits.
     pub(crate) fn put<S: Sink>(&mut self, b: u8, sink: &mut S) -> Result<(), Failed>
-        ensures ok { OnOk result (Follows (S.contents sink.old) self.old (S.contents sink.new) self.new (b ∷ [])) }
-        ensures front { OnErr result (IsCutOff (S.contents sink.old) (S.contents sink.new) (self.old ++ b ∷ [])) }
+        ensures ok { OnOk result (GoesOut (S.contents sink.old) self.old (S.contents sink.new) self.new (b ∷ [])) }
+        ensures front { OnErr result (FrontGoesOut (S.contents sink.old) (S.contents sink.new) (self.old ++ b ∷ [])) }
         ensures dropped { OnErr result (self.new ≡ []) }
         ensures steady { OnOk result (S.faults sink.new ≡ S.faults sink.old) }
         ensures failed { OnErr result (Rose (S.faults sink.old) (S.faults sink.new)) }
@@ -52,8 +52,8 @@ impl Buffer {
 
     /// Writes all that waits. After `Failed` a front of it may have been written, and none waits.
     pub(crate) fn flush<S: Sink>(&mut self, sink: &mut S) -> Result<(), Failed>
-        ensures ok { OnOk result (Follows (S.contents sink.old) self.old (S.contents sink.new) self.new []) }
-        ensures front { IsCutOff (S.contents sink.old) (S.contents sink.new) self.old }
+        ensures ok { OnOk result (GoesOut (S.contents sink.old) self.old (S.contents sink.new) self.new []) }
+        ensures front { FrontGoesOut (S.contents sink.old) (S.contents sink.new) self.old }
         ensures empty { self.new ≡ [] }
         ensures steady { OnOk result (S.faults sink.new ≡ S.faults sink.old) }
         ensures failed { OnErr result (Rose (S.faults sink.old) (S.faults sink.new)) }

@@ -2,7 +2,7 @@
 ghost use Rattle.std.specs.Prelude.{◌≡◌, ◌≤◌, [], ◌∷◌, ◌++◌, OnOk, OnErr};
 ghost use Rattle.rl_io.specs.Faults.{Rose};
 ghost use Rattle.rl_tree.specs.Printing.{column_with};
-ghost use Rattle.rl_world.specs.Waiting.{Follows, IsCutOff};
+ghost use Rattle.rl_world.specs.Waiting.{GoesOut, FrontGoesOut};
 
 use crate::buffer::Buffer;
 use rl_io::{Failed, Sink};
@@ -46,8 +46,8 @@ impl Output {
 
     /// Prints a byte. After `Failed` a front of what waited, with the byte, may have been written, and none waits.
     pub(crate) fn put<S: Sink>(&mut self, b: u8, sink: &mut S) -> Result<(), Failed>
-        ensures ok { OnOk result (Follows (S.contents sink.old) self.old.waiting (S.contents sink.new) self.new.waiting (b ∷ [])) }
-        ensures front { OnErr result (IsCutOff (S.contents sink.old) (S.contents sink.new) (self.old.waiting ++ b ∷ [])) }
+        ensures ok { OnOk result (GoesOut (S.contents sink.old) self.old.waiting (S.contents sink.new) self.new.waiting (b ∷ [])) }
+        ensures front { OnErr result (FrontGoesOut (S.contents sink.old) (S.contents sink.new) (self.old.waiting ++ b ∷ [])) }
         ensures dropped { OnErr result (self.new.waiting ≡ []) }
         ensures page { self.new ≡ record self.old { waiting = self.new.waiting; column = column_with self.old.column b } }
         ensures steady { OnOk result (S.faults sink.new ≡ S.faults sink.old) }
@@ -63,8 +63,8 @@ impl Output {
 
     /// Writes all that waits. After `Failed` a front of it may have been written, and none waits.
     pub(crate) fn flush<S: Sink>(&mut self, sink: &mut S) -> Result<(), Failed>
-        ensures ok { OnOk result (Follows (S.contents sink.old) self.old.waiting (S.contents sink.new) self.new.waiting []) }
-        ensures front { IsCutOff (S.contents sink.old) (S.contents sink.new) self.old.waiting }
+        ensures ok { OnOk result (GoesOut (S.contents sink.old) self.old.waiting (S.contents sink.new) self.new.waiting []) }
+        ensures front { FrontGoesOut (S.contents sink.old) (S.contents sink.new) self.old.waiting }
         ensures empty { self.new ≡ record self.old { waiting = [] } }
         ensures steady { OnOk result (S.faults sink.new ≡ S.faults sink.old) }
         ensures failed { OnErr result (Rose (S.faults sink.old) (S.faults sink.new)) }

@@ -4,7 +4,7 @@ ghost use Rattle.rl_io.specs.Faults.{Rose};
 ghost use Rattle.rl_io.specs.Told.{WhereTold};
 ghost use Rattle.rl_world.specs.Input.{Gives, ended_after, given_after, to_come};
 ghost use Rattle.rl_tree.specs.Printing.{column_with};
-ghost use Rattle.rl_world.specs.Waiting.{Follows, IsCutOff};
+ghost use Rattle.rl_world.specs.Waiting.{GoesOut, FrontGoesOut};
 ghost use Rattle.rl_world.specs.Writing.{ChangesNotesAlone, ChangesOutAlone, EmptiesBuffersAlone, FlushFaults, OnlyWriteFaults};
 ghost use Rattle.rl_world.specs.declared.stop.Stop.TheVariants as stop;
 
@@ -20,8 +20,8 @@ impl World {
         b: u8,
         io: &mut Io<'_, I, O, N, F>,
     ) -> Result<(), Stop>
-        ensures ok { OnOk result (Follows (O.contents io.old.out.now) self.old.output.waiting (O.contents io.new.out.now) self.new.output.waiting (b ∷ [])) }
-        ensures front { OnErr result (IsCutOff (O.contents io.old.out.now) (O.contents io.new.out.now) (self.old.output.waiting ++ b ∷ [])) }
+        ensures ok { OnOk result (GoesOut (O.contents io.old.out.now) self.old.output.waiting (O.contents io.new.out.now) self.new.output.waiting (b ∷ [])) }
+        ensures front { OnErr result (FrontGoesOut (O.contents io.old.out.now) (O.contents io.new.out.now) (self.old.output.waiting ++ b ∷ [])) }
         ensures column { self.new.output.column ≡ column_with self.old.output.column b }
         ensures faults { OnlyWriteFaults result (O.faults io.old.out.now) (O.faults io.new.out.now) self.new.output.waiting }
         ensures outside { ChangesOutAlone self.old self.new io.old io.new }
@@ -39,8 +39,8 @@ impl World {
         b: u8,
         io: &mut Io<'_, I, O, N, F>,
     ) -> Result<(), Stop>
-        ensures ok { OnOk result (Follows (N.contents io.old.notes.now) self.old.notes (N.contents io.new.notes.now) self.new.notes (b ∷ [])) }
-        ensures front { OnErr result (IsCutOff (N.contents io.old.notes.now) (N.contents io.new.notes.now) (self.old.notes ++ b ∷ [])) }
+        ensures ok { OnOk result (GoesOut (N.contents io.old.notes.now) self.old.notes (N.contents io.new.notes.now) self.new.notes (b ∷ [])) }
+        ensures front { OnErr result (FrontGoesOut (N.contents io.old.notes.now) (N.contents io.new.notes.now) (self.old.notes ++ b ∷ [])) }
         ensures faults { OnlyWriteFaults result (N.faults io.old.notes.now) (N.faults io.new.notes.now) self.new.notes }
         ensures outside { ChangesNotesAlone self.old self.new io.old io.new }
     {
@@ -56,10 +56,10 @@ impl World {
         &mut self,
         io: &mut Io<'_, I, O, N, F>,
     ) -> Result<(), Stop>
-        ensures printed { OnOk result (Follows (O.contents io.old.out.now) self.old.output.waiting (O.contents io.new.out.now) [] []) }
-        ensures noted { OnOk result (Follows (N.contents io.old.notes.now) self.old.notes (N.contents io.new.notes.now) [] []) }
-        ensures printed_front { IsCutOff (O.contents io.old.out.now) (O.contents io.new.out.now) self.old.output.waiting }
-        ensures noted_front { IsCutOff (N.contents io.old.notes.now) (N.contents io.new.notes.now) self.old.notes }
+        ensures printed { OnOk result (GoesOut (O.contents io.old.out.now) self.old.output.waiting (O.contents io.new.out.now) [] []) }
+        ensures noted { OnOk result (GoesOut (N.contents io.old.notes.now) self.old.notes (N.contents io.new.notes.now) [] []) }
+        ensures printed_front { FrontGoesOut (O.contents io.old.out.now) (O.contents io.new.out.now) self.old.output.waiting }
+        ensures noted_front { FrontGoesOut (N.contents io.old.notes.now) (N.contents io.new.notes.now) self.old.notes }
         ensures faults { FlushFaults result (O.faults io.old.out.now) (O.faults io.new.out.now) (N.faults io.old.notes.now) (N.faults io.new.notes.now) }
         ensures outside { EmptiesBuffersAlone self.old self.new io.old io.new }
     {
@@ -87,8 +87,8 @@ impl World {
         ensures unread_end { self.old.input.ended ≡ true → io.new.input.now ≡ io.old.input.now }
         ensures back { IfOk result (λ b. IfSome self.old.input.back (λ c. b ≡ Some c)) }
         ensures place { IfOk result (λ b. self.new.input ≡ record { back = None; given = given_after b self.old.input.given; ended = ended_after b self.old.input.ended }) }
-        ensures printed { result ≢ Err stop.Write → Follows (O.contents io.old.out.now) self.old.output.waiting (O.contents io.new.out.now) [] [] }
-        ensures printed_front { IsCutOff (O.contents io.old.out.now) (O.contents io.new.out.now) self.old.output.waiting }
+        ensures printed { result ≢ Err stop.Write → GoesOut (O.contents io.old.out.now) self.old.output.waiting (O.contents io.new.out.now) [] [] }
+        ensures printed_front { FrontGoesOut (O.contents io.old.out.now) (O.contents io.new.out.now) self.old.output.waiting }
         ensures stop { IfErr result (λ s. (s ≡ stop.Write) ⊎ (s ≡ stop.Read)) }
         ensures err { OnErr result (self.new.input ≡ self.old.input) }
         ensures write_failed { result ≡ Err stop.Write → Rose (O.faults io.old.out.now) (O.faults io.new.out.now) }

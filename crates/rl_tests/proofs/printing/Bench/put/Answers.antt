@@ -3,7 +3,7 @@ use Rattle.std.proofs.Common.{◌≡◌, true, ap, rules}
 use Rattle.std.proofs.lemmas.List.{length-set}
 use Rattle.rl_cells.specs.Cell.{CellStore, is_vector, vector_of}
 use Rattle.rl_syms.specs.Frame.{KeepsIdentifiers}
-use Rattle.rl_print.proofs.tests.Bench.put.Goals as goal
+use Rattle.rl_tests.proofs.printing.Bench.put.Goals as goal
 
 pub invariant_of-self : goal.invariant_of-self
 invariant_of-self c =

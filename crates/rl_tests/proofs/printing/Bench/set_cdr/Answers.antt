@@ -1,7 +1,7 @@
 use Rattle.std.proofs.Common.{◌≡◌, true, ap, rules}
 use Rattle.rl_cells.specs.Cell.{CellStore, car_of, is_pair}
 use Rattle.rl_syms.specs.Frame.{KeepsIdentifiers}
-use Rattle.rl_print.proofs.tests.Bench.set_cdr.Goals as goal
+use Rattle.rl_tests.proofs.printing.Bench.set_cdr.Goals as goal
 
 pub invariant_of-self : goal.invariant_of-self
 invariant_of-self c =

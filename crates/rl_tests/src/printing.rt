@@ -3,9 +3,8 @@ ghost use Rattle.std.specs.Prelude.{IfOk, IsTrue};
 ghost use Rattle.rl_cells.specs.Cell.{is_wide};
 ghost use Rattle.rl_syms.specs.Table.{IsTable};
 
-use crate::atom::Style;
-use crate::print::{print1, print2};
 use rl_io::{Io, MemFiles, MemSink, MemSource};
+use rl_print::{Style, print1, print2};
 use rl_syms::laws::{others_leave_identifiers, table_is_kept};
 use rl_tags::{NIL, Tag, Val};
 use rl_world::{Limits, Stop, World};

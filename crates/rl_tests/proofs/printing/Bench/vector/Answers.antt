@@ -2,7 +2,7 @@ use Rattle.std.proofs.Common.{refl, ap, replicate}
 use Rattle.rl_tags.specs.Ids.{nil_id}
 use Rattle.rl_cells.specs.Cell.{CellStore, VectorCell}
 use Rattle.rl_syms.specs.Frame.{KeepsIdentifiers}
-use Rattle.rl_print.proofs.tests.Bench.vector.Goals as goal
+use Rattle.rl_tests.proofs.printing.Bench.vector.Goals as goal
 
 pub invariant_of-self : goal.invariant_of-self
 invariant_of-self c =

@@ -1,7 +1,7 @@
 use Rattle.std.proofs.Common.{refl, ap}
 use Rattle.rl_cells.specs.Cell.{CellStore, PairCell}
 use Rattle.rl_syms.specs.Frame.{KeepsIdentifiers}
-use Rattle.rl_print.proofs.tests.Bench.pair.Goals as goal
+use Rattle.rl_tests.proofs.printing.Bench.pair.Goals as goal
 
 pub invariant_of-self : goal.invariant_of-self
 invariant_of-self c =
