@@ -1,5 +1,5 @@
 -- Steps one after another.
-use Rattle.std.proofs.Common.{◌≡◌, ℕ, ◌-◌, true, false, None, List, [], refl, sym, ap, subst, ◌∙◌, Ok, Err, pos}
+use Rattle.std.proofs.Common.{◌≡◌, ℕ, true, false, None, List, [], refl, sym, ap, subst, ◌∙◌, Ok, Err, pos}
 use Rattle.rl_tags.specs.Tagged.{Tagged, Number, IdAt, StrAt, PairAt, VectorAt, BigAt, FunAt}
 use Rattle.std.specs.Prelude.{slice_index_or}
 use Rattle.rl_tags.specs.Ids.{nil_id}
