@@ -6,6 +6,3 @@ mod objects;
 mod store;
 
 pub use store::{Cells, Full, Mark};
-
-#[cfg(test)]
-mod tests;

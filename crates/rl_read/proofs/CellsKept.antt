@@ -1,9 +1,9 @@
 -- Reading makes objects and changes only pairs that it made itself: each operation leaves the cells that stood at first.
-use Rattle.std.proofs.Common.{◌≡◌, ℕ, zero, suc, ◌+◌, ◌<◌, ◌≤◌, ◌^◌, Bool, true, false, nat_le, if◌then◌else◌, List, [], ◌++◌, length, get_or, set, Option, None, Some, refl, ap, subst, ◌∙◌, arith}
+use Rattle.std.proofs.Common.{◌≡◌, ℕ, zero, suc, ◌≤◌, ◌^◌, Bool, true, false, nat_le, if◌then◌else◌, List, ◌++◌, length, Option, None, Some, refl, subst, ◌∙◌, arith}
 use Rattle.std.proofs.lemmas.List.{get_or_append_left, get_or-set_other, length-append, length-set}
-use Rattle.rl_tags.specs.Tagged.{Tagged, IdAt, StrAt, PairAt, VectorAt}
-use Rattle.rl_cells.specs.Cell.{Cell, PairCell, StrCell, VectorCell, More, car_of, cell_at, changed_at, cost_of, grown, placed}
-use Rattle.rl_syms.specs.Made.{id_cost, new_id, with_id}
+use Rattle.rl_tags.specs.Tagged.{Tagged, StrAt, PairAt, VectorAt}
+use Rattle.rl_cells.specs.Cell.{Cell, PairCell, StrCell, VectorCell, More, car_of, changed_at, cost_of, placed}
+use Rattle.rl_syms.specs.Made.{id_cost}
 use Rattle.rl_syms.specs.Table.{ids_from, nil_value}
 use Rattle.rl_tree.specs.Name.{Name, quote_name}
 use Rattle.rl_text.specs.Datum.{Datum}
@@ -12,11 +12,11 @@ use Rattle.rl_text.specs.Makers.{MakerRelations, MadeRelated, both_have, first_w
 use Rattle.rl_text.specs.Reader.{ReaderOutcome, Read, NoneLeft, Refused, Stopped, read_by}
 use Rattle.rl_text.specs.Reading.{Items, plain}
 use Rattle.rl_text.specs.Word.{Atom, Integer, Identifier, String}
-use Rattle.rl_world.specs.Counts.{tick_stop, room_stop, roomed}
+use Rattle.rl_world.specs.Counts.{tick_stop, room_stop}
 use Rattle.rl_world.specs.declared.stop.Stop.{Stop}
 use Rattle.rl_world.specs.declared.stop.Stop.TheVariants as stop
 use Rattle.rl_read.specs.ReadingKeepsCells.{ReadingKeepsCells, CellsStay}
-use Rattle.rl_read.specs.Stock.{Stock, PairChain, and_then_made, atom_made, chain_ended, chain_extended, chain_hung, elements_of, entered, entered_at, identifier_at, identifier_made, in_stock, named_among, object_made, pair_made, quote_made, stock_with_cdr, turned, turned_at, vector_made, vector_with, with_room, with_room_at}
+use Rattle.rl_read.specs.Stock.{Stock, PairChain, and_then_made, atom_made, chain_ended, chain_extended, chain_hung, elements_of, entered, entered_at, identifier_at, identifier_made, in_stock, named_among, object_made, pair_made, quote_made, stock_with_cdr, turned, turned_at, vector_made, with_room, with_room_at}
 
 -- ---- cells
 
@@ -79,12 +79,12 @@ module _ (old : List Cell) where
       at zero = h
       at (suc n) = (h, tt)
 
-  room_makes_at : (o : Option Stop) (k : Stock) → CellsStay old k.cells.cells → Makes Anything (with_room_at o k)
-  room_makes_at (Some s) k h = h
-  room_makes_at None k h = (h, tt)
+  room_makes_at : (o : Option Stop) (cost : ℕ) (k : Stock) → CellsStay old k.cells.cells → Makes Anything (with_room_at o cost k)
+  room_makes_at (Some s) cost k h = h
+  room_makes_at None cost k h = (h, tt)
 
   room_makes : (cost : ℕ) (k : Stock) → CellsStay old k.cells.cells → Makes Anything (with_room cost k)
-  room_makes cost k h = room_makes_at (room_stop k.counts k.cells cost) (record k { counts = roomed k.counts cost }) h
+  room_makes cost k h = room_makes_at (room_stop k.counts k.cells cost) cost k h
 
   object_makes : (P : Tagged → Type 0) (at : ℕ → Tagged) (c : Cell) (k : Stock) → ((n : ℕ) → length old ≤ n → P (at n)) → CellsStay old k.cells.cells → Makes P (object_made at c k)
   object_makes P at c k f h = then_makes Anything P (with_room (cost_of c) k) _ (room_makes (cost_of c) k h) (λ u k h t. (stand_added old k.cells.cells (placed c) h, f (length k.cells.cells) h.longer))

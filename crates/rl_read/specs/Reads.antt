@@ -29,9 +29,8 @@ pub record IsRefusal (w : World) (answer : Bool → ReadAnswer) (from : List ℕ
   pub refused : (t : Bool) → answer t ≡ Refused made from
   pub stays : record made { left = (stock_of w).left } ≡ stock_of w
 
-pub record IsStopped (answer : Bool → ReadAnswer) (s : Stop) (rest : List ℕ) : Type 0 where
-  pub made : Stock
-  pub stopped : (t : Bool) → answer t ≡ Stopped s made rest
+abbrev pub IsStopped : (Bool → ReadAnswer) → Stop → List ℕ → Stock → Type 0
+IsStopped answer s rest made = (t : Bool) → answer t ≡ Stopped s made rest
 
 -- from here on reading comes to what it comes to from the start, and so many bytes were given
 pub record IsGoing (turns : Bool) (start : World) (m : Mode) (fs : List (ReaderFrame PairChain)) (k : Stock) (given : ℕ) (before now : List ℕ) : Type 0 where
@@ -48,9 +47,9 @@ pub record IsRefusedText (turns : Bool) (old new : World) (before now : List ℕ
   pub place : k ≡ min (length before - length from) (2 ^ 64 - 1)
   pub given : now ≡ drop 1 from
 
-pub record IsStoppedText (turns : Bool) (old : World) (before now : List ℕ) (s : Stop) : Type 0 where
-  pub made : Stock
-  pub stopped : read_by (in_stock turns) (stock_of old) before ≡ Stopped s made now
+-- it stops, and what was made and counted before is in the world
+abbrev pub IsStoppedText : Bool → World → World → List ℕ → List ℕ → Stop → Type 0
+IsStoppedText turns old new before now s = read_by (in_stock turns) (stock_of old) before ≡ Stopped s (stock_of new) now
 
 -- cells, names, counts, levels, what waits for the output and the place in the input alone have changed; what was live is, and names stay
 pub record KeepsByReading (old new : World) : Type 0 where

@@ -95,14 +95,14 @@ inner_ended p c k = chain_ended c nil_value k
 -- ---- what was wanting
 
 -- it stops for want of this
-abbrev pub Lacks : {A : Type 0} → Made Stock A Stop → Stop → Type 0
-Lacks made s = (k : Stock) × (made ≡ Wants s k)
+abbrev pub Lacks : {A : Type 0} → Made Stock A Stop → Stop → Stock → Type 0
+Lacks made s k = made ≡ Wants s k
 
-abbrev pub IsLacking : (Bool → reader.Ended Stock Tagged PairChain Stop) → Stop → Type 0
-IsLacking chain_ended s = (k : Stock) × ((t : Bool) → chain_ended t ≡ reader.Lacks s k)
+abbrev pub IsLacking : (Bool → reader.Ended Stock Tagged PairChain Stop) → Stop → Stock → Type 0
+IsLacking chain_ended s k = (t : Bool) → chain_ended t ≡ reader.Lacks s k
 
-abbrev pub IsHalting : (Bool → reader.ReaderStep Stock Tagged PairChain Stop) → Stop → Type 0
-IsHalting step s = (k : Stock) × ((t : Bool) → step t ≡ reader.Halts s k)
+abbrev pub IsHalting : (Bool → reader.ReaderStep Stock Tagged PairChain Stop) → Stop → Stock → Type 0
+IsHalting step s k = (t : Bool) → step t ≡ reader.Halts s k
 
 -- ---- what it comes to
 

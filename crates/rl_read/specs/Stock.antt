@@ -50,13 +50,13 @@ abbrev pub and_then_made : {A B : Type 0} → Made Stock A Stop → (A → Stock
 and_then_made (Has a k) next = next a k
 and_then_made (Wants s k) next = Wants s k
 
-abbrev pub with_room_at : Option Stop → Stock → Made Stock (Unit {0}) Stop
-with_room_at (Some s) k = Wants s k
-with_room_at None k = Has tt k
+abbrev pub with_room_at : Option Stop → ℕ → Stock → Made Stock (Unit {0}) Stop
+with_room_at (Some s) cost k = Wants s k
+with_room_at None cost k = Has tt (record k { counts = roomed k.counts cost })
 
 -- room is asked for before cells are taken
 abbrev pub with_room : ℕ → Stock → Made Stock (Unit {0}) Stop
-with_room cost k = with_room_at (room_stop k.counts k.cells cost) (record k { counts = roomed k.counts cost })
+with_room cost k = with_room_at (room_stop k.counts k.cells cost) cost k
 
 -- a new object, by what names a place
 abbrev pub object_made : (ℕ → Tagged) → Cell → Stock → Made Stock Tagged Stop

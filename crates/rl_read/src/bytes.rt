@@ -46,7 +46,7 @@ pub trait Bytes {
     /// This byte may be put back.
     ghost may_put: { Self → Input → ℕ → Type 0 };
 
-    /// The next byte; None exactly where none is left. It takes a turn, where bytes take turns.
+    /// The next byte; None exactly where none is left. It takes a turn, where bytes take turns. After a stop the counts are as before.
     fn next(&mut self, w: &mut World) -> Result<Option<u8>, Stop>
         ensures gives { IfOk result (λ b. TakesBytes (unread self.old w.old.input) (unread self.new w.new.input) (λ before now. Gives before now b)) }
         ensures turn { IfOk result (λ b. IsGiven (takes_turns self.old) w.old w.new b) }

@@ -163,7 +163,7 @@ pub(crate) fn begin(
 ) -> Result<Group, Stop>
     requires { IsReadyToRead base w.old outer.now }
     ensures ok { IfOk result (λ g. (t : Bool) → opening_frame (in_stock t) opening (frames_in base w.old outer.now) (stock_of w.old) ≡ Goes Gap (frames_in base w.new g) (stock_of w.new)) }
-    ensures stop { IfErr result (λ s. IsHalting (λ t. opening_frame (in_stock t) opening (frames_in base w.old outer.now) (stock_of w.old)) s) }
+    ensures stop { IfErr result (λ s. IsHalting (λ t. opening_frame (in_stock t) opening (frames_in base w.old outer.now) (stock_of w.old)) s (stock_of w.new)) }
     ensures counted { IfErr result (λ s. is_counted s ≡ true) }
     ensures ready { IfOk result (λ g. IsReadyToRead base w.new g) }
     ensures steady { IsSteady base w.old.levels w.new.levels }
@@ -215,7 +215,7 @@ fn keep(w: &mut World, opening: Opening, outer: &Group, base: u64) -> Result<Gro
     requires ready { IsReadyToRead base w.old outer.now }
     requires inner { is_inner_group outer.now ≡ true }
     ensures ok { IfOk result (λ g. (t : Bool) → opening_frame (in_stock t) opening (frames_in base w.old outer.now) (stock_of w.old) ≡ Goes Gap (frames_in base w.new g) (stock_of w.new)) }
-    ensures stop { IfErr result (λ s. IsHalting (λ t. opening_frame (in_stock t) opening (frames_in base w.old outer.now) (stock_of w.old)) s) }
+    ensures stop { IfErr result (λ s. IsHalting (λ t. opening_frame (in_stock t) opening (frames_in base w.old outer.now) (stock_of w.old)) s (stock_of w.new)) }
     ensures counted { IfErr result (λ s. is_counted s ≡ true) }
     ensures ready { IfOk result (λ g. IsReadyToRead base w.new g) }
     ensures steady { IsSteady base w.old.levels w.new.levels }

@@ -31,7 +31,7 @@ pub(crate) fn pair(w: &mut World, car: Val, cdr: Val) -> Result<Val, Stop>
     requires car { IsTrue (is_live w.old.cells.cells car) }
     requires cdr { IsTrue (is_live w.old.cells.cells cdr) }
     ensures ok { IfOk result (λ v. pair_made car cdr (stock_of w.old) ≡ Has v (stock_of w.new)) }
-    ensures stop { IfErr result (λ s. Lacks (pair_made car cdr (stock_of w.old)) s) }
+    ensures stop { IfErr result (λ s. Lacks (pair_made car cdr (stock_of w.old)) s (stock_of w.new)) }
     ensures counted { IfErr result (λ s. is_counted s ≡ true) }
     ensures pair { IfOk result (λ v. IsTrue (is_pair w.new.cells.cells v)) }
     ensures longer { IfOk result (λ v. length w.old.cells.cells + 1 ≤ length w.new.cells.cells) }
@@ -49,7 +49,7 @@ fn string(w: &mut World, bytes: &[u8]) -> Result<Val, Stop>
     requires able { CanMake w.old }
     requires short { length bytes.now ≤ 65535 }
     ensures ok { IfOk result (λ v. object_made (λ n. StrAt n) (StrCell bytes.now) (stock_of w.old) ≡ Has v (stock_of w.new)) }
-    ensures stop { IfErr result (λ s. Lacks (object_made (λ n. StrAt n) (StrCell bytes.now) (stock_of w.old)) s) }
+    ensures stop { IfErr result (λ s. Lacks (object_made (λ n. StrAt n) (StrCell bytes.now) (stock_of w.old)) s (stock_of w.new)) }
     ensures counted { IfErr result (λ s. is_counted s ≡ true) }
     ensures live { IfOk result (λ v. IsTrue (is_live w.new.cells.cells v)) }
     ensures able { CanMake w.new }
@@ -69,7 +69,7 @@ fn identifier(w: &mut World, name: &[u8]) -> Result<Val, Stop>
     requires some { 1 ≤ length name.now }
     requires short { length name.now ≤ 255 }
     ensures ok { IfOk result (λ v. identifier_made name.now (stock_of w.old) ≡ Has v (stock_of w.new)) }
-    ensures stop { IfErr result (λ s. Lacks (identifier_made name.now (stock_of w.old)) s) }
+    ensures stop { IfErr result (λ s. Lacks (identifier_made name.now (stock_of w.old)) s (stock_of w.new)) }
     ensures counted { IfErr result (λ s. is_counted s ≡ true) }
     ensures live { IfOk result (λ v. IsTrue (is_live w.new.cells.cells v)) }
     ensures able { CanMake w.new }
@@ -88,7 +88,7 @@ fn new_identifier(w: &mut World, name: &[u8]) -> Result<Val, Stop>
     requires short { length name.now ≤ 255 }
     requires free { IsFree w.old.cells.cells w.old.syms.head name.now }
     ensures ok { IfOk result (λ v. identifier_at None name.now (stock_of w.old) ≡ Has v (stock_of w.new)) }
-    ensures stop { IfErr result (λ s. Lacks (identifier_at None name.now (stock_of w.old)) s) }
+    ensures stop { IfErr result (λ s. Lacks (identifier_at None name.now (stock_of w.old)) s (stock_of w.new)) }
     ensures counted { IfErr result (λ s. is_counted s ≡ true) }
     ensures live { IfOk result (λ v. IsTrue (is_live w.new.cells.cells v)) }
     ensures able { CanMake w.new }
@@ -106,7 +106,7 @@ pub(crate) fn make_atom(w: &mut World, a: Atom<'_>) -> Result<Val, Stop>
     requires able { CanMake w.old }
     requires atom { IsAtom a }
     ensures ok { IfOk result (λ v. atom_made (atom_meant a.entry) (stock_of w.old) ≡ Has v (stock_of w.new)) }
-    ensures stop { IfErr result (λ s. Lacks (atom_made (atom_meant a.entry) (stock_of w.old)) s) }
+    ensures stop { IfErr result (λ s. Lacks (atom_made (atom_meant a.entry) (stock_of w.old)) s (stock_of w.new)) }
     ensures counted { IfErr result (λ s. is_counted s ≡ true) }
     ensures live { IfOk result (λ v. IsTrue (is_live w.new.cells.cells v)) }
     ensures able { CanMake w.new }
@@ -124,7 +124,7 @@ pub(crate) fn extended(w: &mut World, chain: &Chain, v: Val) -> Result<Chain, St
     requires chain { IsChain w.old.cells.cells chain.now }
     requires live { IsTrue (is_live w.old.cells.cells v) }
     ensures ok { IfOk result (λ c. stock.chain_extended (chain_of chain.now) v (stock_of w.old) ≡ Has (chain_of c) (stock_of w.new)) }
-    ensures stop { IfErr result (λ s. Lacks (stock.chain_extended (chain_of chain.now) v (stock_of w.old)) s) }
+    ensures stop { IfErr result (λ s. Lacks (stock.chain_extended (chain_of chain.now) v (stock_of w.old)) s (stock_of w.new)) }
     ensures counted { IfErr result (λ s. is_counted s ≡ true) }
     ensures chain { IfOk result (λ c. IsChain w.new.cells.cells c) }
     ensures longer { IfOk result (λ c. length w.old.cells.cells + 1 ≤ length w.new.cells.cells) }
@@ -226,7 +226,7 @@ pub(crate) fn vector(w: &mut World, chain: &Chain) -> Result<Val, Stop>
     requires able { CanMake w.old }
     requires chain { IsChain w.old.cells.cells chain.now }
     ensures ok { IfOk result (λ v. vector_made (chain_of chain.now) (stock_of w.old) ≡ Has v (stock_of w.new)) }
-    ensures stop { IfErr result (λ s. Lacks (vector_made (chain_of chain.now) (stock_of w.old)) s) }
+    ensures stop { IfErr result (λ s. Lacks (vector_made (chain_of chain.now) (stock_of w.old)) s (stock_of w.new)) }
     ensures counted { IfErr result (λ s. is_counted s ≡ true) }
     ensures live { IfOk result (λ v. IsTrue (is_live w.new.cells.cells v)) }
     ensures able { CanMake w.new }
@@ -252,7 +252,7 @@ pub(crate) fn quoted(w: &mut World, e: Val) -> Result<Val, Stop>
     requires able { CanMake w.old }
     requires live { IsTrue (is_live w.old.cells.cells e) }
     ensures ok { IfOk result (λ v. quote_made e (stock_of w.old) ≡ Has v (stock_of w.new)) }
-    ensures stop { IfErr result (λ s. Lacks (quote_made e (stock_of w.old)) s) }
+    ensures stop { IfErr result (λ s. Lacks (quote_made e (stock_of w.old)) s (stock_of w.new)) }
     ensures counted { IfErr result (λ s. is_counted s ≡ true) }
     ensures live { IfOk result (λ v. IsTrue (is_live w.new.cells.cells v)) }
     ensures able { CanMake w.new }

@@ -50,7 +50,7 @@ pub fn read_form<T: Bytes>(w: &mut World, text: &mut T) -> Result<Val, ReadFault
     ensures ok { IfOk result (λ v. TakesBytes (T.unread text.old w.old.input) (T.unread text.new w.new.input) (λ before now. read_by (in_stock (T.takes_turns text.old)) (stock_of w.old) before ≡ Read v (stock_of w.new) now)) }
     ensures syntax { (k : ℕ) → result ≡ Err (fault.Syntax k) → TakesBytes (T.unread text.old w.old.input) (T.unread text.new w.new.input) (λ before now. IsRefusedText (T.takes_turns text.old) w.old w.new before now k) }
     ensures end { result ≡ Err fault.End → TakesBytes (T.unread text.old w.old.input) (T.unread text.new w.new.input) (λ before now. read_by (in_stock (T.takes_turns text.old)) (stock_of w.old) before ≡ NoneLeft (stock_of w.new)) }
-    ensures stop { (s : Stop) → result ≡ Err (fault.Stop s) → is_fault s ≡ false → TakesBytes (T.unread text.old w.old.input) (T.unread text.new w.new.input) (λ before now. IsStoppedText (T.takes_turns text.old) w.old before now s) }
+    ensures stop { (s : Stop) → result ≡ Err (fault.Stop s) → is_fault s ≡ false → TakesBytes (T.unread text.old w.old.input) (T.unread text.new w.new.input) (λ before now. IsStoppedText (T.takes_turns text.old) w.old w.new before now s) }
     ensures counted { (s : Stop) → result ≡ Err (fault.Stop s) → is_fault s ≡ false → is_counted s ≡ true }
     ensures printed { result ≢ Err (fault.Stop stop.Write) → WhereTold (T.printed text.old w.old.output.waiting) (T.printed text.new w.new.output.waiting) (λ before now. now ≡ before) }
     ensures read_failed { result ≡ Err (fault.Stop stop.Read) → Rose (T.reads text.old) (T.reads text.new) }
@@ -122,7 +122,7 @@ fn at_end(
     ensures ok { IfOk result (λ v. (t : Bool) → reader.at_end (in_stock t) (mode_of mode word.now.items) (frames_in base w.old group) (stock_of w.old) ≡ Read v (stock_of w.new) []) }
     ensures syntax { (j : ℕ) → result ≡ Err (fault.Syntax j) → (j ≡ k) × IsRefusal w.new (λ t. reader.at_end (in_stock t) (mode_of mode word.now.items) (frames_in base w.old group) (stock_of w.old)) [] }
     ensures end { result ≡ Err fault.End → (t : Bool) → reader.at_end (in_stock t) (mode_of mode word.now.items) (frames_in base w.old group) (stock_of w.old) ≡ NoneLeft (stock_of w.new) }
-    ensures stop { (s : Stop) → result ≡ Err (fault.Stop s) → IsStopped (λ t. reader.at_end (in_stock t) (mode_of mode word.now.items) (frames_in base w.old group) (stock_of w.old)) s [] }
+    ensures stop { (s : Stop) → result ≡ Err (fault.Stop s) → IsStopped (λ t. reader.at_end (in_stock t) (mode_of mode word.now.items) (frames_in base w.old group) (stock_of w.old)) s [] (stock_of w.new) }
     ensures counted { (s : Stop) → result ≡ Err (fault.Stop s) → is_counted s ≡ true }
     ensures live { IfOk result (λ v. IsTrue (is_live w.new.cells.cells v)) }
     ensures able { CanMake w.new }
@@ -168,7 +168,7 @@ fn word_at_end(
     ensures ok { IfOk result (λ v. (t : Bool) → reader.ends_after (reader.atom_ended (in_stock t) (word_atom mode word.now.items) (frames_in base w.old group) (stock_of w.old)) ≡ Read v (stock_of w.new) []) }
     ensures syntax { (j : ℕ) → result ≡ Err (fault.Syntax j) → (j ≡ k) × IsRefusal w.new (λ t. reader.ends_after (reader.atom_ended (in_stock t) (word_atom mode word.now.items) (frames_in base w.old group) (stock_of w.old))) [] }
     ensures end { result ≢ Err fault.End }
-    ensures stop { (s : Stop) → result ≡ Err (fault.Stop s) → IsStopped (λ t. reader.ends_after (reader.atom_ended (in_stock t) (word_atom mode word.now.items) (frames_in base w.old group) (stock_of w.old))) s [] }
+    ensures stop { (s : Stop) → result ≡ Err (fault.Stop s) → IsStopped (λ t. reader.ends_after (reader.atom_ended (in_stock t) (word_atom mode word.now.items) (frames_in base w.old group) (stock_of w.old))) s [] (stock_of w.new) }
     ensures counted { (s : Stop) → result ≡ Err (fault.Stop s) → is_counted s ≡ true }
     ensures live { IfOk result (λ v. IsTrue (is_live w.new.cells.cells v)) }
     ensures able { CanMake w.new }

@@ -47,7 +47,7 @@ pub(crate) fn value_ended(w: &mut World, v: Val, group: Group, base: u64) -> Res
     requires ready { IsReadyToRead base w.old group }
     requires live { IsTrue (is_live w.old.cells.cells v) }
     ensures ok { IfOk result (λ e. (t : Bool) → reader.value_ended (in_stock t) v (frames_in base w.old group) (stock_of w.old) ≡ ended_of base w.new e) }
-    ensures stop { IfErr result (λ s. IsLacking (λ t. reader.value_ended (in_stock t) v (frames_in base w.old group) (stock_of w.old)) s) }
+    ensures stop { IfErr result (λ s. IsLacking (λ t. reader.value_ended (in_stock t) v (frames_in base w.old group) (stock_of w.old)) s (stock_of w.new)) }
     ensures counted { IfErr result (λ s. is_counted s ≡ true) }
     ensures ended { IfOk result (λ e. IsEnded base w.new e) }
     ensures able { CanMake w.new }
@@ -81,7 +81,7 @@ fn in_place(w: &mut World, v: Val, group: Group, base: u64) -> Result<Ended, Sto
     requires place { is_quote_group group ≡ false }
     requires live { IsTrue (is_live w.old.cells.cells v) }
     ensures ok { IfOk result (λ e. (t : Bool) → reader.value_ended (in_stock t) v (frames_in base w.old group) (stock_of w.old) ≡ ended_of base w.new e) }
-    ensures stop { IfErr result (λ s. IsLacking (λ t. reader.value_ended (in_stock t) v (frames_in base w.old group) (stock_of w.old)) s) }
+    ensures stop { IfErr result (λ s. IsLacking (λ t. reader.value_ended (in_stock t) v (frames_in base w.old group) (stock_of w.old)) s (stock_of w.new)) }
     ensures counted { IfErr result (λ s. is_counted s ≡ true) }
     ensures ended { IfOk result (λ e. IsEnded base w.new e) }
     ensures able { CanMake w.new }
@@ -113,7 +113,7 @@ fn in_list(
     requires ready { IsReadyToRead base w.old (rl_group.List l owed phase) }
     requires live { IsTrue (is_live w.old.cells.cells v) }
     ensures ok { IfOk result (λ e. (t : Bool) → reader.value_ended (in_stock t) v (frames_in base w.old (rl_group.List l owed phase)) (stock_of w.old) ≡ ended_of base w.new e) }
-    ensures stop { IfErr result (λ s. IsLacking (λ t. reader.value_ended (in_stock t) v (frames_in base w.old (rl_group.List l owed phase)) (stock_of w.old)) s) }
+    ensures stop { IfErr result (λ s. IsLacking (λ t. reader.value_ended (in_stock t) v (frames_in base w.old (rl_group.List l owed phase)) (stock_of w.old)) s (stock_of w.new)) }
     ensures counted { IfErr result (λ s. is_counted s ≡ true) }
     ensures ended { IfOk result (λ e. IsEnded base w.new e) }
     ensures able { CanMake w.new }
@@ -137,7 +137,7 @@ fn bracket_ended(w: &mut World, v: Val, group: &Group, base: u64) -> Result<Step
     requires inside { group.now ≢ rl_group.Root }
     requires live { IsTrue (is_live w.old.cells.cells v) }
     ensures ok { IfOk result (λ r. (t : Bool) → reader.goes_after (reader.value_ended (in_stock t) v (frames_around base w.old group.now) (reader.left (in_stock t) (frames_around base w.old group.now) (stock_of w.old))) ≡ step_of base w.new [] r) }
-    ensures stop { IfErr result (λ s. IsHalting (λ t. reader.goes_after (reader.value_ended (in_stock t) v (frames_around base w.old group.now) (reader.left (in_stock t) (frames_around base w.old group.now) (stock_of w.old)))) s) }
+    ensures stop { IfErr result (λ s. IsHalting (λ t. reader.goes_after (reader.value_ended (in_stock t) v (frames_around base w.old group.now) (reader.left (in_stock t) (frames_around base w.old group.now) (stock_of w.old)))) s (stock_of w.new)) }
     ensures counted { IfErr result (λ s. is_counted s ≡ true) }
     ensures step { IfOk result (λ r. IsStep base w.new [] r) }
     ensures able { CanMake w.new }
@@ -165,7 +165,7 @@ fn goes_after(ended: Ended) -> Step
 fn close_list(w: &mut World, group: &Group, base: u64) -> Result<Step, Stop>
     requires ready { IsReadyToRead base w.old group.now }
     ensures ok { IfOk result (λ r. (t : Bool) → reader.close_list (in_stock t) (frames_in base w.old group.now) (stock_of w.old) ≡ step_of base w.new [] r) }
-    ensures stop { IfErr result (λ s. IsHalting (λ t. reader.close_list (in_stock t) (frames_in base w.old group.now) (stock_of w.old)) s) }
+    ensures stop { IfErr result (λ s. IsHalting (λ t. reader.close_list (in_stock t) (frames_in base w.old group.now) (stock_of w.old)) s (stock_of w.new)) }
     ensures counted { IfErr result (λ s. is_counted s ≡ true) }
     ensures step { IfOk result (λ r. IsStep base w.new [] r) }
     ensures able { CanMake w.new }
@@ -188,7 +188,7 @@ fn close_at(
     requires ready { IsReadyToRead base w.old group.now }
     requires list { group.now ≡ rl_group.List l.now owed phase.now }
     ensures ok { IfOk result (λ r. (t : Bool) → reader.close_list (in_stock t) (frames_in base w.old group.now) (stock_of w.old) ≡ step_of base w.new [] r) }
-    ensures stop { IfErr result (λ s. IsHalting (λ t. reader.close_list (in_stock t) (frames_in base w.old group.now) (stock_of w.old)) s) }
+    ensures stop { IfErr result (λ s. IsHalting (λ t. reader.close_list (in_stock t) (frames_in base w.old group.now) (stock_of w.old)) s (stock_of w.new)) }
     ensures counted { IfErr result (λ s. is_counted s ≡ true) }
     ensures step { IfOk result (λ r. IsStep base w.new [] r) }
     ensures able { CanMake w.new }
@@ -213,7 +213,7 @@ fn close_level(
     requires list { group.now ≡ rl_group.List l.now owed phase.now }
     requires undotted { phase.now ≢ rl_phase.Dotted }
     ensures ok { IfOk result (λ r. (t : Bool) → reader.close_list (in_stock t) (frames_in base w.old group.now) (stock_of w.old) ≡ step_of base w.new [] r) }
-    ensures stop { IfErr result (λ s. IsHalting (λ t. reader.close_list (in_stock t) (frames_in base w.old group.now) (stock_of w.old)) s) }
+    ensures stop { IfErr result (λ s. IsHalting (λ t. reader.close_list (in_stock t) (frames_in base w.old group.now) (stock_of w.old)) s (stock_of w.new)) }
     ensures counted { IfErr result (λ s. is_counted s ≡ true) }
     ensures step { IfOk result (λ r. IsStep base w.new [] r) }
     ensures able { CanMake w.new }
@@ -246,7 +246,7 @@ fn end_inner(w: &mut World, l: &Chain, phase: &Phase)
 fn close_vector(w: &mut World, group: &Group, base: u64) -> Result<Step, Stop>
     requires ready { IsReadyToRead base w.old group.now }
     ensures ok { IfOk result (λ r. (t : Bool) → reader.close_vector (in_stock t) (frames_in base w.old group.now) (stock_of w.old) ≡ step_of base w.new [] r) }
-    ensures stop { IfErr result (λ s. IsHalting (λ t. reader.close_vector (in_stock t) (frames_in base w.old group.now) (stock_of w.old)) s) }
+    ensures stop { IfErr result (λ s. IsHalting (λ t. reader.close_vector (in_stock t) (frames_in base w.old group.now) (stock_of w.old)) s (stock_of w.new)) }
     ensures counted { IfErr result (λ s. is_counted s ≡ true) }
     ensures step { IfOk result (λ r. IsStep base w.new [] r) }
     ensures able { CanMake w.new }
@@ -263,7 +263,7 @@ fn vector_closed(w: &mut World, c: &Chain, group: &Group, base: u64) -> Result<S
     requires ready { IsReadyToRead base w.old group.now }
     requires vector { vector_in_group group.now ≡ Some c.now }
     ensures ok { IfOk result (λ r. (t : Bool) → reader.close_vector (in_stock t) (frames_in base w.old group.now) (stock_of w.old) ≡ step_of base w.new [] r) }
-    ensures stop { IfErr result (λ s. IsHalting (λ t. reader.close_vector (in_stock t) (frames_in base w.old group.now) (stock_of w.old)) s) }
+    ensures stop { IfErr result (λ s. IsHalting (λ t. reader.close_vector (in_stock t) (frames_in base w.old group.now) (stock_of w.old)) s (stock_of w.new)) }
     ensures counted { IfErr result (λ s. is_counted s ≡ true) }
     ensures step { IfOk result (λ r. IsStep base w.new [] r) }
     ensures able { CanMake w.new }
@@ -293,7 +293,7 @@ fn dot(group: &Group) -> Step
 fn at_mark(w: &mut World, mark: Mark, group: &Group, base: u64) -> Result<Step, Stop>
     requires ready { IsReadyToRead base w.old group.now }
     ensures ok { IfOk result (λ r. (t : Bool) → reader.at_mark (in_stock t) (mark_of mark) (frames_in base w.old group.now) (stock_of w.old) ≡ step_of base w.new [] r) }
-    ensures stop { IfErr result (λ s. IsHalting (λ t. reader.at_mark (in_stock t) (mark_of mark) (frames_in base w.old group.now) (stock_of w.old)) s) }
+    ensures stop { IfErr result (λ s. IsHalting (λ t. reader.at_mark (in_stock t) (mark_of mark) (frames_in base w.old group.now) (stock_of w.old)) s (stock_of w.new)) }
     ensures counted { IfErr result (λ s. is_counted s ≡ true) }
     ensures step { IfOk result (λ r. IsStep base w.new [] r) }
     ensures able { CanMake w.new }
@@ -313,7 +313,7 @@ fn at_mark(w: &mut World, mark: Mark, group: &Group, base: u64) -> Result<Step, 
 fn opens(w: &mut World, opening: Opening, group: &Group, base: u64) -> Result<Step, Stop>
     requires ready { IsReadyToRead base w.old group.now }
     ensures ok { IfOk result (λ r. (t : Bool) → opens_at (in_stock t) opening (frames_in base w.old group.now) (stock_of w.old) ≡ step_of base w.new [] r) }
-    ensures stop { IfErr result (λ s. IsHalting (λ t. opens_at (in_stock t) opening (frames_in base w.old group.now) (stock_of w.old)) s) }
+    ensures stop { IfErr result (λ s. IsHalting (λ t. opens_at (in_stock t) opening (frames_in base w.old group.now) (stock_of w.old)) s (stock_of w.new)) }
     ensures counted { IfErr result (λ s. is_counted s ≡ true) }
     ensures step { IfOk result (λ r. IsStep base w.new [] r) }
     ensures able { CanMake w.new }
@@ -344,7 +344,7 @@ fn in_word(mode: Mode, group: Group) -> Step
 fn at_gap(w: &mut World, b: u8, group: Group, word: &mut Word, base: u64) -> Result<Step, Stop>
     requires ready { IsReadyToRead base w.old group }
     ensures ok { IfOk result (λ r. (t : Bool) → reader.at_gap (in_stock t) b (frames_in base w.old group) (stock_of w.old) ≡ step_of base w.new word.new.items r) }
-    ensures stop { IfErr result (λ s. IsHalting (λ t. reader.at_gap (in_stock t) b (frames_in base w.old group) (stock_of w.old)) s) }
+    ensures stop { IfErr result (λ s. IsHalting (λ t. reader.at_gap (in_stock t) b (frames_in base w.old group) (stock_of w.old)) s (stock_of w.new)) }
     ensures counted { IfErr result (λ s. is_counted s ≡ true) }
     ensures step { IfOk result (λ r. IsStep base w.new word.new.items r) }
     ensures able { CanMake w.new }
@@ -372,7 +372,7 @@ fn at_gap(w: &mut World, b: u8, group: Group, word: &mut Word, base: u64) -> Res
 fn at_special(w: &mut World, b: u8, group: Group, base: u64) -> Result<Step, Stop>
     requires ready { IsReadyToRead base w.old group }
     ensures ok { IfOk result (λ r. (t : Bool) → reader.at_class (in_stock t) byte.Special b (frames_in base w.old group) (stock_of w.old) ≡ step_of base w.new [] r) }
-    ensures stop { IfErr result (λ s. IsHalting (λ t. reader.at_class (in_stock t) byte.Special b (frames_in base w.old group) (stock_of w.old)) s) }
+    ensures stop { IfErr result (λ s. IsHalting (λ t. reader.at_class (in_stock t) byte.Special b (frames_in base w.old group) (stock_of w.old)) s (stock_of w.new)) }
     ensures counted { IfErr result (λ s. is_counted s ≡ true) }
     ensures step { IfOk result (λ r. IsStep base w.new [] r) }
     ensures able { CanMake w.new }
@@ -392,7 +392,7 @@ fn atom_ended(w: &mut World, a: Atom<'_>, group: Group, base: u64) -> Result<End
     requires ready { IsReadyToRead base w.old group }
     requires atom { IsAtom a }
     ensures ok { IfOk result (λ e. (t : Bool) → reader.atom_ended (in_stock t) (atom_meant a.entry) (frames_in base w.old group) (stock_of w.old) ≡ ended_of base w.new e) }
-    ensures stop { IfErr result (λ s. IsLacking (λ t. reader.atom_ended (in_stock t) (atom_meant a.entry) (frames_in base w.old group) (stock_of w.old)) s) }
+    ensures stop { IfErr result (λ s. IsLacking (λ t. reader.atom_ended (in_stock t) (atom_meant a.entry) (frames_in base w.old group) (stock_of w.old)) s (stock_of w.new)) }
     ensures counted { IfErr result (λ s. is_counted s ≡ true) }
     ensures ended { IfOk result (λ e. IsEnded base w.new e) }
     ensures able { CanMake w.new }
@@ -416,7 +416,7 @@ pub(crate) fn word_ended(
     requires word { IsMode mode word.now.items }
     requires may_end { may_end mode ≡ true }
     ensures ok { IfOk result (λ e. (t : Bool) → reader.atom_ended (in_stock t) (word_atom mode word.now.items) (frames_in base w.old group) (stock_of w.old) ≡ ended_of base w.new e) }
-    ensures stop { IfErr result (λ s. IsLacking (λ t. reader.atom_ended (in_stock t) (word_atom mode word.now.items) (frames_in base w.old group) (stock_of w.old)) s) }
+    ensures stop { IfErr result (λ s. IsLacking (λ t. reader.atom_ended (in_stock t) (word_atom mode word.now.items) (frames_in base w.old group) (stock_of w.old)) s (stock_of w.new)) }
     ensures counted { IfErr result (λ s. is_counted s ≡ true) }
     ensures ended { IfOk result (λ e. IsEnded base w.new e) }
     ensures able { CanMake w.new }
@@ -435,7 +435,7 @@ fn number_ended(w: &mut World, minus: bool, n: u64, group: Group, base: u64) -> 
     requires ready { IsReadyToRead base w.old group }
     requires number { IsNumber minus n }
     ensures ok { IfOk result (λ e. (t : Bool) → reader.atom_ended (in_stock t) (word.Integer (word.signed minus n)) (frames_in base w.old group) (stock_of w.old) ≡ ended_of base w.new e) }
-    ensures stop { IfErr result (λ s. IsLacking (λ t. reader.atom_ended (in_stock t) (word.Integer (word.signed minus n)) (frames_in base w.old group) (stock_of w.old)) s) }
+    ensures stop { IfErr result (λ s. IsLacking (λ t. reader.atom_ended (in_stock t) (word.Integer (word.signed minus n)) (frames_in base w.old group) (stock_of w.old)) s (stock_of w.new)) }
     ensures counted { IfErr result (λ s. is_counted s ≡ true) }
     ensures ended { IfOk result (λ e. IsEnded base w.new e) }
     ensures able { CanMake w.new }
@@ -469,7 +469,7 @@ fn before(
     requires word { IsMode mode word.old.items }
     requires may_end { may_end mode ≡ true }
     ensures ok { IfOk result (λ r. (t : Bool) → reader.atom_before (in_stock t) (word_atom mode word.old.items) b (frames_in base w.old group) (stock_of w.old) ≡ step_of base w.new word.new.items r) }
-    ensures stop { IfErr result (λ s. IsHalting (λ t. reader.atom_before (in_stock t) (word_atom mode word.old.items) b (frames_in base w.old group) (stock_of w.old)) s) }
+    ensures stop { IfErr result (λ s. IsHalting (λ t. reader.atom_before (in_stock t) (word_atom mode word.old.items) b (frames_in base w.old group) (stock_of w.old)) s (stock_of w.new)) }
     ensures counted { IfErr result (λ s. is_counted s ≡ true) }
     ensures step { IfOk result (λ r. IsStep base w.new word.new.items r) }
     ensures able { CanMake w.new }
@@ -503,7 +503,7 @@ fn in_name(w: &mut World, b: u8, group: Group, word: &mut Word, base: u64) -> Re
     requires ready { IsReadyToRead base w.old group }
     requires word { IsMode mode.Name word.old.items }
     ensures ok { IfOk result (λ r. (t : Bool) → reader.reader_step (in_stock t) (reader.InName word.old.items) b (frames_in base w.old group) (stock_of w.old) ≡ step_of base w.new word.new.items r) }
-    ensures stop { IfErr result (λ s. IsHalting (λ t. reader.reader_step (in_stock t) (reader.InName word.old.items) b (frames_in base w.old group) (stock_of w.old)) s) }
+    ensures stop { IfErr result (λ s. IsHalting (λ t. reader.reader_step (in_stock t) (reader.InName word.old.items) b (frames_in base w.old group) (stock_of w.old)) s (stock_of w.new)) }
     ensures counted { IfErr result (λ s. is_counted s ≡ true) }
     ensures step { IfOk result (λ r. IsStep base w.new word.new.items r) }
     ensures able { CanMake w.new }
@@ -548,7 +548,7 @@ fn in_text(
     requires word { IsMode mode word.old.items }
     requires text { is_text_mode mode ≡ true }
     ensures ok { IfOk result (λ r. (t : Bool) → reader.reader_step (in_stock t) (mode_of mode word.old.items) b (frames_in base w.old group) (stock_of w.old) ≡ step_of base w.new word.new.items r) }
-    ensures stop { IfErr result (λ s. IsHalting (λ t. reader.reader_step (in_stock t) (mode_of mode word.old.items) b (frames_in base w.old group) (stock_of w.old)) s) }
+    ensures stop { IfErr result (λ s. IsHalting (λ t. reader.reader_step (in_stock t) (mode_of mode word.old.items) b (frames_in base w.old group) (stock_of w.old)) s (stock_of w.new)) }
     ensures counted { IfErr result (λ s. is_counted s ≡ true) }
     ensures step { IfOk result (λ r. IsStep base w.new word.new.items r) }
     ensures able { CanMake w.new }
@@ -583,7 +583,7 @@ fn in_digits(
     requires word { IsMode mode word.old.items }
     requires digits { is_digits_mode mode ≡ true }
     ensures ok { IfOk result (λ r. (t : Bool) → reader.reader_step (in_stock t) (mode_of mode word.old.items) b (frames_in base w.old group) (stock_of w.old) ≡ step_of base w.new word.new.items r) }
-    ensures stop { IfErr result (λ s. IsHalting (λ t. reader.reader_step (in_stock t) (mode_of mode word.old.items) b (frames_in base w.old group) (stock_of w.old)) s) }
+    ensures stop { IfErr result (λ s. IsHalting (λ t. reader.reader_step (in_stock t) (mode_of mode word.old.items) b (frames_in base w.old group) (stock_of w.old)) s (stock_of w.new)) }
     ensures counted { IfErr result (λ s. is_counted s ≡ true) }
     ensures step { IfOk result (λ r. IsStep base w.new word.new.items r) }
     ensures able { CanMake w.new }
@@ -611,7 +611,7 @@ pub(crate) fn read_byte(
     requires ready { IsReadyToRead base w.old group }
     requires word { IsMode mode word.old.items }
     ensures ok { IfOk result (λ r. (t : Bool) → reader.reader_step (in_stock t) (mode_of mode word.old.items) b (frames_in base w.old group) (stock_of w.old) ≡ step_of base w.new word.new.items r) }
-    ensures stop { IfErr result (λ s. IsHalting (λ t. reader.reader_step (in_stock t) (mode_of mode word.old.items) b (frames_in base w.old group) (stock_of w.old)) s) }
+    ensures stop { IfErr result (λ s. IsHalting (λ t. reader.reader_step (in_stock t) (mode_of mode word.old.items) b (frames_in base w.old group) (stock_of w.old)) s (stock_of w.new)) }
     ensures counted { IfErr result (λ s. is_counted s ≡ true) }
     ensures step { IfOk result (λ r. IsStep base w.new word.new.items r) }
     ensures able { CanMake w.new }

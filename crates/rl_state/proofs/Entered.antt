@@ -11,28 +11,13 @@ use Rattle.rl_state.specs.ShownState.{ShowsState}
 use Rattle.rl_state.specs.Worlds.{IsWorld, WorldGrows}
 use Rattle.rl_state.specs.Ending.{stop_in}
 use Rattle.rl_state.specs.Descents.{MeansLevels, levels_shown}
+use Rattle.rl_state.proofs.Outer.{grows_levels, shows_outer, stays_still}
 
-abbrev with_levels : World → WorldLevels → World
-with_levels w l = record w { levels = l }
-
-shows_levels : (w : World) (l : WorldLevels) (s : State) → ShowsState w s → ShowsState (with_levels w l) s
-shows_levels w l s h = record {
-  store = h.store;
-  symbols = record { many = h.symbols.many; symbols = h.symbols.symbols; values = h.symbols.values };
-  counts = h.counts;
-  gensyms = h.gensyms;
-  column = h.column;
-  line_length = h.line_length;
-  taken = h.taken;
-  free = h.free;
-  bound = h.bound;
-}
-
-world_levels : (w : World) (l : WorldLevels) → IsWorld w → l.level ≤ l.bound → IsWorld (with_levels w l)
-world_levels w l i h = record { table = i.table; t = i.t; message = i.message; texts = i.texts; running = i.running; levels = h; made = i.made; expanding = i.expanding }
+shows_levels : (w : World) (l : WorldLevels) (s : State) → ShowsState w s → ShowsState (record w { levels = l }) s
+shows_levels w l s h = shows_outer w l w.output w.notes w.input s s.outside s.watched h.column h.line_length h.taken h
 
 pub levels_grow : (w x : World) (l : WorldLevels) → x ≡ record w { levels = l } → IsWorld w → l.level ≤ l.bound → WorldGrows w x
-levels_grow w x l e i h = subst (λ y. WorldGrows w y) (sym e) (record { world = world_levels w l i h; live = λ v h. h; values = λ v h. refl })
+levels_grow w x l e i h = grows_levels w x l w.output w.notes w.input e h i
 
 pub levels_show : (w x : World) (l : WorldLevels) → x ≡ record w { levels = l } → (s : State) → ShowsState w s → ShowsState x s
 levels_show w x l e s h = subst (λ y. ShowsState y s) (sym e) (shows_levels w l s h)
@@ -56,7 +41,7 @@ deeper_done w x n e h s shown =
       is = ap (λ b. in_levels b (w.levels.bound - w.levels.level - n) s (λ l. Done l s)) fits ∙ ap (λ k. Done (Some k) s) rest;
       good = record {
         shows = shows_levels w (record w.levels { level = w.levels.level + n }) s shown;
-        stays = record { functions = record { functions = refl; compilation = refl }; bindings = record { entries = refl; hidden = λ i b h. refl }; outside = refl };
+        stays = stays_still s s.store s.watched;
       };
     })
 
@@ -74,5 +59,5 @@ deeper_stops w x n why e i h s shown = go (nat_le (w.levels.level + n) w.levels.
         record {
           state = s;
           is = ap (λ b. in_levels b (w.levels.bound - w.levels.level - n) s (λ l. Done l s)) full ∙ ap (λ y. Stopped (stop_in x.cells.cells y) s) y;
-          good = record { functions = record { functions = refl; compilation = refl }; bindings = record { entries = refl; hidden = λ i b h. refl }; outside = refl };
+          good = stays_still s s.store s.watched;
         }

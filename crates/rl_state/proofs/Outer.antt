@@ -1,16 +1,19 @@
--- What goes out and comes in stands beside the objects of a world.
-use Rattle.std.proofs.Common.{◌≡◌, ℕ, List, refl, sym, subst}
+-- Levels, and what goes out and comes in, stand beside the objects of a world.
+use Rattle.std.proofs.Common.{◌≡◌, ◌≤◌, ℕ, List, refl, sym, subst}
 use Rattle.rl_world.specs.Input.{Input}
+use Rattle.rl_world.specs.Levels.{WorldLevels}
 use Rattle.rl_world.specs.Output.{Output}
 use Rattle.rl_world.specs.declared.world.World.{World}
+use Rattle.rl_tree.specs.Value.{Store}
 use Rattle.rl_meaning.specs.State.{State, Outside, Watched}
 use Rattle.rl_state.specs.ShownState.{ShowsState}
 use Rattle.rl_state.specs.Worlds.{IsWorld, WorldGrows}
+use Rattle.rl_state.specs.Beside.{StaysBeside}
 
 -- what is watched is not shown, and of the outside three numbers alone
-pub shows_outer : (w : World) (page : Output) (noted : List ℕ) (place : Input) (s : State) (o : Outside) (v : Watched) → o.column ≡ page.column → o.line_length ≡ page.line_length → o.taken ≡ place.given → ShowsState w s
-    → ShowsState (record w { output = page; notes = noted; input = place }) (record s { outside = o; watched = v })
-shows_outer w page noted place s o v column line taken h = record {
+pub shows_outer : (w : World) (l : WorldLevels) (page : Output) (noted : List ℕ) (place : Input) (s : State) (o : Outside) (v : Watched) → o.column ≡ page.column → o.line_length ≡ page.line_length → o.taken ≡ place.given → ShowsState w s
+    → ShowsState (record w { levels = l; output = page; notes = noted; input = place }) (record s { outside = o; watched = v })
+shows_outer w l page noted place s o v column line taken h = record {
   store = h.store;
   symbols = record { many = h.symbols.many; symbols = h.symbols.symbols; values = h.symbols.values };
   counts = h.counts;
@@ -22,9 +25,16 @@ shows_outer w page noted place s o v column line taken h = record {
   bound = h.bound;
 }
 
-pub grows_outer : (w x : World) (page : Output) (noted : List ℕ) (place : Input) → x ≡ record w { output = page; notes = noted; input = place } → IsWorld w → WorldGrows w x
-grows_outer w x page noted place e i = subst (λ (y : World). WorldGrows w y) (sym e) (record {
-  world = record { table = i.table; t = i.t; message = i.message; texts = i.texts; running = i.running; levels = i.levels; made = i.made; expanding = i.expanding };
+pub grows_levels : (w x : World) (l : WorldLevels) (page : Output) (noted : List ℕ) (place : Input) → x ≡ record w { levels = l; output = page; notes = noted; input = place } → l.level ≤ l.bound → IsWorld w → WorldGrows w x
+grows_levels w x l page noted place e h i = subst (λ (y : World). WorldGrows w y) (sym e) (record {
+  world = record { table = i.table; t = i.t; message = i.message; texts = i.texts; running = i.running; levels = h; made = i.made; expanding = i.expanding };
   live = λ v h. h;
   values = λ v h. refl;
 })
+
+pub grows_outer : (w x : World) (page : Output) (noted : List ℕ) (place : Input) → x ≡ record w { output = page; notes = noted; input = place } → IsWorld w → WorldGrows w x
+grows_outer w x page noted place e i = grows_levels w x w.levels page noted place e i.levels i
+
+-- what no world determines stays where objects change, or what is watched
+pub stays_still : (s : State) (store : Store) (v : Watched) → StaysBeside s (record s { store = store; watched = v })
+stays_still s store v = record { functions = record { functions = refl; compilation = refl }; bindings = record { entries = refl; hidden = λ i b h. refl }; outside = refl }

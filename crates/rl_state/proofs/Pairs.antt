@@ -25,16 +25,30 @@ use Rattle.rl_state.proofs.Kept.{symbols_kept}
 use Rattle.rl_state.proofs.Made.{counts_changed, expanding_kept, running_changed, world_kept}
 use Rattle.rl_state.specs.Ending.{MeansAnswer}
 
+-- what a pair or a vector refers to
+pub pair_ref : (cells : List Cell) (p : Tagged) → is_pair cells p ≡ true → value_of cells p ≡ Ref (number_at cells (index_of p))
+pair_ref cells (PairAt k) h = refl
+pair_ref cells (Number k) h = absurd (cc)
+pair_ref cells (IdAt k) h = absurd (cc)
+pair_ref cells (StrAt k) h = absurd (cc)
+pair_ref cells (VectorAt k) h = absurd (cc)
+pair_ref cells (BigAt k) h = absurd (cc)
+pair_ref cells (FunAt k) h = absurd (cc)
+
+pub vector_ref : (cells : List Cell) (p : Tagged) → is_vector cells p ≡ true → value_of cells p ≡ Ref (number_at cells (index_of p))
+vector_ref cells (VectorAt k) h = refl
+vector_ref cells (Number k) h = absurd (cc)
+vector_ref cells (IdAt k) h = absurd (cc)
+vector_ref cells (StrAt k) h = absurd (cc)
+vector_ref cells (PairAt k) h = absurd (cc)
+vector_ref cells (BigAt k) h = absurd (cc)
+vector_ref cells (FunAt k) h = absurd (cc)
+
 pub pair_shown : (law : IsRead) (w : World) (v : Tagged) → is_pair w.cells.cells v ≡ true → (s : State) → ShowsState w s → pair_at s (value_of w.cells.cells v) ≡ Some (value_of w.cells.cells (car_of w.cells.cells v), value_of w.cells.cells (cdr_of w.cells.cells v))
-pair_shown law w (PairAt k) h s shown =
-    let r = law.pair w.cells.cells (PairAt k) h in
-    ap (λ (store : List Object). parts_of (slice_get store (number_at w.cells.cells k))) shown.store ∙ ap parts_of r.stands
-pair_shown law w (Number k) h s shown = absurd (cc)
-pair_shown law w (IdAt k) h s shown = absurd (cc)
-pair_shown law w (StrAt k) h s shown = absurd (cc)
-pair_shown law w (VectorAt k) h s shown = absurd (cc)
-pair_shown law w (BigAt k) h s shown = absurd (cc)
-pair_shown law w (FunAt k) h s shown = absurd (cc)
+pair_shown law w v h s shown =
+    ap (pair_at s) (pair_ref w.cells.cells v h)
+    ∙ ap (λ (store : List Object). parts_of (slice_get store (number_at w.cells.cells (index_of v)))) shown.store
+    ∙ ap parts_of (law.pair w.cells.cells v h).stands
 
 pub none_shown : (law : IsRead) (w : World) (v : Tagged) → is_live w.cells.cells v ≡ true → tag_of v ≢ tag.Pair → (s : State) → ShowsState w s → pair_at s (value_of w.cells.cells v) ≡ None
 none_shown law w (VectorAt k) h ne s shown =
@@ -51,15 +65,10 @@ pub pair_shown_at : (law : IsRead) (w : World) (v a d : Tagged) → is_pair w.ce
 pair_shown_at law w v a d h e f s shown = rw (e, f) (pair_shown law w v h s shown)
 
 pub vector_shown : (law : IsRead) (w : World) (v : Tagged) → is_vector w.cells.cells v ≡ true → (s : State) → ShowsState w s → vector_at s (value_of w.cells.cells v) ≡ Some (map (value_of w.cells.cells) (vector_of w.cells.cells v))
-vector_shown law w (VectorAt k) h s shown =
-    let r = law.vector w.cells.cells (VectorAt k) h in
-    ap (λ (store : List Object). places_of (slice_get store (number_at w.cells.cells k))) shown.store ∙ ap places_of r.stands
-vector_shown law w (Number k) h s shown = absurd (cc)
-vector_shown law w (IdAt k) h s shown = absurd (cc)
-vector_shown law w (StrAt k) h s shown = absurd (cc)
-vector_shown law w (PairAt k) h s shown = absurd (cc)
-vector_shown law w (BigAt k) h s shown = absurd (cc)
-vector_shown law w (FunAt k) h s shown = absurd (cc)
+vector_shown law w v h s shown =
+    ap (vector_at s) (vector_ref w.cells.cells v h)
+    ∙ ap (λ (store : List Object). places_of (slice_get store (number_at w.cells.cells (index_of v)))) shown.store
+    ∙ ap places_of (law.vector w.cells.cells v h).stands
 
 pub no_vector_shown : (law : IsRead) (w : World) (v : Tagged) → is_live w.cells.cells v ≡ true → tag_of v ≢ tag.Vector → (s : State) → ShowsState w s → vector_at s (value_of w.cells.cells v) ≡ None
 no_vector_shown law w (PairAt k) h ne s shown =
@@ -176,25 +185,6 @@ place_altered law w cs v x i h closed e = record {
   alters = record { long = changed_long w.cells.cells v (VectorCell (slice_set (vector_of w.cells.cells v) i x)); keeps = law.blocks.vector w.cells.cells v (slice_set (vector_of w.cells.cells v) i x) h (length-set (vector_of w.cells.cells v) i x); changes = law.changes.place w.cells.cells v x i h };
   closed = closed;
 }
-
--- what a pair refers to
-pub pair_ref : (cells : List Cell) (p : Tagged) → is_pair cells p ≡ true → value_of cells p ≡ Ref (number_at cells (index_of p))
-pair_ref cells (PairAt k) h = refl
-pair_ref cells (Number k) h = absurd (cc)
-pair_ref cells (IdAt k) h = absurd (cc)
-pair_ref cells (StrAt k) h = absurd (cc)
-pair_ref cells (VectorAt k) h = absurd (cc)
-pair_ref cells (BigAt k) h = absurd (cc)
-pair_ref cells (FunAt k) h = absurd (cc)
-
-pub vector_ref : (cells : List Cell) (p : Tagged) → is_vector cells p ≡ true → value_of cells p ≡ Ref (number_at cells (index_of p))
-vector_ref cells (VectorAt k) h = refl
-vector_ref cells (Number k) h = absurd (cc)
-vector_ref cells (IdAt k) h = absurd (cc)
-vector_ref cells (StrAt k) h = absurd (cc)
-vector_ref cells (PairAt k) h = absurd (cc)
-vector_ref cells (BigAt k) h = absurd (cc)
-vector_ref cells (FunAt k) h = absurd (cc)
 
 object_at : (x : World) (s : State) (v : Value) (r : ℕ) (o p : Object) → v ≡ Ref r → o ≡ p → ShowsState x (record s { store = changed_store s.store r o }) → ShowsState x (with_object v p s)
 object_at x s v r o p e f h = subst (λ u. ShowsState x (with_object u p s)) (sym e) (subst (λ q. ShowsState x (record s { store = changed_store s.store r q })) f h)

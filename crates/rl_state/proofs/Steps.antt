@@ -10,6 +10,7 @@ use Rattle.rl_world.specs.declared.stop.NStep.TheVariants as step
 use Rattle.rl_world.specs.declared.world.World.{World}
 use Rattle.rl_meaning.specs.State.{State, Symbol}
 use Rattle.rl_meaning.specs.Variables.{nearest, nearest_from}
+use Rattle.rl_state.proofs.Outer.{shows_outer, stays_still}
 use Rattle.rl_state.proofs.Set.{top_else}
 use Rattle.rl_meaning.specs.Outcome.{Outcome, Done, Failed, Stop, then_do, made_pair}
 use Rattle.rl_tree.specs.ErrorTexts.{error_text}
@@ -68,44 +69,24 @@ grows_trans w x y a b = record {
 -- ---- what is watched is not shown
 
 pub shows_reading : (w : World) (v : Value) (s : State) → ShowsState w s → ShowsState w (reading_object v s)
-shows_reading w v s h = record {
-  store = h.store;
-  symbols = record { many = h.symbols.many; symbols = h.symbols.symbols; values = h.symbols.values };
-  counts = h.counts;
-  gensyms = h.gensyms;
-  column = h.column;
-  line_length = h.line_length;
-  taken = h.taken;
-  free = h.free;
-  bound = h.bound;
-}
+shows_reading w v s h = shows_outer w w.levels w.output w.notes w.input s s.outside (reading_object v s).watched h.column h.line_length h.taken h
 
 pub stays_reading : (v : Value) (s : State) → StaysBeside s (reading_object v s)
-stays_reading v s = record { functions = record { functions = refl; compilation = refl }; bindings = record { entries = refl; hidden = λ i b h. refl }; outside = refl }
+stays_reading v s = stays_still s s.store (reading_object v s).watched
 
 pub shows_changing : (w : World) (v : Value) (s : State) → ShowsState w s → ShowsState w (changing v s)
-shows_changing w (value.Ref r) s h = record {
-  store = h.store;
-  symbols = record { many = h.symbols.many; symbols = h.symbols.symbols; values = h.symbols.values };
-  counts = h.counts;
-  gensyms = h.gensyms;
-  column = h.column;
-  line_length = h.line_length;
-  taken = h.taken;
-  free = h.free;
-  bound = h.bound;
-}
+shows_changing w (value.Ref r) s h = shows_outer w w.levels w.output w.notes w.input s s.outside (changing (value.Ref r) s).watched h.column h.line_length h.taken h
 shows_changing w (value.Int z) s h = h
 shows_changing w (value.Id i) s h = h
 shows_changing w (value.Str b) s h = h
 shows_changing w (value.Fun f p) s h = h
 
 pub stays_changing : (u : Value) (o : value.Object) (s : State) → StaysBeside s (changing u (with_object u o s))
-stays_changing (value.Ref r) o s = record { functions = record { functions = refl; compilation = refl }; bindings = record { entries = refl; hidden = λ i b h. refl }; outside = refl }
-stays_changing (value.Int z) o s = record { functions = record { functions = refl; compilation = refl }; bindings = record { entries = refl; hidden = λ i b h. refl }; outside = refl }
-stays_changing (value.Id i) o s = record { functions = record { functions = refl; compilation = refl }; bindings = record { entries = refl; hidden = λ i b h. refl }; outside = refl }
-stays_changing (value.Str b) o s = record { functions = record { functions = refl; compilation = refl }; bindings = record { entries = refl; hidden = λ i b h. refl }; outside = refl }
-stays_changing (value.Fun f p) o s = record { functions = record { functions = refl; compilation = refl }; bindings = record { entries = refl; hidden = λ i b h. refl }; outside = refl }
+stays_changing (value.Ref r) o s = stays_still s (with_object (value.Ref r) o s).store (changing (value.Ref r) (with_object (value.Ref r) o s)).watched
+stays_changing (value.Int z) o s = stays_still s s.store s.watched
+stays_changing (value.Id i) o s = stays_still s s.store s.watched
+stays_changing (value.Str b) o s = stays_still s s.store s.watched
+stays_changing (value.Fun f p) o s = stays_still s s.store s.watched
 
 -- ---- system errors
 

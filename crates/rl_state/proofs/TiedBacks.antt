@@ -13,7 +13,7 @@ back_few taken given n one e h = omega (arith, one, e, h)
 pub back_ties : (at : ToldAtStart) (w x : World) (o n i : Option (List ℕ)) (b : ℕ) (coming : List ℕ) (s : State) → w.input.back ≡ None → 1 ≤ w.input.given
     → x ≡ record w { input = record w.input { back = Some b; given = w.input.given - 1 } } → Ties at (and_told w o n i) coming s → Ties at (and_told x o n i) coming (given_back b s)
 back_ties at w x o n i b coming s none one e h = subst (λ (y : World). Ties at (and_told y o n i) coming (given_back b s)) (sym e) (record {
-  shows = shows_outer w w.output w.notes (record w.input { back = Some b; given = w.input.given - 1 }) s (given_back b s).outside s.watched h.shows.column h.shows.line_length (ap (λ n. n - 1) h.shows.taken) h.shows;
+  shows = shows_outer w w.levels w.output w.notes (record w.input { back = Some b; given = w.input.given - 1 }) s (given_back b s).outside s.watched h.shows.column h.shows.line_length (ap (λ n. n - 1) h.shows.taken) h.shows;
   output = h.output;
   notes = h.notes;
   input = ap (λ (l : List ℕ). b ∷ l) (h.input ∙ ap (λ (k : Option ℕ). with_back k coming) none);

@@ -21,20 +21,33 @@ use Rattle.rl_state.proofs.ToldOn.{told_first, told_through, told_mapped, out_fo
 
 shows_put : (w x : World) (b : ℕ) (s : State) → x ≡ record w { output = record w.output { waiting = x.output.waiting; column = x.output.column } } → x.output.column ≡ column_with w.output.column b → ShowsState w s → ShowsState x (print_mark (b ∷ []) s)
 shows_put w x b s e column h = subst (λ (y : World). ShowsState y (print_mark (b ∷ []) s)) (sym e)
-    (shows_outer w (record w.output { waiting = x.output.waiting; column = x.output.column }) w.notes w.input s (print_mark (b ∷ []) s).outside s.watched (ap (λ c. column_with c b) h.column ∙ sym column) h.line_length h.taken h)
+    (shows_outer w w.levels (record w.output { waiting = x.output.waiting; column = x.output.column }) w.notes w.input s (print_mark (b ∷ []) s).outside s.watched (ap (λ c. column_with c b) h.column ∙ sym column) h.line_length h.taken h)
+
+-- these bytes were printed, these noted, and this is the column: nothing is taken
+abbrev with_printed : List ℕ → List ℕ → ℕ → State → State
+with_printed printed noted column s = record s { outside = record s.outside { output = printed; notes = noted; column = column } }
+
+-- where the input and its source are as they were, what is to come is as it was
+still_tied : (at : ToldAtStart) (w x : World) (o p n m i j : Option (List ℕ)) (coming : List ℕ) (s : State) (printed noted : List ℕ) (column : ℕ) → x.input ≡ w.input → j ≡ i
+    → ShowsState x (with_printed printed noted column s) → IsPrintedBefore at.out p x.output.waiting printed → IsPrintedBefore at.notes m x.notes noted
+    → Ties at (and_told w o n i) coming s → Ties at (and_told x p m j) coming (with_printed printed noted column s)
+still_tied at w x o p n m i j coming s printed noted column e k shows output notes h = record {
+  shows = shows;
+  output = output;
+  notes = notes;
+  input = h.input ∙ ap (λ (n : Input). with_back n.back coming) (sym e);
+  left = subst (λ (t : Option (List ℕ)). WhereTold at.source t (λ before left. left ≡ coming)) (sym k) h.left;
+  ended = λ t. h.ended (ap (λ (n : Input). n.ended) (sym e) ∙ t);
+  few = h.few;
+}
 
 pub put : (at : ToldAtStart) (w x : World) (b : ℕ) (o p n m i j : Option (List ℕ)) (coming : List ℕ) (s : State)
     → x ≡ record w { output = record w.output { waiting = x.output.waiting; column = x.output.column } } → x.output.column ≡ column_with w.output.column b
     → m ≡ n → j ≡ i → Follows o w.output.waiting p x.output.waiting (b ∷ []) → Ties at (and_told w o n i) coming s → Ties at (and_told x p m j) coming (print_mark (b ∷ []) s)
-put at w x b o p n m i j coming s e column q k f h = record {
-  shows = shows_put w x b s e column h.shows;
-  output = out_follows at.out o p w.output.waiting x.output.waiting s.outside.output (b ∷ []) h.output f;
-  notes = out_kept at.notes n m w.notes x.notes s.outside.notes q (ap (λ (y : World). y.notes) e) h.notes;
-  input = h.input ∙ ap (λ (y : World). with_back y.input.back coming) (sym e);
-  left = subst (λ (t : Option (List ℕ)). WhereTold at.source t (λ before left. left ≡ coming)) (sym k) h.left;
-  ended = λ t. h.ended (ap (λ (y : World). y.input.ended) (sym e) ∙ t);
-  few = h.few;
-}
+put at w x b o p n m i j coming s e column q k f h =
+    still_tied at w x o p n m i j coming s _ _ _ (ap (λ (y : World). y.input) e) k (shows_put w x b s e column h.shows)
+    (out_follows at.out o p w.output.waiting x.output.waiting s.outside.output (b ∷ []) h.output f)
+    (out_kept at.notes n m w.notes x.notes s.outside.notes q (ap (λ (y : World). y.notes) e) h.notes) h
 
 pub put_cut : (at : ToldAtStart) (w x : World) (b : ℕ) (o p n m i j : Option (List ℕ)) (coming : List ℕ) (s : State) → m ≡ n → IsCutOff o p (w.output.waiting ++ b ∷ []) → Ties at (and_told w o n i) coming s → LeavesFronts at (and_told x p m j) (print_mark (b ∷ []) s)
 put_cut at w x b o p n m i j coming s q f h = record {
@@ -44,15 +57,11 @@ put_cut at w x b o p n m i j coming s q f h = record {
 
 pub put_note : (at : ToldAtStart) (w x : World) (b : ℕ) (o p n m i j : Option (List ℕ)) (coming : List ℕ) (s : State)
     → x ≡ record w { notes = x.notes } → p ≡ o → j ≡ i → Follows n w.notes m x.notes (b ∷ []) → Ties at (and_told w o n i) coming s → Ties at (and_told x p m j) coming (with_noted (b ∷ []) s)
-put_note at w x b o p n m i j coming s e q k f h = record {
-  shows = subst (λ (y : World). ShowsState y (with_noted (b ∷ []) s)) (sym e) (shows_outer w w.output x.notes w.input s (with_noted (b ∷ []) s).outside s.watched h.shows.column h.shows.line_length h.shows.taken h.shows);
-  output = out_kept at.out o p w.output.waiting x.output.waiting s.outside.output q (ap (λ (y : World). y.output.waiting) e) h.output;
-  notes = out_follows at.notes n m w.notes x.notes s.outside.notes (b ∷ []) h.notes f;
-  input = h.input ∙ ap (λ (y : World). with_back y.input.back coming) (sym e);
-  left = subst (λ (t : Option (List ℕ)). WhereTold at.source t (λ before left. left ≡ coming)) (sym k) h.left;
-  ended = λ t. h.ended (ap (λ (y : World). y.input.ended) (sym e) ∙ t);
-  few = h.few;
-}
+put_note at w x b o p n m i j coming s e q k f h =
+    still_tied at w x o p n m i j coming s _ _ _ (ap (λ (y : World). y.input) e) k
+    (subst (λ (y : World). ShowsState y (with_noted (b ∷ []) s)) (sym e) (shows_outer w w.levels w.output x.notes w.input s (with_noted (b ∷ []) s).outside s.watched h.shows.column h.shows.line_length h.shows.taken h.shows))
+    (out_kept at.out o p w.output.waiting x.output.waiting s.outside.output q (ap (λ (y : World). y.output.waiting) e) h.output)
+    (out_follows at.notes n m w.notes x.notes s.outside.notes (b ∷ []) h.notes f) h
 
 pub put_note_cut : (at : ToldAtStart) (w x : World) (b : ℕ) (o p n m i j : Option (List ℕ)) (coming : List ℕ) (s : State) → p ≡ o → IsCutOff n m (w.notes ++ b ∷ []) → Ties at (and_told w o n i) coming s → LeavesFronts at (and_told x p m j) (with_noted (b ∷ []) s)
 put_note_cut at w x b o p n m i j coming s q f h = record {
@@ -64,15 +73,11 @@ put_note_cut at w x b o p n m i j coming s q f h = record {
 
 pub flushed : (at : ToldAtStart) (w x : World) (o p n m i j : Option (List ℕ)) (coming : List ℕ) (s : State) → x ≡ record w { output = record w.output { waiting = [] }; notes = [] }
     → j ≡ i → Follows o w.output.waiting p [] [] → Follows n w.notes m [] [] → Ties at (and_told w o n i) coming s → Ties at (and_told x p m j) coming s
-flushed at w x o p n m i j coming s e k f g h = record {
-  shows = subst (λ (y : World). ShowsState y s) (sym e) (shows_outer w (record w.output { waiting = [] }) [] w.input s s.outside s.watched h.shows.column h.shows.line_length h.shows.taken h.shows);
-  output = out_flushed at.out o p w.output.waiting x.output.waiting s.outside.output h.output f (ap (λ (y : World). y.output.waiting) e);
-  notes = out_flushed at.notes n m w.notes x.notes s.outside.notes h.notes g (ap (λ (y : World). y.notes) e);
-  input = h.input ∙ ap (λ (y : World). with_back y.input.back coming) (sym e);
-  left = subst (λ (t : Option (List ℕ)). WhereTold at.source t (λ before left. left ≡ coming)) (sym k) h.left;
-  ended = λ t. h.ended (ap (λ (y : World). y.input.ended) (sym e) ∙ t);
-  few = h.few;
-}
+flushed at w x o p n m i j coming s e k f g h =
+    still_tied at w x o p n m i j coming s _ _ _ (ap (λ (y : World). y.input) e) k
+    (subst (λ (y : World). ShowsState y s) (sym e) (shows_outer w w.levels (record w.output { waiting = [] }) [] w.input s s.outside s.watched h.shows.column h.shows.line_length h.shows.taken h.shows))
+    (out_flushed at.out o p w.output.waiting x.output.waiting s.outside.output h.output f (ap (λ (y : World). y.output.waiting) e))
+    (out_flushed at.notes n m w.notes x.notes s.outside.notes h.notes g (ap (λ (y : World). y.notes) e)) h
 
 pub flush_cut : (at : ToldAtStart) (w x : World) (o p n m i j : Option (List ℕ)) (coming : List ℕ) (s : State) → IsCutOff o p w.output.waiting → IsCutOff n m w.notes → Ties at (and_told w o n i) coming s → LeavesFronts at (and_told x p m j) s
 flush_cut at w x o p n m i j coming s f g h = record {
@@ -162,8 +167,8 @@ count_next None s given f h e = e
 count_next (Some c) s given f h e = count_after s.outside.taken s.outside.input c f.0 f.1 h ∙ ap (λ n. min (n + 1) (2 ^ 64 - 1)) e
 
 shows_taken : (w x : World) (b : Option ℕ) (s : State) → x ≡ record w { output = record w.output { waiting = [] }; input = x.input } → (after_byte b s).outside.taken ≡ x.input.given → ShowsState w s → ShowsState x (after_byte b s)
-shows_taken w x None s e t h = subst (λ (y : World). ShowsState y s) (sym e) (shows_outer w (record w.output { waiting = [] }) w.notes x.input s s.outside s.watched h.column h.line_length t h)
-shows_taken w x (Some c) s e t h = subst (λ (y : World). ShowsState y (after_byte (Some c) s)) (sym e) (shows_outer w (record w.output { waiting = [] }) w.notes x.input s (after_byte (Some c) s).outside s.watched h.column h.line_length t h)
+shows_taken w x None s e t h = subst (λ (y : World). ShowsState y s) (sym e) (shows_outer w w.levels (record w.output { waiting = [] }) w.notes x.input s s.outside s.watched h.column h.line_length t h)
+shows_taken w x (Some c) s e t h = subst (λ (y : World). ShowsState y (after_byte (Some c) s)) (sym e) (shows_outer w w.levels (record w.output { waiting = [] }) w.notes x.input s (after_byte (Some c) s).outside s.watched h.column h.line_length t h)
 
 output_stays : (b : Option ℕ) (s : State) → (after_byte b s).outside.output ≡ s.outside.output
 output_stays None s = refl
@@ -208,7 +213,7 @@ next w x b o p n m i j e place gives none back unread unended f q =
 -- ---- a state for each world
 
 pub coming_shows : WorldIsShown → (w : World) (coming : List ℕ) → ShowsState w (with_coming w coming)
-coming_shows shown w coming = let h = shown w in shows_outer w w.output w.notes w.input (state_in w) (with_coming w coming).outside (state_in w).watched h.column h.line_length h.taken h
+coming_shows shown w coming = let h = shown w in shows_outer w w.levels w.output w.notes w.input (state_in w) (with_coming w coming).outside (state_in w).watched h.column h.line_length h.taken h
 
 pub is_tied : WorldIsShown → EachWorldTies
 unfolding state_in

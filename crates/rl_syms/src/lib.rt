@@ -7,7 +7,5 @@ pub mod laws;
 mod made;
 mod opening;
 mod table;
-#[cfg(test)]
-mod tests;
 
 pub use table::Syms;

@@ -758,7 +758,11 @@ impl Sink for Stamped<'_> {
 }
 
 /// When the output was written, and when the notes.
-fn times_of_writing(rt: &HostRuntime) -> Result<(u32, u32), Fail> {
+fn times_of_writing(
+    mut world: World,
+    mut input: MemSource,
+    mut files: MemFiles,
+) -> Result<(u32, u32), Stop> {
     let clock = Cell::new(1);
     let mut out = Stamped {
         clock: &clock,
@@ -768,9 +772,6 @@ fn times_of_writing(rt: &HostRuntime) -> Result<(u32, u32), Fail> {
         clock: &clock,
         at: 0,
     };
-    let mut input = MemSource::new(rt.alloc(), b"", &[])?;
-    let mut files = MemFiles::new(rt.alloc(), 0, &[])?;
-    let mut world = opening(rt)?;
     let mut io = Io {
         input: &mut input,
         out: &mut out,
@@ -783,7 +784,11 @@ fn times_of_writing(rt: &HostRuntime) -> Result<(u32, u32), Fail> {
 
 #[test]
 fn the_output_is_written_before_the_notes(rt: HostRuntime) -> Result<(), Fail> {
-    assert_eq!(rt; times_of_writing(&rt)?, (1, 2));
+    let world = opening(&rt)?;
+    let input = MemSource::new(rt.alloc(), b"", &[])?;
+    let files = MemFiles::new(rt.alloc(), 0, &[])?;
+    let times = times_of_writing(world, input, files);
+    assert_eq!(rt; times, Ok((1, 2)));
     Ok(())
 }
 

@@ -1,6 +1,6 @@
 use Rattle.std.proofs.Common.{arith}
 use Rattle.rl_read.specs.Frames.{frames_kept}
-use Rattle.rl_read.proofs.Kept.{around_kept, weight_inside}
+use Rattle.rl_read.proofs.WalkKept.{around_kept, weight_inside}
 use Rattle.rl_read.proofs.frames.around.Goals as goal
 use Rattle.rl_world.specs.Walks.{kept_above}
 

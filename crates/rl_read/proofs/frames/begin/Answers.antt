@@ -1,4 +1,4 @@
-use Rattle.rl_read.proofs.KeptOpening.{opened_root}
+use Rattle.rl_read.proofs.GroupBegins.{opened_root}
 use Rattle.rl_read.proofs.frames.begin.Goals as goal
 
 pub returns-in-Root-clause-ok : goal.returns-in-Root-clause-ok

@@ -1,7 +1,7 @@
 use Rattle.std.proofs.Common.{ap}
 use Rattle.rl_world.specs.declared.world.World.{World}
-use Rattle.rl_read.proofs.Kept.{levels_alone, ready_pushed}
-use Rattle.rl_read.proofs.KeptOpening.{opened_pushed, opened_stops}
+use Rattle.rl_read.proofs.WalkKept.{levels_alone, ready_pushed}
+use Rattle.rl_read.proofs.GroupBegins.{opened_pushed, opened_stops}
 use Rattle.rl_read.proofs.frames.keep.Goals as goal
 
 pub returns-in-Ok-clause-ok : goal.returns-in-Ok-clause-ok
@@ -18,4 +18,4 @@ pub returns-in-Ok-clause-steady : goal.returns-in-Ok-clause-steady
 returns-in-Ok-clause-steady c = c.in-Ok.ensures.steady c.args.base c.requires.ready.above
 
 pub returns-in-Err-clause-stop : goal.returns-in-Err-clause-stop
-returns-in-Err-clause-stop c = opened_stops c.args.base c.args.w.now c.args.opening c.args.outer.now c.in-Err.s c.in-Err.ensures.stop c.requires.inner
+returns-in-Err-clause-stop c = rw c.in-Err.ensures.err (opened_stops c.args.base c.args.w.now c.args.opening c.args.outer.now c.in-Err.s c.in-Err.ensures.stop c.requires.inner)

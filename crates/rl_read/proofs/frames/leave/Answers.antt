@@ -1,6 +1,6 @@
 use Rattle.std.proofs.Common.{◌≡◌, ◌+◌, ◌≤◌, ap, arith, length}
-use Rattle.rl_read.proofs.Kept.{levels_again}
-use Rattle.rl_read.proofs.Making.{steady_trans}
+use Rattle.rl_read.proofs.WalkKept.{levels_again}
+use Rattle.rl_read.proofs.MakingStays.{steady_trans}
 use Rattle.rl_read.proofs.frames.leave.Goals as goal
 
 pub loop-w-preserved : goal.loop-w-preserved

@@ -1,5 +1,5 @@
 use Rattle.std.proofs.Common.{arith}
-use Rattle.rl_read.proofs.Kept.{frames_popped, kept_first, left_more, levels_alone, none_left, popped_left, ready_popped, stock_popped}
+use Rattle.rl_read.proofs.WalkKept.{frames_popped, kept_first, left_more, levels_alone, none_left, popped_left, ready_popped, stock_popped}
 use Rattle.rl_read.proofs.frames.outer.Goals as goal
 
 pub returns-then-walk_len-base-clause-left : goal.returns-then-walk_len-base-clause-left

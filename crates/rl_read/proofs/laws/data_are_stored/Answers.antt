@@ -1,5 +1,5 @@
 use Rattle.std.specs.Prelude.{length}
-use Rattle.rl_read.proofs.MeantData.{data_mean}
+use Rattle.rl_read.proofs.DatumMeant.{data_mean}
 use Rattle.rl_read.proofs.laws.data_are_stored.Goals as goal
 
 pub returns : goal.returns

@@ -1,4 +1,4 @@
-use Rattle.rl_read.proofs.DataKept.{datum_live, pair_kept, pair_new, pair_parts}
+use Rattle.rl_read.proofs.DataStay.{datum_live, pair_kept, pair_new, pair_parts}
 use Rattle.std.proofs.Common.{length}
 use Rattle.rl_read.proofs.laws.pairs_are_data.Goals as goal
 

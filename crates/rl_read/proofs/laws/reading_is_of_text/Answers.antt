@@ -1,4 +1,4 @@
-use Rattle.rl_read.proofs.Told.{reads_found, reads_none, reads_refused}
+use Rattle.rl_read.proofs.ReadIsSpelled.{reads_found, reads_none, reads_refused}
 use Rattle.rl_read.proofs.laws.reading_is_of_text.Goals as goal
 
 pub returns : goal.returns

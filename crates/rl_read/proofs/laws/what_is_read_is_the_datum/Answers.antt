@@ -1,8 +1,8 @@
 use Rattle.std.proofs.Common.{subst, sym}
 use Rattle.rl_text.specs.Datum.{Datum}
 use Rattle.rl_text.specs.Spelling.{IsSpelled}
-use Rattle.rl_read.proofs.StandingMade.{AreLaws}
-use Rattle.rl_read.proofs.StandingTold.{reads_result, result_datum, result_keeps, result_named}
+use Rattle.rl_read.proofs.MadeStands.{AreLaws}
+use Rattle.rl_read.proofs.ReadIsDatum.{reads_result, result_datum, result_keeps, result_named}
 use Rattle.rl_read.proofs.laws.what_is_read_is_the_datum.Goals as goal
 
 laws_of : (c : goal.After-names_are_identifiers) → AreLaws

@@ -3,7 +3,7 @@ use Rattle.rl_text.specs.Datum.{Datum}
 use Rattle.rl_text.specs.Reading.{Items}
 use Rattle.rl_world.specs.declared.stop.Stop.{Stop}
 use Rattle.rl_read.specs.Stock.{Stock, PairChain}
-use Rattle.rl_read.proofs.Told.{heedless}
+use Rattle.rl_read.proofs.ReadIsSpelled.{heedless}
 use Rattle.rl_read.proofs.laws.what_is_read_is_the_datum.Given as goal
 
 abbrev pub ghosts-related_makers_end_related : goal.ghosts-related_makers_end_related

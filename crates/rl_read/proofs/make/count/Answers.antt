@@ -4,7 +4,7 @@ use Rattle.rl_tags.specs.Tagged.{tag_of}
 use Rattle.rl_tags.specs.contracts.Tag.{the_type}
 use Rattle.rl_tags.specs.declared.Tag.TheVariants as tag
 use Rattle.rl_read.specs.Stock.{elements_from}
-use Rattle.rl_read.proofs.MadeElements.{count_end, count_more, count_most}
+use Rattle.rl_read.proofs.ListElements.{count_end, count_more, count_most}
 use Rattle.rl_read.proofs.make.count.Goals as goal
 
 pub loop-n-preserved : goal.loop-n-preserved

@@ -1,4 +1,4 @@
-use Rattle.rl_read.proofs.Making.{chain_stays, making_trans}
+use Rattle.rl_read.proofs.MakingStays.{chain_stays, making_trans}
 use Rattle.rl_read.proofs.make.extended.Goals as goal
 
 pub hang-requires-clause-chain : goal.hang-requires-clause-chain

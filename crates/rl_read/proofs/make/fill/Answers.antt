@@ -3,9 +3,9 @@ use Rattle.std.proofs.Math.Nat.{sub-zero}
 use Rattle.rl_tags.specs.Tagged.{Tagged}
 use Rattle.rl_cells.specs.Cell.{VectorCell, car_of, cdr_of, changed_at, is_pair, vector_of}
 use Rattle.rl_read.specs.Stock.{elements_from}
-use Rattle.rl_read.proofs.MadeVectors.{car_was, cdr_was, changed_same, filled_all, filled_more, left_is_pair, left_pair, vector_here, vector_stays, world_filled}
-use Rattle.rl_read.proofs.MadeWorlds.{able_vector, making_vector, put_live}
-use Rattle.rl_read.proofs.Making.{pair_stays}
+use Rattle.rl_read.proofs.VectorFilled.{car_was, cdr_was, changed_same, filled_all, filled_more, left_is_pair, left_pair, vector_here, vector_stays, world_filled}
+use Rattle.rl_read.proofs.MakingKeepsNames.{able_vector, making_vector, put_live}
+use Rattle.rl_read.proofs.MakingStays.{pair_stays}
 use Rattle.rl_read.proofs.make.fill.Goals as goal
 
 pub loop-i-init : goal.loop-i-init

@@ -1,6 +1,6 @@
 use Rattle.rl_read.specs.Frames.{IsChain}
 use Rattle.rl_read.specs.declared.frames.Chain.TheVariants as chain
-use Rattle.rl_read.proofs.Making.{pair_stays}
+use Rattle.rl_read.proofs.MakingStays.{pair_stays}
 use Rattle.rl_read.proofs.make.hang.Goals as goal
 
 pub returns-in-Pairs-clause-chain : goal.returns-in-Pairs-clause-chain

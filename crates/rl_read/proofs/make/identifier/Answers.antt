@@ -1,4 +1,4 @@
-use Rattle.rl_read.proofs.MadeFound.{identifier_found, identifier_free}
+use Rattle.rl_read.proofs.NameFound.{identifier_found, identifier_free}
 use Rattle.rl_read.proofs.make.identifier.Goals as goal
 
 pub returns-in-Some-clause-ok : goal.returns-in-Some-clause-ok

@@ -2,14 +2,14 @@ use Rattle.std.proofs.Common.{◌+◌, ◌/◌, length}
 use Rattle.rl_syms.specs.Made.{Enters}
 use Rattle.rl_world.specs.Counts.{roomed}
 use Rattle.rl_read.specs.Stock.{stock_of}
-use Rattle.rl_read.proofs.MadeNames.{able_named, entered, identifier_entered, making_entered}
-use Rattle.rl_read.proofs.MadeStocks.{id_cost_is, identifier_stopped}
-use Rattle.rl_read.proofs.MadeWorlds.{ok_with_room, room_enough}
-use Rattle.rl_read.proofs.Counted.{room_counted}
+use Rattle.rl_read.proofs.NameEntered.{able_named, entered, identifier_entered, making_entered}
+use Rattle.rl_read.proofs.ObjectMade.{id_cost_is, identifier_stopped}
+use Rattle.rl_read.proofs.MakingKeepsNames.{ok_with_room, room_enough}
+use Rattle.rl_read.proofs.StopsAreCounted.{room_counted}
 use Rattle.rl_read.proofs.make.new_identifier.Goals as goal
 
 pub returns-in-Err-clause-stop : goal.returns-in-Err-clause-stop
-returns-in-Err-clause-stop c = identifier_stopped c.args.name.now (stock_of c.args.w.now) c.in-Err.s (rw (← id_cost_is c.args.name.now) c.in-Err.ensures.stop)
+returns-in-Err-clause-stop c = rw c.in-Err.ensures.err (identifier_stopped c.args.name.now (stock_of c.args.w.now) c.in-Err.s (rw (← id_cost_is c.args.name.now) c.in-Err.ensures.stop))
 
 pub returns-in-Err-clause-counted : goal.returns-in-Err-clause-counted
 returns-in-Err-clause-counted c = room_counted c.args.w.now.counts _ _ c.in-Err.s c.in-Err.ensures.stop

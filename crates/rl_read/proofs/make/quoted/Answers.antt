@@ -1,4 +1,4 @@
-use Rattle.rl_read.proofs.Making.{making_trans}
+use Rattle.rl_read.proofs.MakingStays.{making_trans}
 use Rattle.rl_read.proofs.make.quoted.Goals as goal
 
 pub returns-in-Err-pair-clause-making : goal.returns-in-Err-pair-clause-making

@@ -1,5 +1,5 @@
 use Rattle.rl_cells.specs.Cell.{car_of}
-use Rattle.rl_read.proofs.MadeWorlds.{able_changed, making_changed}
+use Rattle.rl_read.proofs.MakingKeepsNames.{able_changed, making_changed}
 use Rattle.rl_read.proofs.make.set_cdr.Goals as goal
 
 pub returns-clause-able : goal.returns-clause-able

@@ -3,13 +3,13 @@ use Rattle.rl_tags.specs.Tagged.{StrAt}
 use Rattle.rl_cells.specs.Cell.{StrCell, cost_of, grown}
 use Rattle.rl_world.specs.Counts.{roomed}
 use Rattle.rl_read.specs.Stock.{stock_of}
-use Rattle.rl_read.proofs.MadeStocks.{object_had, object_stopped}
-use Rattle.rl_read.proofs.MadeWorlds.{able_grown, making_grown, room_enough}
-use Rattle.rl_read.proofs.Counted.{room_counted}
+use Rattle.rl_read.proofs.ObjectMade.{object_had, object_stopped}
+use Rattle.rl_read.proofs.MakingKeepsNames.{able_grown, making_grown, room_enough}
+use Rattle.rl_read.proofs.StopsAreCounted.{room_counted}
 use Rattle.rl_read.proofs.make.string.Goals as goal
 
 pub returns-in-Err-clause-stop : goal.returns-in-Err-clause-stop
-returns-in-Err-clause-stop c = object_stopped (λ n. StrAt n) (StrCell c.args.bytes.now) (stock_of c.args.w.now) c.in-Err.s c.in-Err.ensures.stop
+returns-in-Err-clause-stop c = rw c.in-Err.ensures.err (object_stopped (λ n. StrAt n) (StrCell c.args.bytes.now) (stock_of c.args.w.now) c.in-Err.s c.in-Err.ensures.stop)
 
 pub returns-in-Err-clause-counted : goal.returns-in-Err-clause-counted
 returns-in-Err-clause-counted c = room_counted c.args.w.now.counts _ _ c.in-Err.s c.in-Err.ensures.stop

@@ -7,11 +7,11 @@ use Rattle.rl_world.specs.Counts.{roomed}
 use Rattle.rl_world.specs.declared.world.World.{World}
 use Rattle.rl_read.specs.Stock.{elements_from, first_of_chain, stock_of}
 use Rattle.rl_read.specs.Frames.{AreReadyToMake, chain_of}
-use Rattle.rl_read.proofs.Counted.{room_counted}
-use Rattle.rl_read.proofs.MadeLists.{elements_counted, elements_few, first_live, vector_few, vector_lacks, vector_many, vector_world}
-use Rattle.rl_read.proofs.MadeStocks.{object_had, object_stopped}
-use Rattle.rl_read.proofs.MadeWorlds.{able_grown, making_grown, room_enough}
-use Rattle.rl_read.proofs.Making.{making_trans}
+use Rattle.rl_read.proofs.StopsAreCounted.{room_counted}
+use Rattle.rl_read.proofs.VectorOfList.{elements_counted, elements_few, first_live, vector_few, vector_lacks, vector_many, vector_world}
+use Rattle.rl_read.proofs.ObjectMade.{object_had, object_stopped}
+use Rattle.rl_read.proofs.MakingKeepsNames.{able_grown, making_grown, room_enough}
+use Rattle.rl_read.proofs.MakingStays.{making_trans}
 use Rattle.rl_read.proofs.make.vector.Goals as goal
 
 pub overflow_add-n : goal.overflow_add-n
@@ -22,8 +22,9 @@ returns-then-n-gt-MOST_PLACES-clause-stop c = vector_many (chain_of c.args.chain
 
 pub returns-in-Err-clause-stop : goal.returns-in-Err-clause-stop
 returns-in-Err-clause-stop c =
-    vector_lacks (chain_of c.args.chain.now) (stock_of c.args.w.now) c.first_of-list.result c.count-n.result c.in-Err.s c.first_of-list.ensures c.count-n.ensures (omega arith)
-    (object_stopped (λ n. VectorAt n) (VectorCell (elements_from 2147483649 c.args.w.now.cells.cells c.first_of-list.result)) (stock_of c.args.w.now) c.in-Err.s (rw (← c.count-n.ensures) c.in-Err.ensures.stop))
+    rw c.in-Err.ensures.err
+    (vector_lacks (chain_of c.args.chain.now) (stock_of c.args.w.now) (stock_of c.args.w.now) c.first_of-list.result c.count-n.result c.in-Err.s c.first_of-list.ensures c.count-n.ensures (omega arith)
+    (object_stopped (λ n. VectorAt n) (VectorCell (elements_from 2147483649 c.args.w.now.cells.cells c.first_of-list.result)) (stock_of c.args.w.now) c.in-Err.s (rw (← c.count-n.ensures) c.in-Err.ensures.stop)))
 
 pub returns-in-Err-clause-counted : goal.returns-in-Err-clause-counted
 returns-in-Err-clause-counted c = room_counted c.args.w.now.counts c.args.w.now.cells (1 + (c.count-n.result + 1) / 2) c.in-Err.s c.in-Err.ensures.stop

@@ -1,8 +1,8 @@
 use Rattle.std.proofs.Common.{◌∙◌}
 use Rattle.rl_read.specs.Stock.{stock_of}
 use Rattle.rl_read.specs.Frames.{frames_in}
-use Rattle.rl_read.proofs.Ended.{between_ends, may_end_else, open_ends, refusal_of, refusal_same, same_place, word_ends}
-use Rattle.rl_read.proofs.Went.{ok_mapped}
+use Rattle.rl_read.proofs.TextEnds.{between_ends, may_end_else, open_ends, refusal_of, refusal_same, same_place, word_ends}
+use Rattle.rl_read.proofs.ElementEnds.{ok_mapped}
 use Rattle.rl_read.proofs.read.at_end.Goals as goal
 
 pub returns-in-Gap-clause-syntax : goal.returns-in-Gap-clause-syntax
@@ -28,10 +28,6 @@ returns-in_default-clause-syntax c = λ j is.
     (both.0, refusal_same c.word_at_end.new.w _ _ _ (λ t. word_ends t c.args.mode c.args.word.now.items (frames_in c.args.base c.args.w.now c.args.group) (stock_of c.args.w.now) ends) both.1)
 
 pub returns-in_default-clause-stop : goal.returns-in_default-clause-stop
-returns-in_default-clause-stop c = λ s is.
+returns-in_default-clause-stop c = λ s is t.
     let ends = may_end_else c.args.mode c.in_default.not-Gap c.in_default.not-Comment c.in_default.not-Escape c.in_default.not-Text in
-    let stopped = c.word_at_end.ensures.stop s is in
-    record {
-      made = stopped.made;
-      stopped = λ t. word_ends t c.args.mode c.args.word.now.items (frames_in c.args.base c.args.w.now c.args.group) (stock_of c.args.w.now) ends ∙ stopped.stopped t;
-    }
+    word_ends t c.args.mode c.args.word.now.items (frames_in c.args.base c.args.w.now c.args.group) (stock_of c.args.w.now) ends ∙ c.word_at_end.ensures.stop s is t

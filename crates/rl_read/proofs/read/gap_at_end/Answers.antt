@@ -1,6 +1,6 @@
 use Rattle.std.proofs.Common.{◌∙◌, refl, sym}
 use Rattle.rl_read.specs.Stock.{stock_of}
-use Rattle.rl_read.proofs.Ended.{inside_refused, refusal_of, root_has_none, same_place}
+use Rattle.rl_read.proofs.TextEnds.{inside_refused, refusal_of, root_has_none, same_place}
 use Rattle.rl_read.proofs.read.gap_at_end.Goals as goal
 
 pub returns-in-Root-clause-end : goal.returns-in-Root-clause-end

@@ -11,13 +11,13 @@ use Rattle.rl_read.specs.Stock.{Stock, in_stock, stock_of}
 use Rattle.rl_read.specs.Frames.{CanMake, frames_in}
 use Rattle.rl_read.specs.Steps.{IsStep, step_of, mode_of}
 use Rattle.rl_read.specs.Reads.{IsRefusedText, IsStoppedText}
-use Rattle.rl_read.proofs.Making.{steady_refl, steady_trans}
-use Rattle.rl_read.proofs.FormedTold.{told_first, told_same, told_waits}
-use Rattle.rl_read.proofs.FormedKeeps.{keeps_refl, keeps_trans, keeps_given, keeps_back, keeps_levels, keeps_read, levels_back, steady_as, read_input, read_waiting, left_input, left_waiting}
-use Rattle.rl_read.proofs.FormedTurns.{goes_left, measure_falls, turns_fall}
-use Rattle.rl_read.proofs.FormedGoing.{going_first, kept_first, ready_first, passed_able, passed_levels, passed_ready, told_on, told_done, told_before, told_refused, told_halted, told_whole, told_none, told_end_refused, told_end_stopped, told_wants, wanted_is_counted, not_a_read, not_a_write, stop_same}
-use Rattle.rl_read.proofs.Ended.{levels_left, same_place}
-use Rattle.rl_read.proofs.Went.{ok_mapped as ok_then}
+use Rattle.rl_read.proofs.MakingStays.{steady_refl, steady_trans}
+use Rattle.rl_read.proofs.ToldByCalls.{told_first, told_same, told_waits}
+use Rattle.rl_read.proofs.ReadingKeeps.{keeps_refl, keeps_trans, keeps_given, keeps_back, keeps_levels, keeps_read, levels_back, steady_as, read_input, read_waiting, left_input, left_waiting}
+use Rattle.rl_read.proofs.MakingTakesNoTurn.{goes_left, measure_falls, turns_fall}
+use Rattle.rl_read.proofs.ByteByByte.{going_first, kept_first, ready_first, passed_able, passed_levels, passed_ready, passed_same, told_on, told_done, told_before, told_refused, told_halted, told_whole, told_none, told_end_refused, told_end_stopped, told_wants, wanted_is_counted, not_a_read, not_a_write, stop_same}
+use Rattle.rl_read.proofs.TextEnds.{levels_left, same_place}
+use Rattle.rl_read.proofs.ElementEnds.{ok_mapped as ok_then}
 use Rattle.rl_read.proofs.read.read_form.Goals as goal
 use Rattle.rl_read.proofs.read.read_form.Goals.{then-not-used, else-not-used}
 use Rattle.rl_world.specs.declared.world.World.{World}
@@ -60,7 +60,7 @@ pub returns-in-Ok-None-clause-end : goal.returns-in-Ok-None-clause-end
 returns-in-Ok-None-clause-end g c = λ is. told_none (g.T.Bytes.takes_turns c.args.text.now) (g.T.Bytes.takes_turns c.loop-b.text) c.loop-b.invariant.turns c.args.w.now c.loop-b.w c.next.new.w c.walk_len-base.result (mode_of c.loop-b.mode c.loop-b.word.items) c.loop-b.group c.loop-b.k (g.T.Bytes.unread c.args.text.now c.args.w.now.input) (g.T.Bytes.unread c.loop-b.text c.loop-b.w.input) (λ i. g.T.Bytes.unread c.next.new.self i) c.loop-b.invariant.goes c.next.ensures.world c.in-Ok-None.field-0 c.in-Ok-None.ensures.gives c.in-Ok-None.ensures.turn c.in-Ok-None.field-0-is c.at_end.new.w.input (read_input c.walk_len-base.result c.next.new.w c.at_end.new.w c.at_end.ensures.reading) (stock_of c.at_end.new.w) (c.at_end.ensures.end is (g.T.Bytes.takes_turns c.args.text.now))
 
 pub returns-in-Ok-None-clause-stop : goal.returns-in-Ok-None-clause-stop
-returns-in-Ok-None-clause-stop g c = λ s is not. told_end_stopped (g.T.Bytes.takes_turns c.args.text.now) (g.T.Bytes.takes_turns c.loop-b.text) c.loop-b.invariant.turns c.args.w.now c.loop-b.w c.next.new.w c.walk_len-base.result (mode_of c.loop-b.mode c.loop-b.word.items) c.loop-b.group c.loop-b.k (g.T.Bytes.unread c.args.text.now c.args.w.now.input) (g.T.Bytes.unread c.loop-b.text c.loop-b.w.input) (λ i. g.T.Bytes.unread c.next.new.self i) c.loop-b.invariant.goes c.next.ensures.world c.in-Ok-None.field-0 c.in-Ok-None.ensures.gives c.in-Ok-None.ensures.turn c.in-Ok-None.field-0-is c.at_end.new.w.input (read_input c.walk_len-base.result c.next.new.w c.at_end.new.w c.at_end.ensures.reading) s (c.at_end.ensures.stop s is)
+returns-in-Ok-None-clause-stop g c = λ s is not. told_end_stopped (g.T.Bytes.takes_turns c.args.text.now) (g.T.Bytes.takes_turns c.loop-b.text) c.loop-b.invariant.turns c.args.w.now c.loop-b.w c.next.new.w c.walk_len-base.result (mode_of c.loop-b.mode c.loop-b.word.items) c.loop-b.group c.loop-b.k (g.T.Bytes.unread c.args.text.now c.args.w.now.input) (g.T.Bytes.unread c.loop-b.text c.loop-b.w.input) (λ i. g.T.Bytes.unread c.next.new.self i) c.loop-b.invariant.goes c.next.ensures.world c.in-Ok-None.field-0 c.in-Ok-None.ensures.gives c.in-Ok-None.ensures.turn c.in-Ok-None.field-0-is c.at_end.new.w.input (read_input c.walk_len-base.result c.next.new.w c.at_end.new.w c.at_end.ensures.reading) c.at_end.new.w s (c.at_end.ensures.stop s is)
 
 pub returns-in-Ok-None-clause-counted : goal.returns-in-Ok-None-clause-counted
 returns-in-Ok-None-clause-counted g c = λ s is not. c.at_end.ensures.counted s is
@@ -81,7 +81,7 @@ pub returns-in-Ok-None-clause-keeps : goal.returns-in-Ok-None-clause-keeps
 returns-in-Ok-None-clause-keeps g c = keeps_trans c.args.w.now c.next.new.w c.at_end.new.w (keeps_trans c.args.w.now c.loop-b.w c.next.new.w c.loop-b.invariant.keeps (keeps_given c.loop-b.w c.next.new.w c.next.ensures.world)) (keeps_read c.walk_len-base.result c.next.new.w c.at_end.new.w c.at_end.ensures.reading)
 
 pub returns-in-Err-clause-stop : goal.returns-in-Err-clause-stop
-returns-in-Err-clause-stop g c = λ s e. subst (λ (s : Stop). is_fault s ≡ false → TakesBytes (g.T.Bytes.unread c.args.text.now c.args.w.now.input) (g.T.Bytes.unread c.next.new.self c.next.new.w.input) (λ before now. IsStoppedText (g.T.Bytes.takes_turns c.args.text.now) c.args.w.now before now s)) (stop_same c.in-Err.s s e) (told_wants (g.T.Bytes.takes_turns c.args.text.now) (g.T.Bytes.takes_turns c.loop-b.text) c.loop-b.invariant.turns c.args.w.now c.loop-b.w c.next.new.w (mode_of c.loop-b.mode c.loop-b.word.items) (frames_in c.walk_len-base.result c.loop-b.w c.loop-b.group) c.loop-b.k (g.T.Bytes.unread c.args.text.now c.args.w.now.input) (g.T.Bytes.unread c.loop-b.text c.loop-b.w.input) (g.T.Bytes.unread c.next.new.self c.next.new.w.input) c.in-Err.s c.loop-b.invariant.goes c.in-Err.ensures.stop)
+returns-in-Err-clause-stop g c = λ s e. subst (λ (s : Stop). is_fault s ≡ false → TakesBytes (g.T.Bytes.unread c.args.text.now c.args.w.now.input) (g.T.Bytes.unread c.next.new.self c.next.new.w.input) (λ before now. IsStoppedText (g.T.Bytes.takes_turns c.args.text.now) c.args.w.now c.next.new.w before now s)) (stop_same c.in-Err.s s e) (told_wants (g.T.Bytes.takes_turns c.args.text.now) (g.T.Bytes.takes_turns c.loop-b.text) c.loop-b.invariant.turns c.args.w.now c.loop-b.w c.next.new.w (mode_of c.loop-b.mode c.loop-b.word.items) (frames_in c.walk_len-base.result c.loop-b.w c.loop-b.group) c.loop-b.k (g.T.Bytes.unread c.args.text.now c.args.w.now.input) (g.T.Bytes.unread c.loop-b.text c.loop-b.w.input) (g.T.Bytes.unread c.next.new.self c.next.new.w.input) c.in-Err.s c.loop-b.invariant.goes c.in-Err.ensures.stop (passed_same c.loop-b.w c.next.new.w c.next.ensures.world c.in-Err.ensures.err))
 
 pub returns-in-Err-clause-able : goal.returns-in-Err-clause-able
 returns-in-Err-clause-able g c = passed_able c.walk_len-base.result c.loop-b.w c.next.new.w c.loop-b.group c.in-Err.ensures.err c.next.ensures.world c.loop-b.invariant.ready
@@ -105,7 +105,7 @@ pub read_byte-requires-clause-ready : goal.read_byte-requires-clause-ready
 read_byte-requires-clause-ready g c = passed_ready c.bounds_are_kept.ensures (g.T.Bytes.takes_turns c.loop-b.text) c.walk_len-base.result c.loop-b.w c.next.new.w c.loop-b.group c.in-Ok-Some.field-0 c.in-Ok-Some.ensures.turn c.next.ensures.world c.loop-b.invariant.ready
 
 pub returns-in-Err-read_byte-clause-stop : goal.returns-in-Err-read_byte-clause-stop
-returns-in-Err-read_byte-clause-stop g c = λ s e not. subst (λ (s : Stop). TakesBytes (g.T.Bytes.unread c.args.text.now c.args.w.now.input) (g.T.Bytes.unread c.next.new.self c.read_byte.new.w.input) (λ before now. IsStoppedText (g.T.Bytes.takes_turns c.args.text.now) c.args.w.now before now s)) (stop_same c.in-Err-read_byte.s s e) (told_halted (g.T.Bytes.takes_turns c.args.text.now) (g.T.Bytes.takes_turns c.loop-b.text) c.loop-b.invariant.turns c.args.w.now c.loop-b.w c.next.new.w c.walk_len-base.result (mode_of c.loop-b.mode c.loop-b.word.items) c.loop-b.group c.loop-b.k (g.T.Bytes.unread c.args.text.now c.args.w.now.input) (g.T.Bytes.unread c.loop-b.text c.loop-b.w.input) (λ i. g.T.Bytes.unread c.next.new.self i) c.loop-b.invariant.goes c.next.ensures.world c.in-Ok-Some.field-0 c.in-Ok-Some.ensures.gives c.in-Ok-Some.ensures.turn c.in-Ok-Some.b c.in-Ok-Some.field-0-is c.read_byte.new.w.input (read_input c.walk_len-base.result c.next.new.w c.read_byte.new.w c.read_byte.ensures.reading) c.in-Err-read_byte.ensures.stop.0 c.in-Err-read_byte.s (c.in-Err-read_byte.ensures.stop.1 (g.T.Bytes.takes_turns c.args.text.now)))
+returns-in-Err-read_byte-clause-stop g c = λ s e not. subst (λ (s : Stop). TakesBytes (g.T.Bytes.unread c.args.text.now c.args.w.now.input) (g.T.Bytes.unread c.next.new.self c.read_byte.new.w.input) (λ before now. IsStoppedText (g.T.Bytes.takes_turns c.args.text.now) c.args.w.now c.read_byte.new.w before now s)) (stop_same c.in-Err-read_byte.s s e) (told_halted (g.T.Bytes.takes_turns c.args.text.now) (g.T.Bytes.takes_turns c.loop-b.text) c.loop-b.invariant.turns c.args.w.now c.loop-b.w c.next.new.w c.walk_len-base.result (mode_of c.loop-b.mode c.loop-b.word.items) c.loop-b.group c.loop-b.k (g.T.Bytes.unread c.args.text.now c.args.w.now.input) (g.T.Bytes.unread c.loop-b.text c.loop-b.w.input) (λ i. g.T.Bytes.unread c.next.new.self i) c.loop-b.invariant.goes c.next.ensures.world c.in-Ok-Some.field-0 c.in-Ok-Some.ensures.gives c.in-Ok-Some.ensures.turn c.in-Ok-Some.b c.in-Ok-Some.field-0-is c.read_byte.new.w.input (read_input c.walk_len-base.result c.next.new.w c.read_byte.new.w c.read_byte.ensures.reading) c.read_byte.new.w c.in-Err-read_byte.s (c.in-Err-read_byte.ensures.stop (g.T.Bytes.takes_turns c.args.text.now)))
 
 pub returns-in-Err-read_byte-clause-printed : goal.returns-in-Err-read_byte-clause-printed
 returns-in-Err-read_byte-clause-printed g c = λ not. told_waits (λ waiting. g.T.Bytes.printed c.next.new.self waiting) (g.T.Bytes.printed c.args.text.now c.args.w.now.output.waiting) (g.T.Bytes.printed c.loop-b.text c.loop-b.w.output.waiting) c.next.new.w.output.waiting c.read_byte.new.w.output.waiting (read_waiting c.walk_len-base.result c.next.new.w c.read_byte.new.w c.read_byte.ensures.reading) c.loop-b.invariant.printed (c.in-Ok-Some.ensures.printed (λ e. cc))

@@ -2,8 +2,8 @@ use Rattle.std.proofs.Common.{ap, ◌∙◌}
 use Rattle.rl_text.specs.Reader as reader
 use Rattle.rl_read.specs.Steps.{ended_of}
 use Rattle.rl_read.specs.declared.step.Ended.{Ended}
-use Rattle.rl_read.proofs.Ended.{refusal_of, same_place}
-use Rattle.rl_read.proofs.Making.{reading_of_levels, reading_trans}
+use Rattle.rl_read.proofs.TextEnds.{refusal_of, same_place}
+use Rattle.rl_read.proofs.MakingStays.{reading_of_levels, reading_trans}
 use Rattle.rl_read.proofs.read.word_at_end.Goals as goal
 
 pub returns-in-Inside-clause-syntax : goal.returns-in-Inside-clause-syntax

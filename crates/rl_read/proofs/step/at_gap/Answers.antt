@@ -3,7 +3,7 @@ use Rattle.rl_text.specs.Reader as reader
 use Rattle.rl_text.specs.Byte as byte
 use Rattle.rl_read.specs.Stock.{in_stock, stock_of}
 use Rattle.rl_read.specs.Frames.{frames_in}
-use Rattle.rl_read.proofs.Went.{halts_same, steps_same, steps_with}
+use Rattle.rl_read.proofs.ElementEnds.{halts_same, steps_same, steps_with}
 use Rattle.rl_read.proofs.step.at_gap.Goals as goal
 
 pub returns-in-Text-clause-step : goal.returns-in-Text-clause-step
@@ -22,4 +22,4 @@ returns-in-Special-clause-ok c =
 
 pub returns-in-Special-clause-stop : goal.returns-in-Special-clause-stop
 returns-in-Special-clause-stop c =
-    halts_same c.at_special.result _ _ (λ t. ap (λ (class : byte.Class). reader.at_class (in_stock t) class c.args.b (frames_in c.args.base c.args.w.now c.args.group) (stock_of c.args.w.now)) (sym c.in-Special.ensures)) c.at_special.ensures.stop
+    halts_same c.at_special.result _ _ _ (λ t. ap (λ (class : byte.Class). reader.at_class (in_stock t) class c.args.b (frames_in c.args.base c.args.w.now c.args.group) (stock_of c.args.w.now)) (sym c.in-Special.ensures)) c.at_special.ensures.stop

@@ -2,8 +2,8 @@ use Rattle.std.proofs.Common.{◌≡◌, true, ap, sym, ◌∙◌, []}
 use Rattle.rl_text.specs.Reader as reader
 use Rattle.rl_read.specs.Stock.{stock_of}
 use Rattle.rl_read.specs.Frames.{frames_in}
-use Rattle.rl_read.proofs.KeptSteps.{admits_ready}
-use Rattle.rl_read.proofs.Went.{special_taken}
+use Rattle.rl_read.proofs.GroupAdmits.{admits_ready}
+use Rattle.rl_read.proofs.ElementEnds.{special_taken}
 use Rattle.rl_read.proofs.step.at_special.Goals as goal
 
 pub returns-in-Ok-clause-ok : goal.returns-in-Ok-clause-ok
@@ -19,4 +19,4 @@ returns-in-Ok-clause-step c = c.goes_after.ensures.ready c.args.base c.atom_ende
 pub returns-in-Err-clause-stop : goal.returns-in-Err-clause-stop
 returns-in-Err-clause-stop c =
     let admitted : reader.admits (frames_in c.args.base c.args.w.now c.args.group) ≡ true = admits_ready c.args.base c.args.w.now c.args.group c.requires.ready ∙ (sym c.admits.ensures ∙ c.if-not-admits.false) in
-    (c.in-Err.ensures.stop.0, λ t. special_taken t c.args.b (frames_in c.args.base c.args.w.now c.args.group) (stock_of c.args.w.now) admitted ∙ ap reader.goes_after (c.in-Err.ensures.stop.1 t))
+    λ t. special_taken t c.args.b (frames_in c.args.base c.args.w.now c.args.group) (stock_of c.args.w.now) admitted ∙ ap reader.goes_after (c.in-Err.ensures.stop t)

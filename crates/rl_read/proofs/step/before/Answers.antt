@@ -2,9 +2,9 @@ use Rattle.std.proofs.Common.{ap, ◌∙◌}
 use Rattle.rl_read.specs.Stock.{stock_of}
 use Rattle.rl_read.specs.Frames.{frames_in}
 use Rattle.rl_read.specs.Steps.{ended_of, word_atom}
-use Rattle.rl_read.proofs.Making.{reading_trans}
-use Rattle.rl_read.proofs.Went.{halts_same, steps_same}
-use Rattle.rl_read.proofs.BytesBefore.{inside_before}
+use Rattle.rl_read.proofs.MakingStays.{reading_trans}
+use Rattle.rl_read.proofs.ElementEnds.{halts_same, steps_same}
+use Rattle.rl_read.proofs.ByteInWord.{inside_before}
 use Rattle.rl_read.proofs.step.before.Goals as goal
 
 pub returns-in-Inside-clause-ok : goal.returns-in-Inside-clause-ok
@@ -15,7 +15,7 @@ returns-in-Inside-clause-ok c =
 
 pub returns-in-Inside-clause-stop : goal.returns-in-Inside-clause-stop
 returns-in-Inside-clause-stop c =
-    halts_same c.at_gap.result _ _
+    halts_same c.at_gap.result _ _ _
     (λ t. inside_before t c.args.b (word_atom c.args.mode c.args.word.now.items) (frames_in c.args.base c.args.w.now c.args.group) (frames_in c.args.base c.word_ended.new.w c.in-Inside.group) (stock_of c.args.w.now) (stock_of c.word_ended.new.w) (c.in-Ok.ensures.ok t ∙ ap (ended_of c.args.base c.word_ended.new.w) c.in-Inside.is))
     c.at_gap.ensures.stop
 

@@ -3,9 +3,9 @@ use Rattle.rl_tags.specs.Tagged.{Tagged}
 use Rattle.rl_text.specs.Reader as reader
 use Rattle.rl_read.specs.Stock.{in_stock, stock_of}
 use Rattle.rl_read.specs.Frames.{frames_around}
-use Rattle.rl_read.proofs.Closed.{rest_is_ready, whole_closes}
-use Rattle.rl_read.proofs.Making.{reading_of_making}
-use Rattle.rl_read.proofs.Went.{halts_same, steps_same}
+use Rattle.rl_read.proofs.BracketsClose.{rest_is_ready, whole_closes}
+use Rattle.rl_read.proofs.MakingStays.{reading_of_making}
+use Rattle.rl_read.proofs.ElementEnds.{halts_same, steps_same}
 use Rattle.rl_read.proofs.step.close_level.Goals as goal
 
 pub returns-then-owed-eq0-clause-ok : goal.returns-then-owed-eq0-clause-ok
@@ -16,7 +16,7 @@ returns-then-owed-eq0-clause-ok c =
 
 pub returns-then-owed-eq0-clause-stop : goal.returns-then-owed-eq0-clause-stop
 returns-then-owed-eq0-clause-stop c =
-    halts_same c.bracket_ended.result _ _ (λ t. whole_closes t c.args.base c.args.w.now c.args.group.now c.args.l.now c.args.owed c.args.phase.now c.requires.list c.if-owed-eq0.true c.requires.undotted
+    halts_same c.bracket_ended.result _ _ _ (λ t. whole_closes t c.args.base c.args.w.now c.args.group.now c.args.l.now c.args.owed c.args.phase.now c.requires.list c.if-owed-eq0.true c.requires.undotted
     ∙ ap (λ (v : Tagged). reader.goes_after (reader.value_ended (in_stock t) v (frames_around c.args.base c.args.w.now c.args.group.now) (reader.left (in_stock t) (frames_around c.args.base c.args.w.now c.args.group.now) (stock_of c.args.w.now)))) (sym c.first_of.ensures))
     c.bracket_ended.ensures.stop
 

@@ -1,5 +1,5 @@
-use Rattle.rl_read.proofs.Closed.{no_vector_closes}
-use Rattle.rl_read.proofs.Making.{reading_refl}
+use Rattle.rl_read.proofs.BracketsClose.{no_vector_closes}
+use Rattle.rl_read.proofs.MakingStays.{reading_refl}
 use Rattle.rl_read.proofs.step.close_vector.Goals as goal
 
 pub returns-in_default : goal.returns-in_default

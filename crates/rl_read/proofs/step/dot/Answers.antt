@@ -1,4 +1,4 @@
-use Rattle.rl_read.proofs.KeptSteps.{dot_refuses_ready}
+use Rattle.rl_read.proofs.GroupAdmits.{dot_refuses_ready}
 use Rattle.rl_read.proofs.step.dot.Goals as goal
 
 pub returns-in_default : goal.returns-in_default

@@ -2,8 +2,8 @@ use Rattle.std.proofs.Common.{◌≡◌, false, sym, ◌∙◌}
 use Rattle.rl_tree.specs.Bytes.{is_digit}
 use Rattle.rl_read.specs.Stock.{stock_of}
 use Rattle.rl_read.specs.Frames.{frames_in}
-use Rattle.rl_read.proofs.Went.{halts_same, steps_same}
-use Rattle.rl_read.proofs.BytesBefore.{digits_before, none_else_digits}
+use Rattle.rl_read.proofs.ElementEnds.{halts_same, steps_same}
+use Rattle.rl_read.proofs.ByteInWord.{digits_before, none_else_digits}
 use Rattle.rl_read.proofs.step.in_digits.Goals as goal
 
 pub returns-then-not-is_ascii_digit-clause-ok : goal.returns-then-not-is_ascii_digit-clause-ok
@@ -16,7 +16,7 @@ returns-then-not-is_ascii_digit-clause-ok c =
 pub returns-then-not-is_ascii_digit-clause-stop : goal.returns-then-not-is_ascii_digit-clause-stop
 returns-then-not-is_ascii_digit-clause-stop c =
     let other : is_digit c.args.b ≡ false = sym c.is_ascii_digit.ensures.value ∙ c.if-not-is_ascii_digit.true in
-    halts_same c.before-then-not-is_ascii_digit.result _ _
+    halts_same c.before-then-not-is_ascii_digit.result _ _ _
     (λ t. digits_before t c.args.mode c.args.b c.args.word.now.items (frames_in c.args.base c.args.w.now c.args.group) (stock_of c.args.w.now) c.requires.digits other)
     c.before-then-not-is_ascii_digit.ensures.stop
 

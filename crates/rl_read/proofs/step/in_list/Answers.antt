@@ -4,8 +4,8 @@ use Rattle.rl_read.specs.Stock.{stock_of}
 use Rattle.rl_read.specs.Frames.{chain_of}
 use Rattle.rl_read.specs.declared.frames.Phase.TheVariants as phase
 use Rattle.rl_read.specs.declared.frames.Group.TheVariants as group
-use Rattle.rl_read.proofs.Making.{chain_stays, ready_made}
-use Rattle.rl_read.proofs.Went.{kept_same, list_ended, list_lacks}
+use Rattle.rl_read.proofs.MakingStays.{chain_stays, ready_made}
+use Rattle.rl_read.proofs.ElementEnds.{kept_same, list_ended, list_lacks}
 use Rattle.std.proofs.Common.{sym}
 use Rattle.rl_read.proofs.step.in_list.Goals as goal
 
@@ -33,10 +33,9 @@ returns-in-Ok c =
 
 pub returns-in-Err : goal.returns-in-Err
 returns-in-Err c =
-    let lacks = c.in-Err.ensures.stop in
     record {
       ok = tt;
-      stop = (lacks.0, λ t. list_lacks c.args.phase c.in_default.not-Dotted t c.args.v (chain_of c.args.l) c.args.owed _ c.in-Err.s (stock_of c.args.w.now) lacks.0 lacks.1);
+      stop = λ t. list_lacks c.args.phase c.in_default.not-Dotted t c.args.v (chain_of c.args.l) c.args.owed _ c.in-Err.s (stock_of c.args.w.now) (stock_of c.extended.new.w) c.in-Err.ensures.stop;
       counted = c.in-Err.ensures.counted;
       ended = tt;
       able = c.extended.ensures.able;

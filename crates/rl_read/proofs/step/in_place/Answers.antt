@@ -4,8 +4,8 @@ use Rattle.rl_read.specs.Stock.{in_stock, stock_of}
 use Rattle.rl_read.specs.Frames.{frames_in}
 use Rattle.rl_read.specs.declared.frames.Group.{Group}
 use Rattle.rl_read.specs.declared.frames.Group.TheVariants as group
-use Rattle.rl_read.proofs.Making.{chain_stays, ready_made}
-use Rattle.rl_read.proofs.Went.{ends_same, group_in_place, lacks_same, root_ended, root_frames}
+use Rattle.rl_read.proofs.MakingStays.{chain_stays, ready_made}
+use Rattle.rl_read.proofs.ElementEnds.{ends_same, group_in_place, lacks_same, root_ended, root_frames}
 use Rattle.rl_read.proofs.step.in_place.Goals as goal
 
 pub returns-in-Ok-clause-ended : goal.returns-in-Ok-clause-ended
@@ -26,7 +26,7 @@ returns-in-List-clause-ok c =
 
 pub returns-in-List-clause-stop : goal.returns-in-List-clause-stop
 returns-in-List-clause-stop c =
-    lacks_same c.in_list.result _ _ (λ t. ap (λ (g : Group). reader.value_ended (in_stock t) c.args.v (frames_in c.args.base c.args.w.now g) (stock_of c.args.w.now)) c.in-List.is) c.in_list.ensures.stop
+    lacks_same c.in_list.result _ _ _ (λ t. ap (λ (g : Group). reader.value_ended (in_stock t) c.args.v (frames_in c.args.base c.args.w.now g) (stock_of c.args.w.now)) c.in-List.is) c.in_list.ensures.stop
 
 pub returns-in_default-clause-ok : goal.returns-in_default-clause-ok
 returns-in_default-clause-ok c t =

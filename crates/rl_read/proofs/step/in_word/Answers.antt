@@ -1,5 +1,5 @@
 use Rattle.std.proofs.Common.{◌∙◌, refl, sym}
-use Rattle.rl_read.proofs.KeptSteps.{admits_ready}
+use Rattle.rl_read.proofs.GroupAdmits.{admits_ready}
 use Rattle.rl_read.proofs.step.in_word.Goals as goal
 
 pub returns-then-admits-clause-step : goal.returns-then-admits-clause-step

@@ -1,7 +1,7 @@
 use Rattle.std.proofs.Common.{◌∙◌, sym}
 use Rattle.rl_read.specs.Frames.{frames_in}
 use Rattle.rl_read.specs.Stock.{stock_of}
-use Rattle.rl_read.proofs.KeptSteps.{admits_ready, opens_halts, opens_opened}
+use Rattle.rl_read.proofs.GroupAdmits.{admits_ready, opens_halts, opens_opened}
 use Rattle.rl_read.proofs.step.opens.Goals as goal
 
 pub returns-in-Ok-clause-ok : goal.returns-in-Ok-clause-ok

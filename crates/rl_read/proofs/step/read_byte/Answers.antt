@@ -4,7 +4,7 @@ use Rattle.rl_read.specs.Stock.{in_stock, stock_of}
 use Rattle.rl_read.specs.Frames.{frames_in}
 use Rattle.rl_read.specs.Steps.{mode_of}
 use Rattle.rl_read.specs.declared.word.Mode.{Mode}
-use Rattle.rl_read.proofs.Went.{halts_same, steps_same}
+use Rattle.rl_read.proofs.ElementEnds.{halts_same, steps_same}
 use Rattle.rl_read.proofs.step.read_byte.Goals as goal
 
 pub returns-in-Comment-clause-ok : goal.returns-in-Comment-clause-ok
@@ -23,6 +23,6 @@ returns-in-Name-clause-ok c =
 
 pub returns-in-Name-clause-stop : goal.returns-in-Name-clause-stop
 returns-in-Name-clause-stop c =
-    halts_same c.in_name.result _ _
+    halts_same c.in_name.result _ _ _
     (λ t. ap (λ (m : Mode). reader.reader_step (in_stock t) (mode_of m c.args.word.now.items) c.args.b (frames_in c.args.base c.args.w.now c.args.group) (stock_of c.args.w.now)) c.in-Name.is)
     c.in_name.ensures.stop

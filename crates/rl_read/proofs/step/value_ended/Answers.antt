@@ -1,11 +1,12 @@
 use Rattle.std.proofs.Common.{rules, sym, ◌∙◌}
-use Rattle.rl_read.proofs.Making.{ready_stays, reading_of_levels, reading_of_making, reading_trans}
-use Rattle.rl_read.proofs.Went.{ends_same, lacks_same, quote_goes, quote_lacks}
+use Rattle.rl_read.specs.Stock.{stock_of}
+use Rattle.rl_read.proofs.MakingStays.{ready_stays, reading_of_levels, reading_of_making, reading_trans}
+use Rattle.rl_read.proofs.ElementEnds.{ends_same, lacks_same, quote_goes, quote_lacks}
 use Rattle.rl_read.proofs.step.value_ended.Goals as goal
 
 pub returns-in-Err-clause-stop : goal.returns-in-Err-clause-stop
 returns-in-Err-clause-stop c =
-    (c.in-Err.ensures.stop.0, λ t. c.loop-w.invariant.means t ∙ quote_lacks t c.args.base c.loop-w.w c.loop-w.v c.loop-w.group c.in-Err.s c.in-Err.ensures.stop.0 (sym c.is_quote.ensures ∙ c.loop-w-test.true) c.in-Err.ensures.stop.1)
+    λ t. c.loop-w.invariant.means t ∙ quote_lacks t c.args.base c.loop-w.w c.loop-w.v c.loop-w.group c.in-Err.s (stock_of c.quoted.new.w) (sym c.is_quote.ensures ∙ c.loop-w-test.true) c.in-Err.ensures.stop
 
 pub returns-in-Err-clause-reading : goal.returns-in-Err-clause-reading
 returns-in-Err-clause-reading c =
@@ -29,7 +30,7 @@ pub returns-clause-ok : goal.returns-clause-ok
 returns-clause-ok c = ends_same c.args.base c.in_place.new.w c.in_place.result _ _ (λ t. c.loop-w.invariant.means t) c.in_place.ensures.ok
 
 pub returns-clause-stop : goal.returns-clause-stop
-returns-clause-stop c = lacks_same c.in_place.result _ _ (λ t. c.loop-w.invariant.means t) c.in_place.ensures.stop
+returns-clause-stop c = lacks_same c.in_place.result _ _ _ (λ t. c.loop-w.invariant.means t) c.in_place.ensures.stop
 
 pub returns-clause-reading : goal.returns-clause-reading
 returns-clause-reading c = reading_trans c.args.base c.args.w.now c.loop-w.w c.in_place.new.w c.loop-w.invariant.reading (reading_of_making c.args.base c.loop-w.w c.in_place.new.w c.in_place.ensures.making)

@@ -1,6 +1,6 @@
 use Rattle.std.proofs.Common.{ap}
 use Rattle.rl_world.specs.declared.world.World.{World}
-use Rattle.rl_read.proofs.FormedBytes.{input_returns}
+use Rattle.rl_read.proofs.InputTakes.{input_returns}
 use Rattle.rl_read.proofs.bytes.IoBytes.back.Goals as goal
 
 pub returns-clause-back : goal.returns-clause-back

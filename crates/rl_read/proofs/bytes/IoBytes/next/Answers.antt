@@ -3,7 +3,7 @@ use Rattle.rl_world.specs.Input.{Gives, Input}
 use Rattle.rl_world.specs.declared.world.World.{World}
 use Rattle.rl_world.specs.Counts.{WorldCounts, tick_stop}
 use Rattle.rl_read.specs.Taken.{TakesBytes}
-use Rattle.rl_read.proofs.FormedBytes.{input_takes, takes_some, unread_input}
+use Rattle.rl_read.proofs.InputTakes.{input_takes, takes_some, unread_input}
 use Rattle.rl_read.proofs.bytes.IoBytes.next.Goals as goal
 use Rattle.rl_read.proofs.bytes.IoBytes.next.Goals.{then-is_some+in_default, else-is_some}
 
