@@ -67,15 +67,15 @@ line_is style w v page is = ap (λ n. with_datum style n (datum_in w v) page) is
 -- where all is printed
 pub all_shown : MeansDatum → PrintsData → (before now : Option (List ℕ)) (style : atoms.Style) (old new : World) (v : Tagged) → IsRunning old → IsKnown old v → IsPrinted before now style old new v
     → PrintsOnPage before now old.output.waiting new.output.waiting (λ text. Some (shown style old v text)) (λ text. Some (page_in new text))
-all_shown means law before now style old new v is known h =
-    let all = whole_printed style old v [] in
-    let alone : all.page ≡ with_datum style old.output.line_length (datum_in old v) (blank old.output.column) = law.whole (setting_in_world style old) (value_of old.cells.cells v) (datum_in old v) (levels_left old) (progress_in_world old []) refl (stored means old v is known style) h.whole in
-    let page : with_datum style line_length (datum_in old v) (blank old.output.column) ≡ all.page = sym (alone ∙ line_is style old v (blank old.output.column) is) in
-    record {
-      bytes = all.page.text;
-      follows = h.follows;
-      means = λ text. ap Some (datum_apart style line_length (datum_in old v) (page_in old text) ∙ (ap (onto text) page ∙ ap (λ n. record { text = text ++ all.page.text; column = n }) (sym h.column)));
-    }
+all_shown means law before now style old new v is known h = record {
+  bytes = h.prints.bytes;
+  follows = h.prints.follows;
+  means = λ text.
+      let printed = h.prints.means text in
+      let alone : (whole_printed style old v text).page ≡ with_datum style old.output.line_length (datum_in old v) (page_in old text) =
+          law.whole (setting_in_world style old) (value_of old.cells.cells v) (datum_in old v) (levels_left old) (progress_in_world old text) refl (stored means old v is known style) (ap (λ (p : Progress). p.ending) printed) in
+      ap Some (sym (line_is style old v (page_in old text) is) ∙ (sym alone ∙ ap (λ (p : Progress). p.page) printed));
+}
 
 -- a front of what the walk prints is one of what is printed of the datum
 front_shown : MeansDatum → PrintsData → (style : atoms.Style) (old : World) (v : Tagged) (bytes : List ℕ) → IsRunning old → IsKnown old v → ((text : List ℕ) → (rest : List ℕ) × ((whole_printed style old v text).page.text ≡ (text ++ bytes) ++ rest)) → IsFrontOfPage (λ text. Some (shown style old v text)) bytes

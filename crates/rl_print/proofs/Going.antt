@@ -224,10 +224,6 @@ goes_more a b c base style old mid new start at now next e g q =
 
 pub printed_of : (before now : Option (List ℕ)) (style : atoms.Style) (base : ℕ) (old new : World) (v : Tagged) (at : Option State) → at ≡ None → base ≡ length old.levels.walk → IsPrinting base old new → Goes before now base style old new (whole_printed style old v) at → IsPrinted before now style old new v
 printed_of before now style base old new v None e eb w g = record {
-  whole = ap (λ (p : Progress). p.ending) (g.prints.means []);
-  follows = rw (ap (λ (p : Progress). p.page.text) (g.prints.means [])) g.prints.follows;
-  column = sym (ap (λ (p : Progress). p.page.column) (g.prints.means []));
-  turns = sym (ap (λ (p : Progress). p.turns) (g.prints.means []));
   prints = g.prints;
   levels = levels_back base old.levels new.levels (sym eb) g.next_is w.steady;
 }

@@ -225,12 +225,7 @@ pub record HaltsPrinting (before now : Option (List ℕ)) (old new : World) (sta
 
 -- ---- all of it
 
--- all that the definition prints follows what waited, in as many turns, and levels are as they were
+-- all that the definition prints was printed, in as many turns, and levels are as they were
 pub record IsPrinted (before now : Option (List ℕ)) (style : atoms.Style) (old new : World) (v : Tagged) : Type 0 where
-  pub whole : (whole_printed style old v []).ending ≡ Whole
-  pub follows : GoesOut before old.output.waiting now new.output.waiting (whole_printed style old v []).page.text
-  pub column : new.output.column ≡ (whole_printed style old v []).page.column
-  pub turns : count_turns_left new.counts ≡ (whole_printed style old v []).turns
-  -- so behind any text
   pub prints : PrintsOn before now old.output.waiting new.output.waiting (whole_printed style old v) (progress_in_world new)
   pub levels : new.levels ≡ old.levels

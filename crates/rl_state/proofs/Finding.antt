@@ -1,16 +1,16 @@
 -- The identifier that has a name: what the definition finds by it is what the names of a world have.
-use Rattle.std.proofs.Common.{◌≡◌, ◌≢◌, ℕ, zero, suc, ◌+◌, ◌<◌, ◌≤◌, Bool, true, false, ◌&&◌, ◌||◌, ◌==◌, List, [], ◌∷◌, length, get_or, Option, Some, None, Ok, refl, sym, ap, subst, ◌∙◌, arith, inl, inr}
+use Rattle.std.proofs.Common.{◌≡◌, ℕ, zero, suc, ◌+◌, ◌<◌, Bool, true, false, ◌&&◌, ◌||◌, ◌==◌, List, [], ◌∷◌, length, get_or, Option, Some, None, Ok, refl, sym, ap, subst, ◌∙◌, arith, inl, inr}
 use Rattle.std.specs.Prelude.{if◌then◌else◌}
 use Rattle.std.specs.Str.{bytes_eq}
 use Rattle.std.proofs.lemmas.Slice.Eq.{bytes_eq-Decides}
 use Rattle.std.proofs.lemmas.Bool.{and_parts, eqb-true, eq-eqb}
-use Rattle.rl_tags.specs.Tagged.{Tagged, IdAt, index_of}
+use Rattle.rl_tags.specs.Tagged.{Tagged, index_of}
 use Rattle.rl_tree.specs.Value.{Id}
 use Rattle.rl_tree.specs.Name.{Name}
 use Rattle.rl_cells.specs.Cell.{Cell, cell_at, is_id_cell}
 use Rattle.rl_syms.specs.Contents.{ids_before, value_of}
 use Rattle.rl_syms.specs.Numbers.{IdentifiersAreNumbered}
-use Rattle.rl_syms.specs.Table.{Among, IsFree, IsNamed, IsTable, ids_from, is_id, name_in_cells}
+use Rattle.rl_syms.specs.Table.{Among, IsFree, IsNamed, IsTable, ids_from, name_in_cells}
 use Rattle.rl_syms.specs.Laws.{AreIdentifiers}
 use Rattle.rl_world.specs.declared.world.World.{World}
 use Rattle.rl_meaning.specs.State.{State, Symbol}

@@ -1,8 +1,7 @@
 -- A world determines a state but for what is beside it.
-use Rattle.std.proofs.Common.{◌≡◌, ℕ, zero, suc, ◌<◌, Bool, true, false, nat_le, List, [], length, Option, Some, None, refl, sym, ap, subst, ◌∙◌, arith}
+use Rattle.std.proofs.Common.{◌≡◌, ℕ, ◌<◌, true, false, [], length, Option, Some, None, refl, sym, ap, subst, ◌∙◌}
 use Rattle.std.proofs.lemmas.List.{ext_get_or}
-use Rattle.std.proofs.lemmas.Bool.{leb-true, leb-false}
-use Rattle.rl_cells.specs.Cell.{Cell, cell_at, is_id_cell}
+use Rattle.rl_cells.specs.Cell.{cell_at, is_id_cell}
 use Rattle.rl_world.specs.declared.world.World.{World}
 use Rattle.rl_meaning.specs.State.{State, Outside}
 use Rattle.rl_meaning.specs.Symbols.{symbol_at, new_symbol}

@@ -1,15 +1,12 @@
 -- How printing ends: whole, for want of a turn or of a level, or where a write failed.
-use Rattle.std.proofs.Common.{◌≡◌, ◌≢◌, ℕ, List, [], ◌∷◌, ◌++◌, Option, Some, None, Ok, Err, refl, sym, ap, subst, ◌∙◌, append_assoc}
+use Rattle.std.proofs.Common.{◌≡◌, ◌≢◌, ℕ, List, ◌++◌, Option, Some, None, Ok, Err, refl, sym, ap, subst, ◌∙◌, append_assoc}
 use Rattle.rl_io.specs.Told.{WhereTold}
 use Rattle.rl_tags.specs.Tagged.{Tagged}
 use Rattle.rl_tree.specs.Value.{Value}
 use Rattle.rl_tree.specs.Atoms.{Style}
 use Rattle.rl_tree.specs.Printing.{Ending, NoTurn, Page, Progress, TooDeep, Whole}
-use Rattle.rl_cells.specs.Cell as cell
-use Rattle.rl_cells.specs.Cell.{Cell}
 use Rattle.rl_syms.specs.Contents.{value_of}
 use Rattle.rl_syms.specs.Numbers.{NamesAreNumbered}
-use Rattle.rl_world.specs.Counts as counted
 use Rattle.rl_world.specs.Counts.{count_turns_left}
 use Rattle.rl_world.specs.Input.{with_back}
 use Rattle.rl_world.specs.Waiting.{GoesOut}
@@ -17,7 +14,7 @@ use Rattle.rl_world.specs.declared.counts.Expansion as expansion
 use Rattle.rl_world.specs.declared.stop.Stop as stops
 use Rattle.rl_world.specs.declared.stop.Stop.TheVariants as stop
 use Rattle.rl_world.specs.declared.world.World.{World}
-use Rattle.rl_print.specs.Counted.{IsStop, last_count_stop, last_stop_at, ticks}
+use Rattle.rl_print.specs.Counted.{IsStop, last_stop_at}
 use Rattle.rl_print.specs.Walk.{CutsPrinting, HaltsPrinting, IsPrinted, IsPrinting, progress_in_world, stopped, whole_printed}
 use Rattle.rl_meaning.specs.State.{Counts, Expansion, State}
 use Rattle.rl_meaning.specs.Outcome.{Outcome, Done, Stopped, then_do}
@@ -30,7 +27,7 @@ use Rattle.rl_state.specs.Descents.{levels_shown}
 use Rattle.rl_state.specs.Ending.{Reaches, stop_in}
 use Rattle.rl_state.specs.Ties.{IsPrintedInPart, LeavesFronts, Ties, ToldAtStart, and_told}
 use Rattle.rl_state.specs.Prints.{PrintsAs}
-use Rattle.rl_state.specs.Worlds.{AreRunCounts, IsWorld}
+use Rattle.rl_state.specs.Worlds.{IsWorld}
 use Rattle.rl_state.proofs.ToldOn.{out_cut, out_follows, out_kept, out_kept_cut, told_mapped}
 use Rattle.rl_state.proofs.Printings.{printed_shown, retaken, retaken_ticks, taken_is}
 

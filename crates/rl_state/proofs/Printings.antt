@@ -1,5 +1,5 @@
 -- What the definition prints in a state is what it prints in a world that shows it.
-use Rattle.std.proofs.Common.{◌≡◌, ℕ, zero, suc, ◌+◌, ◌-◌, ◌<◌, ◌≤◌, Bool, true, false, nat_lt, cond, List, [], ◌∷◌, ◌++◌, length, take, get_or, Option, Some, None, refl, sym, ap, subst, ◌∙◌, arith, take_all}
+use Rattle.std.proofs.Common.{◌≡◌, ℕ, zero, suc, ◌+◌, Bool, true, false, nat_lt, cond, List, [], ◌∷◌, length, Option, Some, None, refl, sym, ap, subst, ◌∙◌, arith, take_all}
 use Rattle.std.specs.Prelude.{count_by}
 use Rattle.std.specs.List.{flat_map}
 use Rattle.std.proofs.Math.Path.{fun_ext}
@@ -25,7 +25,7 @@ use Rattle.rl_world.specs.declared.world.World.{World}
 use Rattle.rl_print.specs.Walk.{levels_left, progress_in_world, setting_in_world, whole_printed}
 use Rattle.rl_meaning.specs.State.{Counts, Expansion, State, Symbol}
 use Rattle.rl_meaning.specs.Outcome.{turns_left, turns_of}
-use Rattle.rl_meaning.specs.Symbols.{name_of_number, new_symbol, symbol_at}
+use Rattle.rl_meaning.specs.Symbols.{name_of_number, new_symbol}
 use Rattle.rl_meaning.specs.Printing.{levels_in, progress_in, setting_in, turns_taken}
 use Rattle.rl_state.specs.ShownState.{ShowsState, counts_in, expansion_in, symbol_meant, turns_in}
 use Rattle.rl_state.specs.Descents.{levels_shown}
