@@ -73,7 +73,7 @@ all_shown means law before now style old new v is known h = record {
   means = λ text.
       let printed = h.prints.means text in
       let alone : (whole_printed style old v text).page ≡ with_datum style old.output.line_length (datum_in old v) (page_in old text) =
-          law.whole (setting_in_world style old) (value_of old.cells.cells v) (datum_in old v) (levels_left old) (progress_in_world old text) refl (stored means old v is known style) (ap (λ (p : Progress). p.ending) printed) in
+      law.whole (setting_in_world style old) (value_of old.cells.cells v) (datum_in old v) (levels_left old) (progress_in_world old text) refl (stored means old v is known style) (ap (λ (p : Progress). p.ending) printed) in
       ap Some (sym (line_is style old v (page_in old text) is) ∙ (sym alone ∙ ap (λ (p : Progress). p.page) printed));
 }
 

@@ -11,6 +11,3 @@ mod word;
 
 pub use bytes::{Bytes, SliceBytes};
 pub use read::{ReadFault, read_form};
-
-#[cfg(test)]
-mod tests;

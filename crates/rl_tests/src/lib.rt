@@ -10,4 +10,6 @@ mod numbers;
 #[cfg(test)]
 mod printing;
 #[cfg(test)]
+mod reading;
+#[cfg(test)]
 mod world;
