@@ -1,0 +1,4 @@
+pub mod WordSteps
+pub mod ReadBytes
+pub mod Elements
+pub mod Lexemes

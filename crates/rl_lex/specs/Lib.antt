@@ -1,0 +1,4 @@
+pub mod Kinds
+pub mod Scans
+pub mod Parts
+pub mod Tokens

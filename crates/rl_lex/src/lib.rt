@@ -1,0 +1,18 @@
+//! The tokens of RLISP over bytes: `next_token` and `recognize`.
+#![tactic(auto)]
+
+mod atom;
+mod gap;
+mod kind;
+mod mark;
+mod nest;
+mod next;
+mod spelling;
+#[cfg(test)]
+mod tests;
+mod word;
+
+pub use gap::gap_end;
+pub use kind::{KindWord, ModeWord, Operator, Separator, TokenKind, Way, Worded};
+pub use next::{Next, Token, next_token};
+pub use word::recognize;
