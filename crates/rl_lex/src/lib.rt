@@ -14,5 +14,6 @@ mod word;
 
 pub use gap::gap_end;
 pub use kind::{KindWord, ModeWord, Operator, Separator, TokenKind, Way, Worded};
+pub use nest::Nest;
 pub use next::{Next, Token, next_token};
 pub use word::recognize;

@@ -1,13 +1,17 @@
 //! What has begun in a quoted spelling and is not whole yet.
 
-ghost use Rattle.std.specs.Prelude.{◌≡◌, ◌<◌, ◌≤◌, List, [], ◌∷◌, length, IfSome, IfNone};
+ghost use Rattle.std.specs.Prelude.{◌≡◌, ◌<◌, ◌≤◌, List, [], ◌∷◌, length, IfOk, IfSome, IfNone};
 
-use arrayvec::ArrayVec;
+use rl_io::OutOfMemory;
+use std::alloc::Global;
 use std::marker::Model;
+
+/// The most bytes of a text, and so the most parts: a quoted spelling begins at most one with each byte.
+const LONGEST: usize = 1_048_577;
 
 /// A quote, a vector, or a list: one that has no element yet, has some, has its dot, or has what stands behind its dot.
 #[derive(Clone, Copy)]
-pub(crate) enum Part {
+pub enum Part {
     Quote,
     Vector,
     Begun,
@@ -16,35 +20,38 @@ pub(crate) enum Part {
     Shut,
 }
 
-impl Default for Part {
-    fn default() -> Part {
-        Part::Quote
-    }
-}
-
-/// Parts, of which a contract sees the innermost first.
+/// Parts, in memory that is taken once, at `new`. A contract sees them, the innermost first.
 #[derive(Drop)]
-pub(crate) struct Nest {
-    parts: ArrayVec<Part, 1_048_577>,
+pub struct Nest {
+    parts: Vec<Part>,
 }
 
 impl Model for Nest {
-    ghost use Rattle.std.specs.Prelude.{List, reverse};
+    ghost use Rattle.std.specs.Prelude.{◌≤◌, List, reverse, vec_capacity};
     ghost use Rattle.rl_lex.specs.declared.nest.Part.{Part};
 
     ghost Value = { List Part };
 
     ghost view = { λ a. reverse a.parts.items };
+
+    ghost invariant = { λ a. 1048577 ≤ vec_capacity a.parts };
 }
 
 impl Nest {
-    /// Nothing has begun.
-    pub(crate) fn new() -> Nest
-        ensures { result ≡ [] }
+    /// Room for all that a text can begin. `OutOfMemory` if there is no memory for it.
+    pub fn new(alloc: Global) -> Result<Nest, OutOfMemory>
+        ensures { IfOk result (λ nest. nest ≡ []) }
     {
-        Nest {
-            parts: ArrayVec::new(),
-        }
+        Ok(Nest {
+            parts: Vec::with_capacity(alloc, LONGEST)?,
+        })
+    }
+
+    /// Nothing has begun.
+    pub(crate) fn clear(&mut self)
+        ensures { self.new ≡ [] }
+    {
+        self.parts.clear();
     }
 
     /// A part begins.
@@ -52,7 +59,7 @@ impl Nest {
         requires { length self.old < 1048577 }
         ensures { self.new ≡ part ∷ self.old }
     {
-        self.parts.push(part);
+        self.parts.push_reserved(part);
     }
 
     /// Takes off the innermost part.

@@ -9,6 +9,7 @@ use crate::atom::{Scan, digits_end, is_bare, name_end, text_end};
 use crate::gap::gap_end;
 use crate::kind::TokenKind;
 use crate::mark::{long_mark, short_mark};
+use crate::nest::Nest;
 use crate::spelling::quoted_end;
 use crate::word::recognize;
 use rl_grammar::laws::{finds_no_token, finds_token, refuses_byte};
@@ -111,7 +112,7 @@ fn marked(bytes: &[u8], at: usize) -> Next
 }
 
 /// What begins with the byte at `at`, which stands in no blank or comment.
-fn lexeme(bytes: &[u8], at: usize) -> Next
+fn lexeme(bytes: &[u8], at: usize, nest: &mut Nest) -> Next
     requires here { at < length bytes.now }
     requires short { length bytes.now ≤ 1048577 }
     ensures { IsLexeme bytes.now at result }
@@ -125,15 +126,16 @@ fn lexeme(bytes: &[u8], at: usize) -> Next
     }
     match b {
         b'"' => spelled(at, TokenKind::String, text_end(bytes, at)),
-        b'\'' => spelled(at, TokenKind::Quoted, quoted_end(bytes, at)),
+        b'\'' => spelled(at, TokenKind::Quoted, quoted_end(bytes, at, nest)),
         _ => named(bytes, at),
     }
 }
 
 /// The next token of bytes from the place `at` on, behind blanks and comments.
 ///
-/// The bytes are at most those of the longest statement and the one behind it: 1,048,577.
-pub fn next_token(bytes: &[u8], at: usize) -> Next
+/// The bytes are at most those of the longest statement and the one behind it: 1,048,577. The nest is where a quoted spelling
+/// keeps what has begun in it; what it holds before changes nothing.
+pub fn next_token(bytes: &[u8], at: usize, nest: &mut Nest) -> Next
     requires here { at ≤ length bytes.now }
     requires short { length bytes.now ≤ 1048577 }
     ensures token { IsTokenNext bytes.now at result }
@@ -147,5 +149,5 @@ pub fn next_token(bytes: &[u8], at: usize) -> Next
     if from == bytes.len() {
         return Next::End;
     }
-    lexeme(bytes, from)
+    lexeme(bytes, from, nest)
 }

@@ -206,16 +206,16 @@ fn element(bytes: &[u8], at: usize, nest: &mut Nest) -> Moved
 }
 
 /// Where the spelling ends before which a `'` stands at `at`.
-pub(crate) fn quoted_end(bytes: &[u8], at: usize) -> Scan
+pub(crate) fn quoted_end(bytes: &[u8], at: usize, nest: &mut Nest) -> Scan
     requires here { at < length bytes.now }
     requires short { length bytes.now ≤ 1048577 }
     ensures { IsQuotedScan bytes.now at result }
 {
-    let mut nest = Nest::new();
+    nest.clear();
     nest.push(Part::Quote);
     let mut i = at + 1;
     while i < bytes.len() {
-        match element(bytes, i, &mut nest) {
+        match element(bytes, i, nest) {
             Moved::Goes(to) => i = to,
             Moved::Ends(to) => return Scan::Ends(to),
             Moved::Bad(k) => return Scan::Bad(k),

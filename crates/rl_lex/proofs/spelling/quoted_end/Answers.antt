@@ -9,7 +9,7 @@ use Rattle.rl_lex.proofs.spelling.quoted_end.Goals as goal
 
 pub loop-i-init : goal.loop-i-init
 loop-i-init c =
-    let one : c.push.new.self ≡ Quote ∷ [] = c.push.ensures ∙ ap (λ (ps : List Part). Quote ∷ ps) c.new-nest.ensures in
+    let one : c.push.new.self ≡ Quote ∷ [] = c.push.ensures ∙ ap (λ (ps : List Part). Quote ∷ ps) c.clear.ensures in
     let long : length c.push.new.self ≡ 1 = ap length one in
     record {
       after = omega arith;
