@@ -2,8 +2,7 @@
 use Rattle.std.proofs.Common.{◌≡◌, ◌≢◌, ℕ, zero, suc, ◌+◌, ◌-◌, ◌<◌, ◌≤◌, Bool, true, false, ◌==◌, List, [], ◌∷◌, length, drop, get_or, Option, Some, None, IfSome, IfNone, refl, ap, sym, subst, ◌∙◌, inl, inr, arith}
 use Rattle.std.specs.Prelude.{if◌then◌else◌}
 use Rattle.std.proofs.lemmas.Bool.{cond-true, cond-false, cases_Bool, eqb-true}
-use Rattle.std.proofs.lemmas.Bool.Decides.{nat_tests}
-use Rattle.rl_tree.specs.Bytes.{is_blank, is_digit, is_letter}
+use Rattle.rl_tree.specs.Bytes.{is_blank, is_digit}
 use Rattle.rl_text.specs.Datum.{Datum, quoted}
 use Rattle.rl_text.specs.Byte.{Class, class_of}
 use Rattle.rl_text.specs.Byte as byte
@@ -12,8 +11,8 @@ use Rattle.rl_text.specs.Reader.{ReaderFrame, Listing, Vectoring, Quoting, Mode,
 use Rattle.rl_text.specs.Reader as reader
 use Rattle.rl_text.specs.Reading.{Items, plain}
 use Rattle.rl_grammar.specs.Lexer.{behind_gap}
-use Rattle.rl_lex.specs.Scans.{IsDigitsScan, data_read, read_at, read_behind, read_behind_atom, WordEnds, WordFails}
-use Rattle.rl_lex.specs.Parts.{ArePartsOf, IsWordScan, IsBehind, IsPartFurther, IsMoved, IsMovedByMark, IsNoQuote, IsWholeQuote, is_opening, is_word_class, list_part, opening_mark, parts_admit, parts_behind}
+use Rattle.rl_lex.specs.Scans.{IsDigitsScan, data_read, read_at, read_behind, read_behind_atom, WordEnds}
+use Rattle.rl_lex.specs.Parts.{ArePartsOf, IsWordScan, IsBehind, IsPartFurther, IsMoved, IsMovedByMark, IsWholeQuote, is_opening, is_word_class, opening_mark, parts_admit, parts_behind}
 use Rattle.rl_lex.proofs.ReadBytes.{Frames, PlainStep, stepped, read_byte, read_on, read_refused, read_before, read_last}
 use Rattle.rl_lex.specs.declared.spelling.Moved.{Moved}
 use Rattle.rl_lex.specs.declared.spelling.Moved.TheVariants.{Goes, Ends, Bad}

@@ -1,11 +1,11 @@
 -- From where a spelling ends to the token that it is.
-use Rattle.std.proofs.Common.{◌≡◌, ℕ, pos, ◌+◌, ◌-◌, ◌<◌, ◌≤◌, Bool, true, false, List, [], ◌∷◌, length, take, drop, map, get_or, ◌⊎◌, Option, Some, None, refl, ap, sym, subst, ◌∙◌, inl, inr, arith}
+use Rattle.std.proofs.Common.{◌≡◌, ℕ, pos, ◌+◌, ◌-◌, ◌<◌, ◌≤◌, true, false, List, [], ◌∷◌, length, take, drop, get_or, ◌⊎◌, Option, Some, None, refl, ap, sym, subst, ◌∙◌, inl, inr, arith}
 use Rattle.std.specs.Prelude.{if◌then◌else◌, option_map}
 use Rattle.std.proofs.lemmas.Bool.{cond-true, cond-false, cases_Bool}
 use Rattle.std.proofs.lemmas.Bool.Decides.{nat_tests}
 use Rattle.std.proofs.lemmas.List.{drop_more, drop-drop, length-drop}
 use Rattle.std.proofs.Math.ListN.{drop_of_length-le}
-use Rattle.rl_tree.specs.Bytes.{is_blank, is_digit, is_letter, raised}
+use Rattle.rl_tree.specs.Bytes.{is_blank, is_digit, is_letter}
 use Rattle.rl_text.specs.Datum.{Datum, Int, Id, Str, quoted}
 use Rattle.rl_text.specs.Reader.{Gap, InNumber, Quoting, ReaderOutcome, Read, Refused, at_class, reader_step}
 use Rattle.rl_text.specs.Word as atom
@@ -14,7 +14,7 @@ use Rattle.rl_text.specs.Byte as byte
 use Rattle.rl_text.specs.Reading.{plain, reading, reading_of}
 use Rattle.rl_grammar.specs.Token.{Token, Identifier, Integer, String, Quoted}
 use Rattle.rl_grammar.specs.Written.{IsFirst, word_token, short_mark, long_mark}
-use Rattle.rl_grammar.specs.Lexer.{Lexed, Lexes, Bad, before_rest, behind_gap, begins_spelling, first_behind, first_token, first_token_of, has_no_escape, lexed, lexed_long, lexed_mark, lexed_or_bad, lexed_spelling, token_read, Begins, NoneLeft, Stops}
+use Rattle.rl_grammar.specs.Lexer.{Lexes, Bad, before_rest, behind_gap, begins_spelling, first_behind, first_token, first_token_of, has_no_escape, lexed_long, lexed_mark, lexed_or_bad, lexed_spelling, token_read, Begins, Stops}
 use Rattle.rl_lex.specs.Kinds.{kind_of_token}
 use Rattle.rl_lex.specs.Scans.{IsDigitsScan, IsTextOf, IsTextScan, WordEnds, WordFails, digits_read_at, read_at, text_between}
 use Rattle.rl_grammar.specs.Laws.{FindsToken, RefusesByte}

@@ -1,16 +1,15 @@
 -- What a byte does where a word of Lisp text stands.
-use Rattle.std.proofs.Common.{◌≡◌, ◌≢◌, ℕ, ◌+◌, ◌-◌, ◌*◌, ◌^◌, ◌<◌, ◌≤◌, Bool, true, false, ◌==◌, nat_lt, nat_le, List, [], ◌∷◌, ◌++◌, length, drop, get_or, ◌⊎◌, not, ◌&&◌, take, map, lit<, refl, ap, sym, subst, ◌∙◌, inl, inr, arith}
+use Rattle.std.proofs.Common.{◌≡◌, ◌≢◌, ℕ, ◌+◌, ◌-◌, ◌*◌, ◌^◌, ◌<◌, ◌≤◌, Bool, true, false, ◌==◌, nat_lt, nat_le, List, [], ◌∷◌, ◌++◌, length, drop, get_or, ◌⊎◌, not, take, map, lit<, refl, ap, sym, subst, ◌∙◌, inl, inr, arith}
 use Rattle.std.specs.Prelude.{if◌then◌else◌}
-use Rattle.std.proofs.lemmas.Bool.{cond-true, cond-false, ne_eqb, eq-eqb, and_parts}
+use Rattle.std.proofs.lemmas.Bool.{ne_eqb, and_parts}
 use Rattle.std.proofs.lemmas.Bool.Decides.{nat_tests}
 use Rattle.std.proofs.lemmas.List.{drop_more, take_more, take-take, take-append-drop, get_or-drop, length-drop, map-append}
 use Rattle.std.proofs.lemmas.List.Folds.{list_all-append}
 use Rattle.std.proofs.Math.ListN.{drop_of_length-le}
 use Rattle.rl_tree.specs.Bytes.{is_blank, is_digit, is_letter, is_name_byte, raised}
 use Rattle.rl_text.specs.Datum.{Datum, quoted}
-use Rattle.rl_text.specs.Byte.{class_of, Letter, Digit}
 use Rattle.rl_text.specs.Word.{Atom, Integer, Identifier, String, signed, datum_of_atom}
-use Rattle.rl_text.specs.Reader.{ReaderFrame, Mode, Gap, InName, InEscape, AfterSign, InNumber, InText, AfterQuote, Ended, Whole, Inside, Lacks, ReaderStep, Goes, Refuses, ReaderOutcome, Read, Refused, admits, value_ended, atom_ended, atom_before, goes_before, reader_step, after_step, read_from, at_end, ends_after, left, Listing, Vectoring, Quoting, Begun, Going, Dotted, Shut}
+use Rattle.rl_text.specs.Reader.{ReaderFrame, Mode, Gap, InName, InEscape, InNumber, InText, AfterQuote, Ended, Whole, Inside, Lacks, ReaderStep, Goes, Refuses, ReaderOutcome, Refused, admits, value_ended, atom_ended, atom_before, goes_before, reader_step, after_step, read_from, at_end, ends_after, left, Listing, Vectoring, Quoting, Begun, Going, Dotted, Shut}
 use Rattle.rl_text.specs.Reading.{Items, plain}
 use Rattle.rl_grammar.specs.Lexer.{has_no_escape}
 use Rattle.rl_lex.specs.Scans.{data_read, read_behind, read_behind_atom, text_between, IsTextOf, IsOneByte}

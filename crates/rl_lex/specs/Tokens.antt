@@ -1,5 +1,5 @@
 -- The next token of bytes: its kind and its place, by the relation of the grammar.
-use Rattle.std.specs.Prelude.{◌≡◌, ℕ, ◌+◌, ◌-◌, ◌<◌, ◌≤◌, if◌then◌else◌, List, length, drop, map, slice_index, option_map, Option, Some, None}
+use Rattle.std.specs.Prelude.{◌≡◌, ℕ, ◌+◌, ◌-◌, ◌≤◌, if◌then◌else◌, List, length, drop, map, slice_index, option_map, Option, Some, None}
 use Rattle.rl_tree.specs.Bytes.{raised}
 use Rattle.rl_text.specs.Gap.{IsBlankText}
 use Rattle.rl_grammar.specs.Token as token

@@ -1,4 +1,4 @@
-use Rattle.std.proofs.Common.{◌≡◌, ◌<◌, false, length, get_or, refl, sym, ◌∙◌, arith}
+use Rattle.std.proofs.Common.{◌≡◌, false, length, get_or, refl, sym, ◌∙◌, arith}
 use Rattle.rl_tree.specs.Bytes.{is_digit}
 use Rattle.rl_text.specs.Reader.{InNumber}
 use Rattle.rl_text.specs.Word.{Integer, signed}

@@ -1,4 +1,4 @@
-use Rattle.std.proofs.Common.{◌≡◌, ℕ, ◌≤◌, ◌<◌, ◌-◌, ◌^◌, List, length, drop}
+use Rattle.std.proofs.Common.{◌≡◌, ◌≤◌, ◌<◌, ◌-◌, ◌^◌, List, length, drop}
 use Rattle.rl_text.specs.Reader.{ReaderFrame, InNumber}
 use Rattle.rl_text.specs.Reading.{Items}
 use Rattle.rl_lex.specs.Scans.{data_read, digits_read_at}

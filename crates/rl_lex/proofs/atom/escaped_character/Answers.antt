@@ -1,4 +1,4 @@
-use Rattle.std.proofs.Common.{◌≡◌, ◌<◌, ◌+◌, ◌++◌, ◌∷◌, [], length, get_or, refl, inl, ◌∙◌, arith}
+use Rattle.std.proofs.Common.{◌<◌, ◌+◌, ◌++◌, ◌∷◌, [], length, get_or, refl, inl, ◌∙◌, arith}
 use Rattle.rl_text.specs.Reader.{InName, InEscape}
 use Rattle.rl_lex.proofs.ReadBytes.{read_refused, read_on, read_on_twice, read_end, name_escapes, name_escapes_none}
 use Rattle.rl_lex.proofs.atom.escaped_character.Goals as goal

@@ -1,4 +1,4 @@
-use Rattle.std.proofs.Common.{◌≡◌, ◌<◌, ◌+◌, ◌++◌, ◌∷◌, [], length, get_or, true, false, refl, inr, sym, ◌∙◌, arith}
+use Rattle.std.proofs.Common.{◌≡◌, ◌<◌, ◌++◌, ◌∷◌, [], length, get_or, true, false, refl, inr, sym, ◌∙◌, arith}
 use Rattle.rl_tree.specs.Bytes.{is_name_byte, raised}
 use Rattle.rl_text.specs.Reader.{InName}
 use Rattle.rl_text.specs.Word.{Identifier}

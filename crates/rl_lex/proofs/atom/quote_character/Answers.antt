@@ -1,4 +1,4 @@
-use Rattle.std.proofs.Common.{◌≡◌, ◌<◌, ◌+◌, ◌++◌, ◌∷◌, [], length, get_or, refl, ◌∙◌, arith}
+use Rattle.std.proofs.Common.{◌<◌, ◌+◌, ◌++◌, ◌∷◌, [], length, refl, ◌∙◌, arith}
 use Rattle.rl_text.specs.Reader.{InText, AfterQuote}
 use Rattle.rl_text.specs.Word.{String}
 use Rattle.rl_lex.proofs.ReadBytes.{read_refused, read_on, read_on_twice, read_before, read_last, text_quotes, quote_grows, quote_full, quote_ends}

@@ -1,4 +1,4 @@
-use Rattle.std.proofs.Common.{◌≡◌, ◌<◌, ◌++◌, ◌∷◌, [], length, get_or, ◌∙◌, arith}
+use Rattle.std.proofs.Common.{◌<◌, ◌++◌, ◌∷◌, [], length, get_or, ◌∙◌, arith}
 use Rattle.rl_text.specs.Reader.{InText}
 use Rattle.rl_lex.proofs.ReadBytes.{read_refused, read_on, text_grows, text_full}
 use Rattle.rl_lex.proofs.atom.text_character.Goals as goal

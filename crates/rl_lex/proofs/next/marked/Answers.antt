@@ -1,4 +1,4 @@
-use Rattle.std.proofs.Common.{◌≡◌, ◌<◌, ◌+◌, length, get_or, refl, sym, arith}
+use Rattle.std.proofs.Common.{◌<◌, ◌+◌, length, get_or, refl, sym, arith}
 use Rattle.rl_grammar.specs.Written.{long_mark}
 use Rattle.rl_lex.proofs.Lexemes.{lone_mark, long_token, short_before, short_lexeme, mapped_some, mapped_none}
 use Rattle.rl_lex.proofs.next.marked.Goals as goal

@@ -1,4 +1,4 @@
-use Rattle.std.proofs.Common.{◌≡◌, get_or}
+use Rattle.std.proofs.Common.{get_or}
 use Rattle.rl_lex.proofs.Lexemes.{name_lexeme, name_begins_spelling, word_fails}
 use Rattle.rl_lex.proofs.next.named.Goals as goal
 

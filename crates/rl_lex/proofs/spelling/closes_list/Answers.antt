@@ -1,8 +1,8 @@
-use Rattle.std.proofs.Common.{◌≡◌, List, subst}
+use Rattle.std.proofs.Common.{List, subst}
 use Rattle.rl_lex.specs.Parts.{ArePartsOf}
 use Rattle.rl_lex.proofs.Elements.{list_closes, popped_is}
 use Rattle.rl_lex.specs.declared.nest.Part.{Part}
-use Rattle.rl_lex.specs.declared.nest.Part.TheVariants.{Begun, Going, Shut, Quote, Vector, Dotted}
+use Rattle.rl_lex.specs.declared.nest.Part.TheVariants.{Begun, Going, Shut}
 use Rattle.rl_lex.proofs.spelling.closes_list.Goals as goal
 
 pub returns-in-Some-Begun-clause-moved : goal.returns-in-Some-Begun-clause-moved

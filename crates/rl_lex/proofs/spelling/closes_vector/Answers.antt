@@ -1,4 +1,4 @@
-use Rattle.std.proofs.Common.{◌≡◌, List, subst}
+use Rattle.std.proofs.Common.{List, subst}
 use Rattle.rl_lex.specs.Parts.{ArePartsOf}
 use Rattle.rl_lex.proofs.Elements.{vector_closes, popped_is}
 use Rattle.rl_lex.specs.declared.nest.Part.{Part}

@@ -1,4 +1,4 @@
-use Rattle.std.proofs.Common.{◌≡◌, List, refl, sym, subst}
+use Rattle.std.proofs.Common.{List, refl, sym, subst}
 use Rattle.rl_lex.specs.Parts.{ArePartsOf}
 use Rattle.rl_lex.proofs.Elements.{dot_goes, popped_is}
 use Rattle.rl_lex.specs.declared.nest.Part.{Part}

@@ -1,4 +1,4 @@
-use Rattle.std.proofs.Common.{◌≡◌, ◌<◌, ◌+◌, [], ◌∷◌, length, get_or, sym, ◌∙◌, arith}
+use Rattle.std.proofs.Common.{[], ◌∷◌, get_or, sym, arith}
 use Rattle.rl_text.specs.Word.{Identifier}
 use Rattle.rl_text.specs.ByteClass.{mark_of}
 use Rattle.rl_lex.proofs.Elements.{digits_are_word, special_reads, comment_reads, marked_reads}

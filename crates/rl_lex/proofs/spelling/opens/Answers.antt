@@ -1,4 +1,4 @@
-use Rattle.std.proofs.Common.{◌≡◌, List, true, false, refl, sym, ◌∙◌, subst}
+use Rattle.std.proofs.Common.{◌≡◌, List, true, refl, sym, ◌∙◌, subst}
 use Rattle.rl_lex.specs.Parts.{ArePartsOf, parts_admit}
 use Rattle.rl_lex.proofs.Elements.{part_opens, part_shut}
 use Rattle.rl_lex.specs.declared.nest.Part.{Part}

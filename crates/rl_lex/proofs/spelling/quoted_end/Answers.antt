@@ -1,4 +1,4 @@
-use Rattle.std.proofs.Common.{◌≡◌, ◌<◌, ◌≤◌, [], ◌∷◌, List, length, refl, sym, ◌∙◌, ap, subst, arith}
+use Rattle.std.proofs.Common.{◌≡◌, [], ◌∷◌, List, length, refl, sym, ◌∙◌, ap, subst, arith}
 use Rattle.rl_text.specs.Reader.{Gap, Quoting}
 use Rattle.rl_lex.specs.Parts.{ArePartsOf}
 use Rattle.rl_lex.proofs.ReadBytes.{read_end}

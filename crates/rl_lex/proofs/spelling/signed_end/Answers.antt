@@ -1,5 +1,4 @@
-use Rattle.std.proofs.Common.{◌≡◌, ◌<◌, ◌+◌, [], ◌∷◌, length, get_or, true, false, sym, ◌∙◌, arith}
-use Rattle.rl_tree.specs.Bytes.{is_digit}
+use Rattle.std.proofs.Common.{[], ◌∷◌, get_or, sym, ◌∙◌, arith}
 use Rattle.rl_text.specs.Word.{Identifier}
 use Rattle.rl_lex.proofs.Elements.{signed_are_word, sign_last, sign_before}
 use Rattle.rl_lex.proofs.spelling.signed_end.Goals as goal

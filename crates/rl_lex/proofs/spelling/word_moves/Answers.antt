@@ -1,4 +1,4 @@
-use Rattle.std.proofs.Common.{◌≡◌, List, get_or, true, false, sym, ◌∙◌, subst, arith}
+use Rattle.std.proofs.Common.{List, get_or, sym, ◌∙◌, subst, arith}
 use Rattle.rl_text.specs.Byte.{class_of}
 use Rattle.rl_text.specs.Reader.{Gap}
 use Rattle.rl_lex.specs.Parts.{IsBehind, IsWordScan}

@@ -1,4 +1,4 @@
-use Rattle.std.proofs.Common.{◌≡◌, ◌<◌, false, length, map, sym, ◌∙◌, ap, arith, get_or, ◌==◌, ◌&&◌, ◌+◌, drop, Bool}
+use Rattle.std.proofs.Common.{◌≡◌, false, map, sym, ◌∙◌, ap, arith, get_or, ◌==◌, ◌&&◌, ◌+◌, drop, Bool}
 use Rattle.std.proofs.lemmas.Bool.{ne_eqb, eq-eqb}
 use Rattle.std.proofs.lemmas.List.{length-map}
 use Rattle.rl_tree.specs.Bytes.{raised}

@@ -1,4 +1,4 @@
-use Rattle.std.proofs.Common.{◌≡◌, List, drop, map, sym, ◌∙◌, ap}
+use Rattle.std.proofs.Common.{drop, map, sym, ◌∙◌}
 use Rattle.rl_tree.specs.Bytes.{raised}
 use Rattle.rl_grammar.specs.Written.{reserved_words}
 use Rattle.rl_lex.proofs.WordSteps.{none_among, some_among, is_none}
