@@ -22,3 +22,4 @@ pub mod Beginning
 pub mod BareShown
 pub mod Printings
 pub mod PrintingEnds
+pub mod PrintingGrows

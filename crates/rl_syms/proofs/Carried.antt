@@ -30,7 +30,7 @@ pub ids_carried : (old new : List Cell) (n : ℕ) (v : Option Tagged) → Carrie
 ids_carried old new n v c f p = chain_carried (rank_of v) n old new v c f p
 
 -- what is on the chain is an identifier
-among_chain : (n m k : ℕ) (cells : List Cell) (v : Option Tagged) → Falls cells → IsLink cells m v → Among k (chain n cells v) → is_id_cell (cell_at cells k) ≡ true
+pub among_chain : (n m k : ℕ) (cells : List Cell) (v : Option Tagged) → Falls cells → IsLink cells m v → Among k (chain n cells v) → is_id_cell (cell_at cells k) ≡ true
 among_chain zero m k cells v f p h = absurd h
 among_chain (suc n) m k cells None f p h = absurd h
 among_chain (suc n) m k cells (Some (IdAt j)) f p h = elim h [

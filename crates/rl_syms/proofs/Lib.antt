@@ -16,3 +16,4 @@ pub mod Numbers
 pub mod Kept
 pub mod NamesByNumber
 pub mod Naming
+mod Released

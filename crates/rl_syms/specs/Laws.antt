@@ -3,10 +3,10 @@ use Rattle.std.specs.Prelude.{◌≡◌, ℕ, ℤ, ◌^◌, ◌<◌, ◌≤◌, 
 use Rattle.std.specs.List.{list_all}
 use Rattle.rl_tags.specs.declared.Tag.TheVariants as tag
 use Rattle.rl_tags.specs.Tagged.{Tagged, FunAt, StrAt, PairAt, VectorAt, BigAt, index_of}
-use Rattle.rl_cells.specs.Cell.{Cell, CellStore, PairCell, StrCell, VectorCell, BigCell, BlockCell, IsClosed, is_live, is_id_cell, is_fun_cell, is_pair, is_vector, car_of, cdr_of, vector_of, cell_at, block_with, changed_at, placed}
+use Rattle.rl_cells.specs.Cell.{Cell, CellStore, PairCell, StrCell, VectorCell, BigCell, BlockCell, IsClosed, is_live, is_id_cell, is_fun_cell, is_pair, is_vector, car_of, cdr_of, vector_of, cell_at, block_with, changed_at, placed, take_cells}
 use Rattle.rl_tree.specs.Value.{Fun, Int, Str, Ref, Object, Pair, Vector, new_value, cons_store, cons_value, vector_store, changed_store}
 use Rattle.rl_syms.specs.Contents.{funs_before, object_count, number_at, value_of, store_of}
-use Rattle.rl_syms.specs.Table.{IsTable, IsNamed, IsFree, ids_from, is_id, name_in_cells, nil_value, symbol_in_cells}
+use Rattle.rl_syms.specs.Table.{IsTable, IsNamed, IsFree, ids_from, is_id, name_in_cells, nil_value, rank_of, symbol_in_cells}
 use Rattle.rl_syms.specs.Made.{new_id, with_id}
 use Rattle.rl_syms.specs.Frame.{Adds, KeepsIdentifiers, words_of_id}
 
@@ -25,6 +25,10 @@ pub record LeaveIdentifiers : Type 0 where
   pub pair : (cells : List Cell) (p a d : Tagged) → is_pair cells p ≡ true → KeepsIdentifiers cells (changed_at cells p (PairCell a d))
   pub vector : (cells : List Cell) (v : Tagged) (xs : List Tagged) → is_vector cells v ≡ true → length xs ≡ length (vector_of cells v) → KeepsIdentifiers cells (changed_at cells v (VectorCell xs))
   pub word : (cells : List Cell) (k i w : ℕ) → is_fun_cell (cell_at cells k) ≡ true → KeepsIdentifiers cells (changed_at cells (FunAt k) (block_with (cell_at cells k) i w))
+
+-- what was made past a place is released: the table stays where its chain begins before the place, NIL stands before it, and what stands before it names nothing behind it
+abbrev pub ReleaseKeepsTable : Type 0
+ReleaseKeepsTable = (cells : List Cell) (place : ℕ) (head : Option Tagged) → IsTable cells head → IsClosed (take_cells place cells) → is_live (take_cells place cells) nil_value ≡ true → rank_of head ≤ place → IsTable (take_cells place cells) head
 
 -- identifiers keep their names as objects are added
 abbrev pub KeepNames : Type 0

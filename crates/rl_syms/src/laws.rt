@@ -1,7 +1,7 @@
 //! Laws of the table, and of what cells mean. A law is the contract of a function that does nothing.
 ghost use Rattle.rl_syms.specs.Numbers.{FunctionsAreNumbered, IdentifiersAreNumbered, NamesAreNumbered};
 ghost use Rattle.rl_syms.specs.Readings.{MeantByAnyReading, NamingMeans};
-ghost use Rattle.rl_syms.specs.Laws.{AreIdentifiers, ChangesMeaning, IsDistinct, IsKept, MakesMeaning, IsRead, KeepNames, LeaveIdentifiers, NamesEnter};
+ghost use Rattle.rl_syms.specs.Laws.{AreIdentifiers, ChangesMeaning, IsDistinct, IsKept, MakesMeaning, IsRead, KeepNames, LeaveIdentifiers, NamesEnter, ReleaseKeepsTable};
 
 use rl_cells::laws::{objects_are_added, objects_are_changed};
 
@@ -18,6 +18,12 @@ pub fn others_leave_identifiers()
     objects_are_added();
     objects_are_changed();
 }
+
+/// The table stays as what was made past a place is released, where its chain begins before the place, NIL stands before it,
+/// and what stands before it names nothing behind it.
+pub fn release_keeps_table()
+    ensures { ReleaseKeepsTable }
+{}
 
 /// Identifiers keep their names as objects are added.
 pub fn names_stay()

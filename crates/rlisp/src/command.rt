@@ -46,6 +46,8 @@ pub fn command<I: Source, O: Sink, N: Sink, E: Sink, F: Files>(
     ensures number { (status : Status) × (result ≡ status_number status) }
     // What is said of the number goes to `err`.
     ensures reported { IsReported (E.contents err.old) (E.contents err.new) (E.faults err.old) (E.faults err.new) result }
+    // With 0 it is as it was.
+    ensures quiet { result ≡ 0 → err.new ≡ err.old }
     ensures front { OfFile (texts_of words.now) (F.contents files.old)
         (λ file. AppendedFront (O.contents out.old) (O.contents out.new) (file_meaning file).output) }
     ensures silent { result ≢ 0 → result ≢ 5 → result ≢ 12 → out.new ≡ out.old }
@@ -64,6 +66,7 @@ pub fn command<I: Source, O: Sink, N: Sink, E: Sink, F: Files>(
 pub(crate) fn end_with<E: Sink>(status: &Status, err: &mut E) -> u8
     ensures number { result ≡ status_number status.now }
     ensures reported { IsReported (E.contents err.old) (E.contents err.new) (E.faults err.old) (E.faults err.new) (status_number status.now) }
+    ensures quiet { status_number status.now ≡ 0 → err.new ≡ err.old }
 {
     match report(status, err) {
         Ok(()) => status.number(),

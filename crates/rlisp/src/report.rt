@@ -3,7 +3,7 @@ ghost use Rattle.std.specs.Prelude.{◌≡◌, ◌+◌, ◌≤◌, [], ◌∷◌
 ghost use Rattle.arrayvec.specs.ArrayVec.{array_vec_len};
 ghost use Rattle.rl_io.specs.Faults.{Rose};
 ghost use Rattle.rl_forms.specs.Appended.{Appended, AppendedFront};
-ghost use Rattle.rlisp.specs.Status.{report_of};
+ghost use Rattle.rlisp.specs.Status.{report_of, status_number};
 
 use crate::status::Status;
 use arrayvec::ArrayVec;
@@ -17,6 +17,7 @@ pub fn report<E: Sink>(status: &Status, err: &mut E) -> Result<(), Failed>
     ensures front { OnErr result (AppendedFront (E.contents err.old) (E.contents err.new) (report_of status.now)) }
     ensures steady { OnOk result (E.faults err.new ≡ E.faults err.old) }
     ensures failed { OnErr result (Rose (E.faults err.old) (E.faults err.new)) }
+    ensures quiet { status_number status.now ≡ 0 → err.new ≡ err.old }
 {
     let number = status.number();
     if number == 0 {

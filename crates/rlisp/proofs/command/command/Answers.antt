@@ -42,3 +42,6 @@ pub returns-clause-complete : goal.returns-clause-complete
 returns-clause-complete g c = λ p q.
     let P : ℕ → Type 0 = λ n. OfFile (texts_of c.args.words.now) (g.F.Files.contents c.args.files.now) (NumberAgrees n) in
     subst P (sym c.end_with.ensures.number) (all_agree (texts_of c.args.words.now) (g.F.Files.contents c.args.files.now) c.rlisp-status.result (c.rlisp-status.ensures.complete p q))
+
+pub returns-clause-quiet : goal.returns-clause-quiet
+returns-clause-quiet g c = λ e. c.end_with.ensures.quiet (sym c.end_with.ensures.number ∙ e)
