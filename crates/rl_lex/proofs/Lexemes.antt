@@ -105,7 +105,7 @@ abbrev MarkLexeme : List ℕ → ℕ → Option Token → Type 0
 MarkLexeme bytes at o = IsLexeme bytes at (mark_as at (option_map kind_of_token o))
 
 mark_lexeme : (bytes : List ℕ) (at : ℕ) (o : Option Token) → at < length bytes → lexed_at bytes at ≡ lexed_or_bad (drop at bytes) o (drop (at + 1) bytes) → MarkLexeme bytes at o
-mark_lexeme bytes at (Some token) here is = record { here = refl; within = omega (arith, here); token = token; is = is; kind = refl }
+mark_lexeme bytes at (Some token) here is = record { here = refl; takes = omega arith; within = omega (arith, here); token = token; is = is; kind = refl }
 mark_lexeme bytes at None here is = record { after = omega arith; within = omega (arith, here); is = is }
 
 pub short_lexeme : (bytes : List ℕ) (at : ℕ) (r : Next) → at < length bytes → lexed_at bytes at ≡ lexed_or_bad (drop at bytes) (short_mark (get_or bytes at 0)) (drop (at + 1) bytes) → r ≡ short_as at (get_or bytes at 0) → IsLexeme bytes at r
@@ -126,6 +126,7 @@ name_begins_spelling b (inr escape) = ap begins_spelling escape
 pub name_lexeme : (bytes : List ℕ) (at to : ℕ) (kind : TokenKind) (name : List ℕ) → at < length bytes → begins_spelling (get_or bytes at 0) ≡ true → WordEnds (read_at bytes at) bytes at to (atom.Identifier name) → IsTextOf bytes at to name → kind ≡ name_kind (text_between bytes at to) → IsTokenLexeme bytes at (record { kind = kind; from = at; to = to })
 name_lexeme bytes at to kind name here begins ends text is = record {
   here = refl;
+  takes = ends.after;
   within = ends.within;
   token = if has_no_escape (text_between bytes at to) then word_token name else Identifier name;
   is = spelled_token bytes at to (Id name) _ here (omega (arith, ends.after)) ends.within begins (ends.reads [] refl) refl;
@@ -138,6 +139,7 @@ word_fails bytes at k here begins fails = record { after = fails.after; within =
 pub text_lexeme : (bytes : List ℕ) (at : ℕ) (s : Scan) → at < length bytes → get_or bytes at 0 ≡ 34 → IsTextScan bytes at s → IsLexeme bytes at (scan_as at the_kind.String s)
 text_lexeme bytes at (scan.Ends to) here quote s = record {
   here = refl;
+  takes = s.1.after;
   within = s.1.within;
   token = String s.0;
   is = spelled_token bytes at to (Str s.0) (String s.0) here (omega (arith, s.1.after)) s.1.within (ap begins_spelling quote) (s.1.reads [] refl) refl;
@@ -160,6 +162,7 @@ digits_read bytes at here digit = read_on Gap (InNumber false (get_or bytes at 0
 pub digits_lexeme : (bytes : List ℕ) (at : ℕ) (s : Scan) → at < length bytes → is_digit (get_or bytes at 0) ≡ true → IsDigitsScan false bytes at s → IsLexeme bytes at (scan_as at the_kind.Integer s)
 digits_lexeme bytes at (scan.Ends to) here digit s = record {
   here = refl;
+  takes = s.1.after;
   within = s.1.within;
   token = Integer s.0;
   is = spelled_token bytes at to (Int (pos s.0)) (Integer s.0) here (omega (arith, s.1.after)) s.1.within (digit_begins (get_or bytes at 0) digit) (digits_read bytes at here digit ∙ s.1.reads [] refl) refl;
@@ -177,6 +180,7 @@ quote_reads bytes at here quote = read_on Gap Gap [] (Quoting ∷ []) bytes at h
 pub quoted_lexeme : (bytes : List ℕ) (at : ℕ) (s : Scan) → at < length bytes → get_or bytes at 0 ≡ 39 → IsQuotedScan bytes at s → IsLexeme bytes at (scan_as at the_kind.Quoted s)
 quoted_lexeme bytes at (scan.Ends to) here quote s = record {
   here = refl;
+  takes = s.after;
   within = s.within;
   token = Quoted s.datum;
   is = spelled_token bytes at to (quoted s.datum) (Quoted s.datum) here (omega (arith, s.after)) s.within (ap begins_spelling quote) (quote_reads bytes at here quote ∙ s.reads) refl;
@@ -200,6 +204,7 @@ token_next finds bytes at from (next.Token found) after here behind l =
     let first : first_token (drop at bytes) ≡ Begins l.token (drop from bytes) (drop found.to bytes) = first_at bytes at from here behind ∙ ap (first_token_of (drop from bytes)) l.is in
     record {
       after = omega (arith, l.here, after);
+      takes = omega (arith, l.here, l.takes);
       within = l.within;
       token = l.token;
       is = subst (λ (n : ℕ). IsFirst l.token (drop at bytes) (drop n bytes) (drop found.to bytes)) (sym l.here) ((finds (drop at bytes) (drop from bytes) (drop found.to bytes) l.token).0 first);

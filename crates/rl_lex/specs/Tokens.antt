@@ -1,5 +1,5 @@
 -- The next token of bytes: its kind and its place, by the relation of the grammar.
-use Rattle.std.specs.Prelude.{◌≡◌, ℕ, ◌+◌, ◌-◌, ◌≤◌, if◌then◌else◌, List, length, drop, map, slice_index, option_map, Option, Some, None}
+use Rattle.std.specs.Prelude.{◌≡◌, ℕ, ◌+◌, ◌-◌, ◌<◌, ◌≤◌, if◌then◌else◌, List, length, drop, map, slice_index, option_map, Option, Some, None}
 use Rattle.rl_tree.specs.Bytes.{raised}
 use Rattle.rl_text.specs.Gap.{IsBlankText}
 use Rattle.rl_grammar.specs.Token as token
@@ -19,6 +19,7 @@ use Rattle.rl_lex.specs.declared.next.Next.TheVariants as next
 -- the token of this kind stands at this place, first behind the place where one looks for it
 pub record IsNextToken (bytes : List ℕ) (at : ℕ) (found : place.Token) : Type 0 where
   pub after : at ≤ found.from
+  pub takes : found.from < found.to
   pub within : found.to ≤ length bytes
   pub token : token.Token
   pub is : IsFirst token (drop at bytes) (drop found.from bytes) (drop found.to bytes)
@@ -50,6 +51,7 @@ lexed_at bytes at = lexed (slice_index bytes at) (drop (at + 1) bytes)
 
 pub record IsTokenLexeme (bytes : List ℕ) (at : ℕ) (found : place.Token) : Type 0 where
   pub here : found.from ≡ at
+  pub takes : at < found.to
   pub within : found.to ≤ length bytes
   pub token : token.Token
   pub is : lexed_at bytes at ≡ Lexes token (drop found.to bytes)

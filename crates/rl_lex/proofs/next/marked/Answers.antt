@@ -15,6 +15,7 @@ returns-in-Some c =
     let found = mapped_some (long_mark (get_or bytes at 0) (get_or bytes (at + 1) 0)) c.in-Some.kind c.in-Some.ensures in
     record {
       here = refl;
+      takes = omega arith;
       within = omega (arith, two);
       token = found.0;
       is = long_token bytes at found.0 two c.requires.begins found.1;
