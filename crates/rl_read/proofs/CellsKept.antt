@@ -140,7 +140,7 @@ module _ (old : List Cell) where
     turn = λ k t h. beside Anything k _ _ (turn_makes turns k h);
     enter = λ k t h. beside Anything k _ _ (enter_makes k h);
     leave = λ k t h. record { states = h; kept = record { values = λ v d h. h; lists = λ l k h. h } };
-    atom = λ a k t h. beside Anything k _ _ (atom_makes a k h);
+    atom = λ a is k t h. beside Anything k _ _ (atom_makes a k h);
     nil = λ k t h. tt;
     empty = λ k t h. tt;
     extended = λ c l v d k t b e h. beside IsChainBehind k _ _ (extended_makes c v k b h);

@@ -26,7 +26,7 @@ makers turns =
       turn = λ k t h. made_heedless k _ _;
       enter = λ k t h. made_heedless k _ _;
       leave = λ k t h. record { states = tt; kept = record { values = λ v d h. tt; lists = λ c l h. tt } };
-      atom = λ a k t h. made_heedless k _ _;
+      atom = λ a is k t h. made_heedless k _ _;
       nil = λ k t h. tt;
       empty = λ k t h. tt;
       extended = λ c l v d k t e f h. made_heedless k _ _;

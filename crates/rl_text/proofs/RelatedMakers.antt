@@ -1,11 +1,25 @@
 -- Makers whose operations keep relations read a text alike: byte by byte, from lists that have begun alike.
-use Rattle.std.proofs.Common.{ℕ, zero, suc, ◌^◌, ◌+◌, ◌-◌, ◌*◌, ◌==◌, nat_lt, nat_le, Bool, true, false, if◌then◌else◌, List, [], ◌∷◌, length}
-use Rattle.rl_tree.specs.Bytes.{is_digit, is_name_byte}
+use Rattle.std.proofs.Common.{◌≡◌, ◌≤◌, ◌++◌, refl, arith, length-append, ℕ, zero, suc, ◌^◌, ◌+◌, ◌-◌, ◌*◌, ◌==◌, nat_lt, nat_le, Bool, true, false, if◌then◌else◌, List, [], ◌∷◌, length}
+use Rattle.std.proofs.lemmas.Bool.{ltb-true}
+use Rattle.rl_tree.specs.Bytes.{is_digit, is_name_byte, raised}
 use Rattle.rl_text.specs.Byte.{Mark, Open, Close, Dot, Quote, OpenVector, CloseVector, Class, Blank, Percent, Marks, Text, Escape, Letter, Digit, Sign, Special, Nothing, class_of}
 use Rattle.rl_text.specs.Word.{Atom, Integer, Identifier, String, signed}
 use Rattle.rl_text.specs.Maker.{Made, Maker}
-use Rattle.rl_text.specs.Makers.{MakerRelations, KeepsRelated, MadeRelated, both_have, both_want, first_wants, LeftRelated, AreMakersRelated, OutcomesRelated, both_read, both_find_none, both_refuse, both_stop, first_stops, EndRelated}
+use Rattle.rl_text.specs.Makers.{IsSpellable, MakerRelations, KeepsRelated, MadeRelated, both_have, both_want, first_wants, LeftRelated, AreMakersRelated, OutcomesRelated, both_read, both_find_none, both_refuse, both_stop, first_stops, EndRelated}
 use Rattle.rl_text.specs.Reader.{Phase, Begun, Going, Dotted, Shut, ReaderFrame, Listing, Vectoring, Quoting, Mode, Gap, Comment, InName, InEscape, AfterSign, InNumber, InText, AfterQuote, is_inner, admits, Ended, Whole, Inside, Lacks, ended_with, left, value_ended, ReaderStep, Goes, Done, Refuses, Halts, goes_with, goes_after, group_begins, open_list, close_list, dot, close_vector, at_mark, atom_ended, in_word, at_class, goes_before, atom_before, reader_step, ReaderOutcome, ends_after, at_end_between, at_end, after_step, after_turn, read_from}
+
+-- a name that is under way has at most 255 bytes, and behind `!` room for one more
+abbrev IsFit : Mode → Type 0
+IsFit (InName cs) = (1 ≤ length cs) × (length cs ≤ 255)
+IsFit (InEscape cs) = length cs ≤ 254
+IsFit mode = Unit {0}
+
+comment_fit : (b : Bool) → IsFit (if b then Gap else Comment)
+comment_fit true = tt
+comment_fit false = tt
+
+longer_fit : (cs : List ℕ) (b : ℕ) → length cs ≤ 254 → IsFit (InName (cs ++ b ∷ []))
+longer_fit cs b l = let long = length-append cs (b ∷ []) in (omega (arith, long), omega (arith, long, l))
 
 module _ {S V L W T U K X : Type 0} (r : MakerRelations S V L W T U K X) where
   -- the same has begun
@@ -22,7 +36,7 @@ module _ {S V L W T U K X : Type 0} (r : MakerRelations S V L W T U K X) where
     first_lacks : (w : W) (s : S) (other : Ended T U K X) → r.wants_first w s → EndsRelated (Lacks w s) other
 
   data StepsRelated : ReaderStep S V L W → ReaderStep T U K X → Type 0 where
-    goes : (mode : Mode) (fs : List (ReaderFrame L)) (gs : List (ReaderFrame K)) (s : S) (t : T) → FramesRelated s fs gs → r.states s t → StepsRelated (Goes mode fs s) (Goes mode gs t)
+    goes : (mode : Mode) (fs : List (ReaderFrame L)) (gs : List (ReaderFrame K)) (s : S) (t : T) → IsFit mode → FramesRelated s fs gs → r.states s t → StepsRelated (Goes mode fs s) (Goes mode gs t)
     done : (v : V) (u : U) (used : Bool) (s : S) (t : T) → r.values s v u → r.states s t → StepsRelated (Done v used s) (Done u used t)
     refuses : (s : S) (t : T) → r.states s t → StepsRelated (Refuses s) (Refuses t)
     halt : (w : W) (x : X) (s : S) (t : T) → r.wants w s x t → StepsRelated (Halts w s) (Halts x t)
@@ -83,7 +97,7 @@ module _ {S V L W T U K X : Type 0} (r : MakerRelations S V L W T U K X) where
 
   goes_after_steps : (d : Ended S V L W) (e : Ended T U K X) → EndsRelated d e → StepsRelated (goes_after d) (goes_after e)
   goes_after_steps d e (whole v u s t h k) = done v u true s t h k
-  goes_after_steps d e (inside fs gs s t f h) = goes Gap fs gs s t f h
+  goes_after_steps d e (inside fs gs s t f h) = goes Gap fs gs s t tt f h
   goes_after_steps d e (lack w x s t h) = halt w x s t h
   goes_after_steps d e (first_lacks w s other h) = first_halts w s _ h
 
@@ -123,15 +137,15 @@ module _ {S V L W T U K X : Type 0} (r : MakerRelations S V L W T U K X) where
     ends_left : (v : V) (u : U) (fs : List (ReaderFrame L)) (gs : List (ReaderFrame K)) (s : S) (t : T) → FramesRelated s fs gs → r.values s v u → r.states s t → EndsRelated (value_ended m v fs (left m fs s)) (value_ended n u gs (left n gs t))
     ends_left v u fs gs s t f e h = let after = left_related fs gs s t f h in value_ends s fs gs f v u (left m fs s) (left n gs t) after.kept (after.kept.values v u e) after.states
 
-    atom_ends : (a : Atom) (fs : List (ReaderFrame L)) (gs : List (ReaderFrame K)) (s : S) (t : T) → FramesRelated s fs gs → r.states s t → EndsRelated (atom_ended m a fs s) (atom_ended n a gs t)
-    atom_ends a fs gs s t f h = ended_with_ends s r.values _ _ _ _ (kept.atom a s t h) (λ v u s' t' e d c. value_ends s fs gs f v u s' t' c e d)
+    atom_ends : (a : Atom) (fs : List (ReaderFrame L)) (gs : List (ReaderFrame K)) (s : S) (t : T) → IsSpellable a → FramesRelated s fs gs → r.states s t → EndsRelated (atom_ended m a fs s) (atom_ended n a gs t)
+    atom_ends a fs gs s t is f h = ended_with_ends s r.values _ _ _ _ (kept.atom a is s t h) (λ v u s' t' e d c. value_ends s fs gs f v u s' t' c e d)
 
     -- ---- marks
 
     begins_steps : (a : ReaderFrame L) (b : ReaderFrame K) (fs : List (ReaderFrame L)) (gs : List (ReaderFrame K)) (s : S) (t : T) → FramesRelated s fs gs → FramesRelated s (a ∷ fs) (b ∷ gs) → r.states s t → StepsRelated (group_begins m a fs s) (group_begins n b gs t)
     begins_steps a b fs gs s t f g h =
-        if_inner fs gs s _ _ _ _ f (goes_with_steps s (λ s' x y. Unit {0}) _ _ _ _ (kept.enter s t h) (λ x y s' t' e d c. goes Gap _ _ s' t' (frames_kept s s' c _ _ g) d))
-        (goes Gap _ _ s t g h)
+        if_inner fs gs s _ _ _ _ f (goes_with_steps s (λ s' x y. Unit {0}) _ _ _ _ (kept.enter s t h) (λ x y s' t' e d c. goes Gap _ _ s' t' tt (frames_kept s s' c _ _ g) d))
+        (goes Gap _ _ s t tt g h)
 
     list_begins : (fs : List (ReaderFrame L)) (gs : List (ReaderFrame K)) (s : S) (t : T) → FramesRelated s fs gs → r.states s t → StepsRelated (group_begins m (Listing m.empty 0 Begun) fs s) (group_begins n (Listing n.empty 0 Begun) gs t)
     list_begins fs gs s t f h = begins_steps _ _ fs gs s t f (listing m.empty n.empty 0 Begun fs gs (kept.empty s t h) f) h
@@ -139,7 +153,7 @@ module _ {S V L W T U K X : Type 0} (r : MakerRelations S V L W T U K X) where
     open_listing : (l : L) (k : K) (i : ℕ) (p : Phase) (fs : List (ReaderFrame L)) (gs : List (ReaderFrame K)) (s : S) (t : T) → r.lists s l k → FramesRelated s fs gs → r.states s t → StepsRelated (open_list m (Listing l i p ∷ fs) s) (open_list n (Listing k i p ∷ gs) t)
     open_listing l k i Begun fs gs s t e f h = list_begins _ _ s t (listing l k i Begun fs gs e f) h
     open_listing l k i Going fs gs s t e f h = list_begins _ _ s t (listing l k i Going fs gs e f) h
-    open_listing l k i Dotted fs gs s t e f h = goes Gap _ _ s t (listing l k (suc i) Begun fs gs e f) h
+    open_listing l k i Dotted fs gs s t e f h = goes Gap _ _ s t tt (listing l k (suc i) Begun fs gs e f) h
     open_listing l k i Shut fs gs s t e f h = list_begins _ _ s t (listing l k i Shut fs gs e f) h
 
     open_steps : (fs : List (ReaderFrame L)) (gs : List (ReaderFrame K)) (s : S) (t : T) → FramesRelated s fs gs → r.states s t → StepsRelated (open_list m fs s) (open_list n gs t)
@@ -154,7 +168,7 @@ module _ {S V L W T U K X : Type 0} (r : MakerRelations S V L W T U K X) where
     -- a list behind a dot ends with NIL
     inner_closes : (l : L) (k : K) (i : ℕ) (fs : List (ReaderFrame L)) (gs : List (ReaderFrame K)) (s : S) (t : T) → r.lists s l k → FramesRelated s fs gs → r.states s t
         → StepsRelated (goes_with (m.ended l m.nil s) (λ l s. Goes Gap (Listing l i Shut ∷ fs) s)) (goes_with (n.ended k n.nil t) (λ k t. Goes Gap (Listing k i Shut ∷ gs) t))
-    inner_closes l k i fs gs s t e f h = goes_with_steps s r.lists _ _ _ _ (kept.ended l k m.nil n.nil s t e (kept.nil s t h) h) (λ l k s' t' e d c. goes Gap _ _ s' t' (listing l k i Shut fs gs e (frames_kept s s' c fs gs f)) d)
+    inner_closes l k i fs gs s t e f h = goes_with_steps s r.lists _ _ _ _ (kept.ended l k m.nil n.nil s t e (kept.nil s t h) h) (λ l k s' t' e d c. goes Gap _ _ s' t' tt (listing l k i Shut fs gs e (frames_kept s s' c fs gs f)) d)
 
     close_listing : (l : L) (k : K) (i : ℕ) (p : Phase) (fs : List (ReaderFrame L)) (gs : List (ReaderFrame K)) (s : S) (t : T) → r.lists s l k → FramesRelated s fs gs → r.states s t → StepsRelated (close_list m (Listing l i p ∷ fs) s) (close_list n (Listing k i p ∷ gs) t)
     close_listing l k i Dotted fs gs s t e f h = refuses s t h
@@ -163,7 +177,7 @@ module _ {S V L W T U K X : Type 0} (r : MakerRelations S V L W T U K X) where
     close_listing l k zero Shut fs gs s t e f h = list_closes l k fs gs s t e f h
     close_listing l k (suc i) Begun fs gs s t e f h = inner_closes l k i fs gs s t e f h
     close_listing l k (suc i) Going fs gs s t e f h = inner_closes l k i fs gs s t e f h
-    close_listing l k (suc i) Shut fs gs s t e f h = goes Gap _ _ s t (listing l k i Shut fs gs e f) h
+    close_listing l k (suc i) Shut fs gs s t e f h = goes Gap _ _ s t tt (listing l k i Shut fs gs e f) h
 
     close_steps : (fs : List (ReaderFrame L)) (gs : List (ReaderFrame K)) (s : S) (t : T) → FramesRelated s fs gs → r.states s t → StepsRelated (close_list m fs s) (close_list n gs t)
     close_steps fs gs s t no_frames h = refuses s t h
@@ -174,7 +188,7 @@ module _ {S V L W T U K X : Type 0} (r : MakerRelations S V L W T U K X) where
     dot_steps : (fs : List (ReaderFrame L)) (gs : List (ReaderFrame K)) (s : S) (t : T) → FramesRelated s fs gs → r.states s t → StepsRelated (dot m fs s) (dot n gs t)
     dot_steps fs gs s t no_frames h = refuses s t h
     dot_steps fs gs s t (listing l k i Begun fs' gs' e f) h = refuses s t h
-    dot_steps fs gs s t (listing l k i Going fs' gs' e f) h = goes Gap _ _ s t (listing l k i Dotted fs' gs' e f) h
+    dot_steps fs gs s t (listing l k i Going fs' gs' e f) h = goes Gap _ _ s t tt (listing l k i Dotted fs' gs' e f) h
     dot_steps fs gs s t (listing l k i Dotted fs' gs' e f) h = refuses s t h
     dot_steps fs gs s t (listing l k i Shut fs' gs' e f) h = refuses s t h
     dot_steps fs gs s t (vectoring l k fs' gs' e f) h = refuses s t h
@@ -197,19 +211,19 @@ module _ {S V L W T U K X : Type 0} (r : MakerRelations S V L W T U K X) where
 
     -- ---- a byte
 
-    word_steps : (mode : Mode) (fs : List (ReaderFrame L)) (gs : List (ReaderFrame K)) (s : S) (t : T) → FramesRelated s fs gs → r.states s t → StepsRelated (in_word mode fs s) (in_word mode gs t)
-    word_steps mode fs gs s t f h = admitted fs gs s t _ _ f h (goes mode fs gs s t f h)
+    word_steps : (mode : Mode) (fs : List (ReaderFrame L)) (gs : List (ReaderFrame K)) (s : S) (t : T) → IsFit mode → FramesRelated s fs gs → r.states s t → StepsRelated (in_word mode fs s) (in_word mode gs t)
+    word_steps mode fs gs s t fit f h = admitted fs gs s t _ _ f h (goes mode fs gs s t fit f h)
 
     class_steps : (c : Class) (b : ℕ) (fs : List (ReaderFrame L)) (gs : List (ReaderFrame K)) (s : S) (t : T) → FramesRelated s fs gs → r.states s t → StepsRelated (at_class m c b fs s) (at_class n c b gs t)
-    class_steps Blank b fs gs s t f h = goes _ fs gs s t f h
-    class_steps Percent b fs gs s t f h = goes _ fs gs s t f h
+    class_steps Blank b fs gs s t f h = goes Gap fs gs s t tt f h
+    class_steps Percent b fs gs s t f h = goes Comment fs gs s t tt f h
     class_steps (Marks mark) b fs gs s t f h = mark_steps mark fs gs s t f h
-    class_steps Text b fs gs s t f h = word_steps _ fs gs s t f h
-    class_steps Escape b fs gs s t f h = word_steps _ fs gs s t f h
-    class_steps Letter b fs gs s t f h = word_steps _ fs gs s t f h
-    class_steps Digit b fs gs s t f h = word_steps _ fs gs s t f h
-    class_steps Sign b fs gs s t f h = word_steps _ fs gs s t f h
-    class_steps Special b fs gs s t f h = admitted fs gs s t _ _ f h (goes_after_steps _ _ (atom_ends _ fs gs s t f h))
+    class_steps Text b fs gs s t f h = word_steps (InText []) fs gs s t tt f h
+    class_steps Escape b fs gs s t f h = word_steps (InEscape []) fs gs s t (omega arith) f h
+    class_steps Letter b fs gs s t f h = word_steps (InName (raised b ∷ [])) fs gs s t (omega arith, omega arith) f h
+    class_steps Digit b fs gs s t f h = word_steps (InNumber false (b - 48)) fs gs s t tt f h
+    class_steps Sign b fs gs s t f h = word_steps (AfterSign b) fs gs s t tt f h
+    class_steps Special b fs gs s t f h = admitted fs gs s t _ _ f h (goes_after_steps _ _ (atom_ends (Identifier (b ∷ [])) fs gs s t (omega arith, omega arith) f h))
     class_steps Nothing b fs gs s t f h = refuses s t h
 
     before_steps : (b : ℕ) (d : Ended S V L W) (e : Ended T U K X) → EndsRelated d e → StepsRelated (goes_before m b d) (goes_before n b e)
@@ -218,24 +232,26 @@ module _ {S V L W T U K X : Type 0} (r : MakerRelations S V L W T U K X) where
     before_steps b d e (lack w x s t h) = halt w x s t h
     before_steps b d e (first_lacks w s other h) = first_halts w s _ h
 
-    atom_before_steps : (a : Atom) (b : ℕ) (fs : List (ReaderFrame L)) (gs : List (ReaderFrame K)) (s : S) (t : T) → FramesRelated s fs gs → r.states s t → StepsRelated (atom_before m a b fs s) (atom_before n a b gs t)
-    atom_before_steps a b fs gs s t f h = before_steps b _ _ (atom_ends a fs gs s t f h)
+    atom_before_steps : (a : Atom) (b : ℕ) (fs : List (ReaderFrame L)) (gs : List (ReaderFrame K)) (s : S) (t : T) → IsSpellable a → FramesRelated s fs gs → r.states s t → StepsRelated (atom_before m a b fs s) (atom_before n a b gs t)
+    atom_before_steps a b fs gs s t is f h = before_steps b _ _ (atom_ends a fs gs s t is f h)
 
     -- what goes on only under a test of its own
-    tested : (b : Bool) (mode : Mode) (fs : List (ReaderFrame L)) (gs : List (ReaderFrame K)) (s : S) (t : T) → FramesRelated s fs gs → r.states s t → StepsRelated (if b then Goes mode fs s else Refuses s) (if b then Goes mode gs t else Refuses t)
-    tested b mode fs gs s t f h = if_steps b _ _ _ _ (goes mode fs gs s t f h) (refuses s t h)
+    tested : (b : Bool) (mode : Mode) (fs : List (ReaderFrame L)) (gs : List (ReaderFrame K)) (s : S) (t : T) → (b ≡ true → IsFit mode) → FramesRelated s fs gs → r.states s t → StepsRelated (if b then Goes mode fs s else Refuses s) (if b then Goes mode gs t else Refuses t)
+    tested true mode fs gs s t fit f h = goes mode fs gs s t (fit refl) f h
+    tested false mode fs gs s t fit f h = refuses s t h
 
-    step_steps : (mode : Mode) (b : ℕ) (fs : List (ReaderFrame L)) (gs : List (ReaderFrame K)) (s : S) (t : T) → FramesRelated s fs gs → r.states s t → StepsRelated (reader_step m mode b fs s) (reader_step n mode b gs t)
-    step_steps Gap b fs gs s t f h = class_steps (class_of b) b fs gs s t f h
-    step_steps Comment b fs gs s t f h = goes _ fs gs s t f h
-    step_steps (InName cs) b fs gs s t f h =
-        if_steps (is_name_byte b) _ _ _ _ (tested (nat_lt (length cs) 255) _ fs gs s t f h) (if_steps (b == 33) _ _ _ _ (tested (nat_lt (length cs) 255) _ fs gs s t f h) (atom_before_steps (Identifier cs) b fs gs s t f h))
-    step_steps (InEscape cs) b fs gs s t f h = goes _ fs gs s t f h
-    step_steps (AfterSign c) b fs gs s t f h = if_steps (is_digit b) _ _ _ _ (goes _ fs gs s t f h) (atom_before_steps (Identifier (c ∷ [])) b fs gs s t f h)
-    step_steps (InNumber minus i) b fs gs s t f h =
-        if_steps (is_digit b) _ _ _ _ (tested (if minus then nat_le (10 * i + (b - 48)) (2 ^ 59) else nat_lt (10 * i + (b - 48)) (2 ^ 59)) _ fs gs s t f h) (atom_before_steps (Integer (signed minus i)) b fs gs s t f h)
-    step_steps (InText cs) b fs gs s t f h = if_steps (b == 34) _ _ _ _ (goes _ fs gs s t f h) (tested (nat_lt (length cs) 65535) _ fs gs s t f h)
-    step_steps (AfterQuote cs) b fs gs s t f h = if_steps (b == 34) _ _ _ _ (tested (nat_lt (length cs) 65535) _ fs gs s t f h) (atom_before_steps (String cs) b fs gs s t f h)
+    step_steps : (mode : Mode) (b : ℕ) (fs : List (ReaderFrame L)) (gs : List (ReaderFrame K)) (s : S) (t : T) → IsFit mode → FramesRelated s fs gs → r.states s t → StepsRelated (reader_step m mode b fs s) (reader_step n mode b gs t)
+    step_steps Gap b fs gs s t fit f h = class_steps (class_of b) b fs gs s t f h
+    step_steps Comment b fs gs s t fit f h = goes _ fs gs s t (comment_fit (b == 10)) f h
+    step_steps (InName cs) b fs gs s t fit f h =
+        if_steps (is_name_byte b) _ _ _ _ (tested (nat_lt (length cs) 255) _ fs gs s t (λ e. longer_fit cs (raised b) (let l = ltb-true (length cs) 255 e in omega (arith, l))) f h)
+        (if_steps (b == 33) _ _ _ _ (tested (nat_lt (length cs) 255) _ fs gs s t (λ e. let l = ltb-true (length cs) 255 e in omega (arith, l)) f h) (atom_before_steps (Identifier cs) b fs gs s t fit f h))
+    step_steps (InEscape cs) b fs gs s t fit f h = goes _ fs gs s t (longer_fit cs b fit) f h
+    step_steps (AfterSign c) b fs gs s t fit f h = if_steps (is_digit b) _ _ _ _ (goes _ fs gs s t tt f h) (atom_before_steps (Identifier (c ∷ [])) b fs gs s t (omega arith, omega arith) f h)
+    step_steps (InNumber minus i) b fs gs s t fit f h =
+        if_steps (is_digit b) _ _ _ _ (tested (if minus then nat_le (10 * i + (b - 48)) (2 ^ 59) else nat_lt (10 * i + (b - 48)) (2 ^ 59)) _ fs gs s t (λ e. tt) f h) (atom_before_steps (Integer (signed minus i)) b fs gs s t tt f h)
+    step_steps (InText cs) b fs gs s t fit f h = if_steps (b == 34) _ _ _ _ (goes _ fs gs s t tt f h) (tested (nat_lt (length cs) 65535) _ fs gs s t (λ e. tt) f h)
+    step_steps (AfterQuote cs) b fs gs s t fit f h = if_steps (b == 34) _ _ _ _ (tested (nat_lt (length cs) 65535) _ fs gs s t (λ e. tt) f h) (atom_before_steps (String cs) b fs gs s t tt f h)
 
     -- ---- a text
 
@@ -251,22 +267,22 @@ module _ {S V L W T U K X : Type 0} (r : MakerRelations S V L W T U K X) where
     between_ends fs gs s t (vectoring l k fs' gs' e f) h = both_refuse s t [] h
     between_ends fs gs s t (quoting fs' gs' f) h = both_refuse s t [] h
 
-    word_ends : (a : Atom) (fs : List (ReaderFrame L)) (gs : List (ReaderFrame K)) (s : S) (t : T) → FramesRelated s fs gs → r.states s t → OutcomesRelated r (ends_after (atom_ended m a fs s)) (ends_after (atom_ended n a gs t))
-    word_ends a fs gs s t f h = after_ends _ _ (atom_ends a fs gs s t f h)
+    word_ends : (a : Atom) (fs : List (ReaderFrame L)) (gs : List (ReaderFrame K)) (s : S) (t : T) → IsSpellable a → FramesRelated s fs gs → r.states s t → OutcomesRelated r (ends_after (atom_ended m a fs s)) (ends_after (atom_ended n a gs t))
+    word_ends a fs gs s t is f h = after_ends _ _ (atom_ends a fs gs s t is f h)
 
-    text_ends : (mode : Mode) (fs : List (ReaderFrame L)) (gs : List (ReaderFrame K)) (s : S) (t : T) → FramesRelated s fs gs → r.states s t → OutcomesRelated r (at_end m mode fs s) (at_end n mode gs t)
-    text_ends Gap fs gs s t f h = between_ends fs gs s t f h
-    text_ends Comment fs gs s t f h = between_ends fs gs s t f h
-    text_ends (InName cs) fs gs s t f h = word_ends (Identifier cs) fs gs s t f h
-    text_ends (InEscape cs) fs gs s t f h = both_refuse s t [] h
-    text_ends (AfterSign c) fs gs s t f h = word_ends (Identifier (c ∷ [])) fs gs s t f h
-    text_ends (InNumber minus i) fs gs s t f h = word_ends (Integer (signed minus i)) fs gs s t f h
-    text_ends (InText cs) fs gs s t f h = both_refuse s t [] h
-    text_ends (AfterQuote cs) fs gs s t f h = word_ends (String cs) fs gs s t f h
+    text_ends : (mode : Mode) (fs : List (ReaderFrame L)) (gs : List (ReaderFrame K)) (s : S) (t : T) → IsFit mode → FramesRelated s fs gs → r.states s t → OutcomesRelated r (at_end m mode fs s) (at_end n mode gs t)
+    text_ends Gap fs gs s t fit f h = between_ends fs gs s t f h
+    text_ends Comment fs gs s t fit f h = between_ends fs gs s t f h
+    text_ends (InName cs) fs gs s t fit f h = word_ends (Identifier cs) fs gs s t fit f h
+    text_ends (InEscape cs) fs gs s t fit f h = both_refuse s t [] h
+    text_ends (AfterSign c) fs gs s t fit f h = word_ends (Identifier (c ∷ [])) fs gs s t (omega arith, omega arith) f h
+    text_ends (InNumber minus i) fs gs s t fit f h = word_ends (Integer (signed minus i)) fs gs s t tt f h
+    text_ends (InText cs) fs gs s t fit f h = both_refuse s t [] h
+    text_ends (AfterQuote cs) fs gs s t fit f h = word_ends (String cs) fs gs s t tt f h
 
     after_steps : (b : ℕ) (bs : List ℕ) (x : ReaderStep S V L W) (y : ReaderStep T U K X) (a : Mode → List (ReaderFrame L) → S → ReaderOutcome S V W) (c : Mode → List (ReaderFrame K) → T → ReaderOutcome T U X) → StepsRelated x y
-        → ((mode : Mode) (fs : List (ReaderFrame L)) (gs : List (ReaderFrame K)) (s : S) (t : T) → FramesRelated s fs gs → r.states s t → OutcomesRelated r (a mode fs s) (c mode gs t)) → OutcomesRelated r (after_step b bs x a) (after_step b bs y c)
-    after_steps b bs x y a c (goes mode fs gs s t f h) next = next mode fs gs s t f h
+        → ((mode : Mode) (fs : List (ReaderFrame L)) (gs : List (ReaderFrame K)) (s : S) (t : T) → IsFit mode → FramesRelated s fs gs → r.states s t → OutcomesRelated r (a mode fs s) (c mode gs t)) → OutcomesRelated r (after_step b bs x a) (after_step b bs y c)
+    after_steps b bs x y a c (goes mode fs gs s t fit f h) next = next mode fs gs s t fit f h
     after_steps b bs x y a c (done v u used s t h k) next = both_read v u s t _ h k
     after_steps b bs x y a c (refuses s t h) next = both_refuse s t _ h
     after_steps b bs x y a c (halt w z s t h) next = both_stop w z s t _ h
@@ -278,10 +294,10 @@ module _ {S V L W T U K X : Type 0} (r : MakerRelations S V L W T U K X) where
     after_turns bs from x y a c (both_want w v s t h) next = both_stop w v s t bs h
     after_turns bs from x y a c (first_wants w s other h) next = first_stops w s bs _ h
 
-    from_related : (mode : Mode) (fs : List (ReaderFrame L)) (gs : List (ReaderFrame K)) (s : S) (t : T) (bytes : List ℕ) → FramesRelated s fs gs → r.states s t → OutcomesRelated r (read_from m mode fs s bytes) (read_from n mode gs t bytes)
-    from_related mode fs gs s t [] f h = text_ends mode fs gs s t f h
-    from_related mode fs gs s t (b ∷ bs) f h =
-        after_turns bs s _ _ _ _ (kept.turn s t h) (λ s' t' c d. after_steps b bs _ _ _ _ (step_steps mode b fs gs s' t' (frames_kept s s' c fs gs f) d) (λ mode fs gs s t f h. from_related mode fs gs s t bs f h))
+    from_related : (mode : Mode) (fs : List (ReaderFrame L)) (gs : List (ReaderFrame K)) (s : S) (t : T) (bytes : List ℕ) → IsFit mode → FramesRelated s fs gs → r.states s t → OutcomesRelated r (read_from m mode fs s bytes) (read_from n mode gs t bytes)
+    from_related mode fs gs s t [] fit f h = text_ends mode fs gs s t fit f h
+    from_related mode fs gs s t (b ∷ bs) fit f h =
+        after_turns bs s _ _ _ _ (kept.turn s t h) (λ s' t' c d. after_steps b bs _ _ _ _ (step_steps mode b fs gs s' t' fit (frames_kept s s' c fs gs f) d) (λ mode fs gs s t fit f h. from_related mode fs gs s t bs fit f h))
 
   pub end_related : EndRelated r
-  end_related m n kept s t bytes h = from_related m n kept Gap [] [] s t bytes no_frames h
+  end_related m n kept s t bytes h = from_related m n kept Gap [] [] s t bytes tt no_frames h

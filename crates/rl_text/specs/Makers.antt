@@ -1,8 +1,13 @@
 -- Two makers of what is read: relations of their states, values and lists that each operation keeps, and how a text then ends for both.
-use Rattle.std.specs.Prelude.{ℕ, List}
-use Rattle.rl_text.specs.Word.{Atom}
+use Rattle.std.specs.Prelude.{◌≤◌, ℕ, List, length}
+use Rattle.rl_text.specs.Word.{Atom, Identifier}
 use Rattle.rl_text.specs.Maker.{Made, Has, Wants, Maker}
 use Rattle.rl_text.specs.Reader.{ReaderOutcome, Read, NoneLeft, Refused, Stopped, read_by}
+
+-- an atom that a text can spell: a name has 1 to 255 bytes
+abbrev pub IsSpellable : Atom → Type 0
+IsSpellable (Identifier name) = (1 ≤ length name) × (length name ≤ 255)
+IsSpellable a = Unit {0}
 
 -- what relates two makers; which values and which lists are related may rest on the state of the first
 pub record MakerRelations (S V L W T U K X : Type 0) : Type 1 where
@@ -35,7 +40,7 @@ module _ {S V L W T U K X : Type 0} (r : MakerRelations S V L W T U K X) where
     pub turn : (s : S) (t : T) → r.states s t → MadeRelated s (λ s' a b. Unit {0}) (m.turn s) (n.turn t)
     pub enter : (s : S) (t : T) → r.states s t → MadeRelated s (λ s' a b. Unit {0}) (m.enter s) (n.enter t)
     pub leave : (s : S) (t : T) → r.states s t → LeftRelated s (m.leave s) (n.leave t)
-    pub atom : (a : Atom) (s : S) (t : T) → r.states s t → MadeRelated s r.values (m.atom a s) (n.atom a t)
+    pub atom : (a : Atom) → IsSpellable a → (s : S) (t : T) → r.states s t → MadeRelated s r.values (m.atom a s) (n.atom a t)
     pub nil : (s : S) (t : T) → r.states s t → r.values s m.nil n.nil
     pub empty : (s : S) (t : T) → r.states s t → r.lists s m.empty n.empty
     pub extended : (l : L) (k : K) (v : V) (u : U) (s : S) (t : T) → r.lists s l k → r.values s v u → r.states s t → MadeRelated s r.lists (m.extended l v s) (n.extended k u t)
