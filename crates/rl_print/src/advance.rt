@@ -33,14 +33,13 @@ fn turn(w: &mut World) -> Result<(), Stop>
 }
 
 /// Enters a level and keeps what waits behind an element.
-fn push(w: &mut World, _base: u64, c: Cursor) -> Result<(), Stop>
-    requires ready { IsReadyToPrint w.old _base }
+fn push(w: &mut World, c: Cursor) -> Result<(), Stop>
     requires cursor { IsCursor w.old.cells.cells c }
-    ensures places { OnOk result (waiting_places w.new _base ≡ walk_place_in w.old.cells.cells c ∷ waiting_places w.old _base) }
+    ensures places { OnOk result ((base : ℕ) → IsReadyToPrint w.old base → waiting_places w.new base ≡ walk_place_in w.old.cells.cells c ∷ waiting_places w.old base) }
     ensures levels { OnOk result (levels_left w.old ≡ levels_left w.new + 1) }
     ensures kept { OnOk result (length w.new.levels.walk ≡ length w.old.levels.walk + 1) }
-    ensures ready { IsReadyToPrint w.new _base }
-    ensures steady { IsSteady _base w.old.levels w.new.levels }
+    ensures ready { (base : ℕ) → IsReadyToPrint w.old base → IsReadyToPrint w.new base }
+    ensures steady { (base : ℕ) → IsReadyToPrint w.old base → IsSteady base w.old.levels w.new.levels }
     ensures world { w.new ≡ record w.old { levels = w.new.levels } }
     ensures none { IfErr result (λ s. levels_left w.old ≡ 0) }
     ensures stop { IfErr result (λ s. s ≡ stop.Depth) }
@@ -100,19 +99,18 @@ fn pop(w: &mut World, base: u64) -> Option<State>
 pub(crate) type Step = (Piece<'static>, Option<State>);
 
 /// An element that is a pair: `(`, and its CAR, behind which the rest waits.
-fn pair_element(w: &mut World, v: Val, outer: Cursor, base: u64) -> Result<Step, Stop>
-    requires ready { IsReadyToPrint w.old base }
+fn pair_element(w: &mut World, v: Val, outer: Cursor) -> Result<Step, Stop>
     requires pair { IsTrue (is_pair w.old.cells.cells v) }
     requires outer { IsCursor w.old.cells.cells outer }
-    ensures ok { IfOk result (λ r. Advances base w.old w.new (Some (state.Element v outer)) r.0 r.1) }
-    ensures err { IfErr result (λ s. EndsPrinting base w.old w.new (Some (state.Element v outer)) s) }
-    ensures world { IsWorldOf base w.old w.new }
+    ensures ok { (base : ℕ) → IsReadyToPrint w.old base → IfOk result (λ r. Advances base w.old w.new (Some (state.Element v outer)) r.0 r.1) }
+    ensures err { (base : ℕ) → IsReadyToPrint w.old base → IfErr result (λ s. EndsPrinting base w.old w.new (Some (state.Element v outer)) s) }
+    ensures world { (base : ℕ) → IsReadyToPrint w.old base → IsWorldOf base w.old w.new }
 {
     meaning_of_reading();
     if let Err(s) = turn(w) {
         return Err(s);
     }
-    if let Err(s) = push(w, base, outer) {
+    if let Err(s) = push(w, outer) {
         return Err(s);
     }
     let car = w.cells.car(v);
@@ -124,16 +122,15 @@ fn pair_element(w: &mut World, v: Val, outer: Cursor, base: u64) -> Result<Step,
 }
 
 /// An element that is a vector: `[`, and its first place.
-fn vector_element(w: &mut World, v: Val, outer: Cursor, base: u64) -> Result<Step, Stop>
-    requires ready { IsReadyToPrint w.old base }
+fn vector_element(w: &mut World, v: Val, outer: Cursor) -> Result<Step, Stop>
     requires vector { IsTrue (is_vector w.old.cells.cells v) }
     requires outer { IsCursor w.old.cells.cells outer }
-    ensures ok { IfOk result (λ r. Advances base w.old w.new (Some (state.Element v outer)) r.0 r.1) }
-    ensures err { IfErr result (λ s. EndsPrinting base w.old w.new (Some (state.Element v outer)) s) }
-    ensures world { IsWorldOf base w.old w.new }
+    ensures ok { (base : ℕ) → IsReadyToPrint w.old base → IfOk result (λ r. Advances base w.old w.new (Some (state.Element v outer)) r.0 r.1) }
+    ensures err { (base : ℕ) → IsReadyToPrint w.old base → IfErr result (λ s. EndsPrinting base w.old w.new (Some (state.Element v outer)) s) }
+    ensures world { (base : ℕ) → IsReadyToPrint w.old base → IsWorldOf base w.old w.new }
 {
     meaning_of_reading();
-    if let Err(s) = push(w, base, outer) {
+    if let Err(s) = push(w, outer) {
         return Err(s);
     }
     Ok((
@@ -143,17 +140,16 @@ fn vector_element(w: &mut World, v: Val, outer: Cursor, base: u64) -> Result<Ste
 }
 
 /// An element: an atom, or a descent into a pair or a vector.
-fn element(w: &mut World, v: Val, outer: Cursor, base: u64) -> Result<Step, Stop>
-    requires ready { IsReadyToPrint w.old base }
+fn element(w: &mut World, v: Val, outer: Cursor) -> Result<Step, Stop>
     requires live { IsTrue (is_live w.old.cells.cells v) }
     requires outer { IsCursor w.old.cells.cells outer }
-    ensures ok { IfOk result (λ r. Advances base w.old w.new (Some (state.Element v outer)) r.0 r.1) }
-    ensures err { IfErr result (λ s. EndsPrinting base w.old w.new (Some (state.Element v outer)) s) }
-    ensures world { IsWorldOf base w.old w.new }
+    ensures ok { (base : ℕ) → IsReadyToPrint w.old base → IfOk result (λ r. Advances base w.old w.new (Some (state.Element v outer)) r.0 r.1) }
+    ensures err { (base : ℕ) → IsReadyToPrint w.old base → IfErr result (λ s. EndsPrinting base w.old w.new (Some (state.Element v outer)) s) }
+    ensures world { (base : ℕ) → IsReadyToPrint w.old base → IsWorldOf base w.old w.new }
 {
     match v.tag() {
-        Tag::Pair => pair_element(w, v, outer, base),
-        Tag::Vector => vector_element(w, v, outer, base),
+        Tag::Pair => pair_element(w, v, outer),
+        Tag::Vector => vector_element(w, v, outer),
         _ => Ok((Piece::Atom(v), Some(State::Next(outer)))),
     }
 }
@@ -246,7 +242,7 @@ pub(crate) fn advance(w: &mut World, at: State, base: u64) -> Result<Step, Stop>
     ensures world { IsWorldOf base w.old w.new }
 {
     match at {
-        State::Element(v, outer) => element(w, v, outer, base),
+        State::Element(v, outer) => element(w, v, outer),
         State::Next(c) => next(w, c, base),
     }
 }

@@ -1,5 +1,5 @@
 //! What has begun and is not whole yet: the newest part beside the loop, the others in the world's walk.
-ghost use Rattle.std.specs.Prelude.{◌≡◌, ◌≢◌, ◌*◌, ◌/◌, ◌<◌, ◌≤◌, ◌^◌, Bool, List, ◌∷◌, length, true, IfOk, IfErr};
+ghost use Rattle.std.specs.Prelude.{◌≡◌, ◌≢◌, ◌*◌, ◌/◌, ◌<◌, ◌≤◌, ◌^◌, ℕ, Bool, List, ◌∷◌, length, true, IfOk, IfErr};
 ghost use Rattle.std.specs.List.{AllByRecursion};
 ghost use Rattle.rl_cells.specs.Cell.{Cell};
 ghost use Rattle.rl_text.specs.Reader.{ReaderFrame, Goes, Gap, left};
@@ -155,27 +155,22 @@ pub(crate) fn admits(group: &Group) -> bool
 }
 
 /// A list, a vector or a quote begins: as an element it enters a level, behind a dot it stands with its list.
-pub(crate) fn begin(
-    w: &mut World,
-    opening: Opening,
-    outer: &Group,
-    base: u64,
-) -> Result<Group, Stop>
-    requires { IsReadyToRead base w.old outer.now }
-    ensures ok { IfOk result (λ g. (t : Bool) → opening_frame (in_stock t) opening (frames_in base w.old outer.now) (stock_of w.old) ≡ Goes Gap (frames_in base w.new g) (stock_of w.new)) }
-    ensures stop { IfErr result (λ s. IsHalting (λ t. opening_frame (in_stock t) opening (frames_in base w.old outer.now) (stock_of w.old)) s (stock_of w.new)) }
+pub(crate) fn begin(w: &mut World, opening: Opening, outer: &Group) -> Result<Group, Stop>
+    requires { IsGroup w.old.cells.cells outer.now }
+    ensures ok { (base : ℕ) → IsReadyToRead base w.old outer.now → IfOk result (λ g. (t : Bool) → opening_frame (in_stock t) opening (frames_in base w.old outer.now) (stock_of w.old) ≡ Goes Gap (frames_in base w.new g) (stock_of w.new)) }
+    ensures stop { (base : ℕ) → IsReadyToRead base w.old outer.now → IfErr result (λ s. IsHalting (λ t. opening_frame (in_stock t) opening (frames_in base w.old outer.now) (stock_of w.old)) s (stock_of w.new)) }
     ensures counted { IfErr result (λ s. is_counted s ≡ true) }
-    ensures ready { IfOk result (λ g. IsReadyToRead base w.new g) }
-    ensures steady { IsSteady base w.old.levels w.new.levels }
+    ensures ready { (base : ℕ) → IsReadyToRead base w.old outer.now → IfOk result (λ g. IsReadyToRead base w.new g) }
+    ensures steady { (base : ℕ) → IsReadyToRead base w.old outer.now → IsSteady base w.old.levels w.new.levels }
     ensures world { w.new ≡ record w.old { levels = w.new.levels } }
 {
     match outer {
         Group::Root => Ok(begun(opening)),
         Group::List(l, owed, phase) => match phase {
             Phase::Dotted => Ok(behind(w, opening, l, *owed)),
-            _ => keep(w, opening, outer, base),
+            _ => keep(w, opening, outer),
         },
-        _ => keep(w, opening, outer, base),
+        _ => keep(w, opening, outer),
     }
 }
 
@@ -211,14 +206,14 @@ fn behind(w: &World, opening: Opening, l: &Chain, owed: u32) -> Group
 }
 
 /// Enters a level, and keeps what is around it.
-fn keep(w: &mut World, opening: Opening, outer: &Group, base: u64) -> Result<Group, Stop>
-    requires ready { IsReadyToRead base w.old outer.now }
+fn keep(w: &mut World, opening: Opening, outer: &Group) -> Result<Group, Stop>
+    requires group { IsGroup w.old.cells.cells outer.now }
     requires inner { is_inner_group outer.now ≡ true }
-    ensures ok { IfOk result (λ g. (t : Bool) → opening_frame (in_stock t) opening (frames_in base w.old outer.now) (stock_of w.old) ≡ Goes Gap (frames_in base w.new g) (stock_of w.new)) }
-    ensures stop { IfErr result (λ s. IsHalting (λ t. opening_frame (in_stock t) opening (frames_in base w.old outer.now) (stock_of w.old)) s (stock_of w.new)) }
+    ensures ok { (base : ℕ) → IsReadyToRead base w.old outer.now → IfOk result (λ g. (t : Bool) → opening_frame (in_stock t) opening (frames_in base w.old outer.now) (stock_of w.old) ≡ Goes Gap (frames_in base w.new g) (stock_of w.new)) }
+    ensures stop { (base : ℕ) → IsReadyToRead base w.old outer.now → IfErr result (λ s. IsHalting (λ t. opening_frame (in_stock t) opening (frames_in base w.old outer.now) (stock_of w.old)) s (stock_of w.new)) }
     ensures counted { IfErr result (λ s. is_counted s ≡ true) }
-    ensures ready { IfOk result (λ g. IsReadyToRead base w.new g) }
-    ensures steady { IsSteady base w.old.levels w.new.levels }
+    ensures ready { (base : ℕ) → IsReadyToRead base w.old outer.now → IfOk result (λ g. IsReadyToRead base w.new g) }
+    ensures steady { (base : ℕ) → IsReadyToRead base w.old outer.now → IsSteady base w.old.levels w.new.levels }
     ensures world { w.new ≡ record w.old { levels = w.new.levels } }
 {
     let (a, b, c) = words_of(w, outer);

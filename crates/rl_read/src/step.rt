@@ -11,7 +11,7 @@ ghost use Rattle.rl_text.specs.Maker.{Has};
 ghost use Rattle.rl_world.specs.declared.world.World.{World};
 ghost use Rattle.rl_read.specs.Given.{is_counted};
 ghost use Rattle.rl_read.specs.Stock.{in_stock, stock_of};
-ghost use Rattle.rl_read.specs.Frames.{CanMake, IsChain, IsMaking, IsReading, IsReadyToRead, chain_of, frames_around, frames_in, is_quote_group, vector_in_group};
+ghost use Rattle.rl_read.specs.Frames.{CanMake, IsChain, IsGroup, IsMaking, IsReading, IsReadyToRead, chain_of, frames_around, frames_in, is_quote_group, vector_in_group};
 ghost use Rattle.rl_read.specs.Steps.{IsAtom, IsEnded, IsHalting, IsLacking, IsMode, IsNumber, IsStep, atom_meant, ended_of, inner_ended, is_digits_mode, is_text_mode, may_end, mode_of, opens_at, step_of, word_atom};
 ghost use Rattle.rl_read.specs.declared.frames.Group.TheVariants as rl_group;
 ghost use Rattle.rl_read.specs.declared.frames.Phase.TheVariants as rl_phase;
@@ -62,7 +62,7 @@ pub(crate) fn value_ended(w: &mut World, v: Val, group: Group, base: u64) -> Res
         };
         group = around(w, &group, base);
     }
-    in_place(w, v, group, base)
+    in_place(w, v, group)
 }
 
 /// Whether an element of this is quoted.
@@ -76,14 +76,15 @@ fn is_quote(group: &Group) -> bool
 }
 
 /// An element has ended in a list or a vector, behind a dot, or with the text.
-fn in_place(w: &mut World, v: Val, group: Group, base: u64) -> Result<Ended, Stop>
-    requires ready { IsReadyToRead base w.old group }
+fn in_place(w: &mut World, v: Val, group: Group) -> Result<Ended, Stop>
+    requires able { CanMake w.old }
+    requires group { IsGroup w.old.cells.cells group }
     requires place { is_quote_group group ≡ false }
     requires live { IsTrue (is_live w.old.cells.cells v) }
-    ensures ok { IfOk result (λ e. (t : Bool) → reader.value_ended (in_stock t) v (frames_in base w.old group) (stock_of w.old) ≡ ended_of base w.new e) }
-    ensures stop { IfErr result (λ s. IsLacking (λ t. reader.value_ended (in_stock t) v (frames_in base w.old group) (stock_of w.old)) s (stock_of w.new)) }
+    ensures ok { (base : ℕ) → IsReadyToRead base w.old group → IfOk result (λ e. (t : Bool) → reader.value_ended (in_stock t) v (frames_in base w.old group) (stock_of w.old) ≡ ended_of base w.new e) }
+    ensures stop { (base : ℕ) → IsReadyToRead base w.old group → IfErr result (λ s. IsLacking (λ t. reader.value_ended (in_stock t) v (frames_in base w.old group) (stock_of w.old)) s (stock_of w.new)) }
     ensures counted { IfErr result (λ s. is_counted s ≡ true) }
-    ensures ended { IfOk result (λ e. IsEnded base w.new e) }
+    ensures ended { (base : ℕ) → IsReadyToRead base w.old group → IfOk result (λ e. IsEnded base w.new e) }
     ensures able { CanMake w.new }
     ensures making { IsMaking w.old w.new }
 {
@@ -96,26 +97,20 @@ fn in_place(w: &mut World, v: Val, group: Group, base: u64) -> Result<Ended, Sto
             Ok(c) => Ok(Ended::Inside(Group::VectorBehind(c, l, owed))),
             Err(s) => Err(s),
         },
-        Group::List(l, owed, phase) => in_list(w, v, l, owed, phase, base),
+        Group::List(l, owed, phase) => in_list(w, v, l, owed, phase),
         _ => Ok(Ended::Whole(v)),
     }
 }
 
 /// An element of a list has ended, or what stands behind its dot.
-fn in_list(
-    w: &mut World,
-    v: Val,
-    l: Chain,
-    owed: u32,
-    phase: Phase,
-    base: u64,
-) -> Result<Ended, Stop>
-    requires ready { IsReadyToRead base w.old (rl_group.List l owed phase) }
+fn in_list(w: &mut World, v: Val, l: Chain, owed: u32, phase: Phase) -> Result<Ended, Stop>
+    requires able { CanMake w.old }
+    requires group { IsGroup w.old.cells.cells (rl_group.List l owed phase) }
     requires live { IsTrue (is_live w.old.cells.cells v) }
-    ensures ok { IfOk result (λ e. (t : Bool) → reader.value_ended (in_stock t) v (frames_in base w.old (rl_group.List l owed phase)) (stock_of w.old) ≡ ended_of base w.new e) }
-    ensures stop { IfErr result (λ s. IsLacking (λ t. reader.value_ended (in_stock t) v (frames_in base w.old (rl_group.List l owed phase)) (stock_of w.old)) s (stock_of w.new)) }
+    ensures ok { (base : ℕ) → IsReadyToRead base w.old (rl_group.List l owed phase) → IfOk result (λ e. (t : Bool) → reader.value_ended (in_stock t) v (frames_in base w.old (rl_group.List l owed phase)) (stock_of w.old) ≡ ended_of base w.new e) }
+    ensures stop { (base : ℕ) → IsReadyToRead base w.old (rl_group.List l owed phase) → IfErr result (λ s. IsLacking (λ t. reader.value_ended (in_stock t) v (frames_in base w.old (rl_group.List l owed phase)) (stock_of w.old)) s (stock_of w.new)) }
     ensures counted { IfErr result (λ s. is_counted s ≡ true) }
-    ensures ended { IfOk result (λ e. IsEnded base w.new e) }
+    ensures ended { (base : ℕ) → IsReadyToRead base w.old (rl_group.List l owed phase) → IfOk result (λ e. IsEnded base w.new e) }
     ensures able { CanMake w.new }
     ensures making { IsMaking w.old w.new }
 {
@@ -303,26 +298,27 @@ fn at_mark(w: &mut World, mark: Mark, group: &Group, base: u64) -> Result<Step, 
         Mark::Close => close_list(w, group, base),
         Mark::CloseVector => close_vector(w, group, base),
         Mark::Dot => Ok(dot(group)),
-        Mark::Open => opens(w, Opening::List, group, base),
-        Mark::OpenVector => opens(w, Opening::Vector, group, base),
-        Mark::Quote => opens(w, Opening::Quote, group, base),
+        Mark::Open => opens(w, Opening::List, group),
+        Mark::OpenVector => opens(w, Opening::Vector, group),
+        Mark::Quote => opens(w, Opening::Quote, group),
     }
 }
 
 /// `(`, `[` or `'`.
-fn opens(w: &mut World, opening: Opening, group: &Group, base: u64) -> Result<Step, Stop>
-    requires ready { IsReadyToRead base w.old group.now }
-    ensures ok { IfOk result (λ r. (t : Bool) → opens_at (in_stock t) opening (frames_in base w.old group.now) (stock_of w.old) ≡ step_of base w.new [] r) }
-    ensures stop { IfErr result (λ s. IsHalting (λ t. opens_at (in_stock t) opening (frames_in base w.old group.now) (stock_of w.old)) s (stock_of w.new)) }
+fn opens(w: &mut World, opening: Opening, group: &Group) -> Result<Step, Stop>
+    requires able { CanMake w.old }
+    requires group { IsGroup w.old.cells.cells group.now }
+    ensures ok { (base : ℕ) → IsReadyToRead base w.old group.now → IfOk result (λ r. (t : Bool) → opens_at (in_stock t) opening (frames_in base w.old group.now) (stock_of w.old) ≡ step_of base w.new [] r) }
+    ensures stop { (base : ℕ) → IsReadyToRead base w.old group.now → IfErr result (λ s. IsHalting (λ t. opens_at (in_stock t) opening (frames_in base w.old group.now) (stock_of w.old)) s (stock_of w.new)) }
     ensures counted { IfErr result (λ s. is_counted s ≡ true) }
-    ensures step { IfOk result (λ r. IsStep base w.new [] r) }
+    ensures step { (base : ℕ) → IsReadyToRead base w.old group.now → IfOk result (λ r. IsStep base w.new [] r) }
     ensures able { CanMake w.new }
-    ensures reading { IsReading base w.old w.new }
+    ensures reading { (base : ℕ) → IsReadyToRead base w.old group.now → IsReading base w.old w.new }
 {
     if !admits(group) {
         return Ok(Step::Refuses);
     }
-    match begin(w, opening, group, base) {
+    match begin(w, opening, group) {
         Ok(group) => Ok(Step::Goes(Mode::Gap, group)),
         Err(s) => Err(s),
     }

@@ -27,10 +27,13 @@ loop-w-preserved c =
     }
 
 pub returns-clause-ok : goal.returns-clause-ok
-returns-clause-ok c = ends_same c.args.base c.in_place.new.w c.in_place.result _ _ (λ t. c.loop-w.invariant.means t) c.in_place.ensures.ok
+returns-clause-ok c = ends_same c.args.base c.in_place.new.w c.in_place.result _ _ (λ t. c.loop-w.invariant.means t) (c.in_place.ensures.ok c.args.base c.loop-w.invariant.ready)
 
 pub returns-clause-stop : goal.returns-clause-stop
-returns-clause-stop c = lacks_same c.in_place.result _ _ _ (λ t. c.loop-w.invariant.means t) c.in_place.ensures.stop
+returns-clause-stop c = lacks_same c.in_place.result _ _ _ (λ t. c.loop-w.invariant.means t) (c.in_place.ensures.stop c.args.base c.loop-w.invariant.ready)
 
 pub returns-clause-reading : goal.returns-clause-reading
 returns-clause-reading c = reading_trans c.args.base c.args.w.now c.loop-w.w c.in_place.new.w c.loop-w.invariant.reading (reading_of_making c.args.base c.loop-w.w c.in_place.new.w c.in_place.ensures.making)
+
+pub returns-clause-ended : goal.returns-clause-ended
+returns-clause-ended c = c.in_place.ensures.ended c.args.base c.loop-w.invariant.ready
