@@ -155,14 +155,12 @@ fn element(w: &mut World, v: Val, outer: Cursor) -> Result<Step, Stop>
 }
 
 /// The rest of a list that is a pair: a blank, and its CAR, behind which the rest waits.
-fn pair_rest(w: &mut World, d: Val, base: u64) -> Result<Step, Stop>
-    requires ready { IsReadyToPrint w.old base }
+fn pair_rest(w: &mut World, d: Val) -> Result<Step, Stop>
     requires pair { IsTrue (is_pair w.old.cells.cells d) }
-    ensures ok { IfOk result (λ r. Advances base w.old w.new (Some (state.Next (cursor.Rest d))) r.0 r.1) }
-    ensures err { IfErr result (λ s. EndsPrinting base w.old w.new (Some (state.Next (cursor.Rest d))) s) }
-    ensures world { IsWorldOf base w.old w.new }
+    ensures ok { (base : ℕ) → IsReadyToPrint w.old base → IfOk result (λ r. Advances base w.old w.new (Some (state.Next (cursor.Rest d))) r.0 r.1) }
+    ensures err { (base : ℕ) → IsReadyToPrint w.old base → IfErr result (λ s. EndsPrinting base w.old w.new (Some (state.Next (cursor.Rest d))) s) }
+    ensures world { (base : ℕ) → IsReadyToPrint w.old base → IsWorldOf base w.old w.new }
 {
-    let _ = base;
     meaning_of_reading();
     if let Err(s) = turn(w) {
         return Err(s);
@@ -189,7 +187,7 @@ fn rest(w: &mut World, d: Val, base: u64) -> Result<Step, Stop>
         return Ok((Piece::Mark(b")"), pop(w, base)));
     }
     match d.tag() {
-        Tag::Pair => pair_rest(w, d, base),
+        Tag::Pair => pair_rest(w, d),
         Tag::Vector => Ok((
             Piece::Mark(b" . ["),
             Some(State::Next(Cursor::Places(d, 0, true))),
@@ -262,17 +260,16 @@ fn next(w: &mut World, c: Cursor, base: u64) -> Result<Step, Stop>
 }
 
 /// The value at the root, which is no descent: an atom, or a pair or a vector.
-pub(crate) fn begin(w: &mut World, v: Val, base: u64) -> Result<Step, Stop>
+pub(crate) fn begin(w: &mut World, v: Val) -> Result<Step, Stop>
     requires table { IsTable w.old.cells.cells w.old.syms.head }
     requires live { IsTrue (is_live w.old.cells.cells v) }
-    requires base { base ≡ length w.old.levels.walk }
-    ensures ok { IfOk result (λ r. BeginsPrinting base w.old w.new v r.0 r.1) }
+    ensures ok { IfOk result (λ r. BeginsPrinting (length w.old.levels.walk) w.old w.new v r.0 r.1) }
     ensures err { IfErr result (λ s. Fails w.old w.new v s) }
-    ensures world { IsWorldOf base w.old w.new }
+    ensures world { IsWorldOf (length w.old.levels.walk) w.old w.new }
 {
     meaning_of_reading();
     match v.tag() {
-        Tag::Pair => begin_pair(w, v, base),
+        Tag::Pair => begin_pair(w, v),
         Tag::Vector => Ok((
             Piece::Mark(b"["),
             Some(State::Next(Cursor::Places(v, 0, false))),
@@ -282,15 +279,13 @@ pub(crate) fn begin(w: &mut World, v: Val, base: u64) -> Result<Step, Stop>
 }
 
 /// A pair at the root.
-fn begin_pair(w: &mut World, v: Val, base: u64) -> Result<Step, Stop>
+fn begin_pair(w: &mut World, v: Val) -> Result<Step, Stop>
     requires table { IsTable w.old.cells.cells w.old.syms.head }
     requires pair { IsTrue (is_pair w.old.cells.cells v) }
-    requires base { base ≡ length w.old.levels.walk }
-    ensures ok { IfOk result (λ r. BeginsPrinting base w.old w.new v r.0 r.1) }
+    ensures ok { IfOk result (λ r. BeginsPrinting (length w.old.levels.walk) w.old w.new v r.0 r.1) }
     ensures err { IfErr result (λ s. Fails w.old w.new v s) }
-    ensures world { IsWorldOf base w.old w.new }
+    ensures world { IsWorldOf (length w.old.levels.walk) w.old w.new }
 {
-    let _ = base;
     meaning_of_reading();
     if let Err(s) = turn(w) {
         return Err(s);

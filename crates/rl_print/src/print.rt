@@ -95,21 +95,19 @@ fn step<I: Source, O: Sink, N: Sink, F: Files>(
 fn start<I: Source, O: Sink, N: Sink, F: Files>(
     w: &mut World,
     v: Val,
-    base: u64,
     style: Style,
     io: &mut Io<'_, I, O, N, F>,
 ) -> Result<Option<State>, Stop>
     requires table { IsTable w.old.cells.cells w.old.syms.head }
     requires live { IsTrue (is_live w.old.cells.cells v) }
-    requires base { base ≡ length w.old.levels.walk }
-    ensures ok { IfOk result (λ next. Goes (O.contents io.old.out.now) (O.contents io.new.out.now) base (style_of style) w.old w.new (whole_printed (style_of style) w.old v) next) }
+    ensures ok { IfOk result (λ next. Goes (O.contents io.old.out.now) (O.contents io.new.out.now) (length w.old.levels.walk) (style_of style) w.old w.new (whole_printed (style_of style) w.old v) next) }
     ensures halts { IfErr result (λ s. s ≢ stop.Write → HaltsPrinting (O.contents io.old.out.now) (O.contents io.new.out.now) w.old w.new (whole_printed (style_of style) w.old v) s) }
     ensures cut { IfErr result (λ s. s ≡ stop.Write → CutsPrinting (O.contents io.old.out.now) (O.contents io.new.out.now) w.old.output.waiting (whole_printed (style_of style) w.old v)) }
     ensures faults { WriteFaults result (O.faults io.old.out.now) (O.faults io.new.out.now) w.new.output.waiting }
-    ensures world { IsPrinting base w.old w.new }
+    ensures world { IsPrinting (length w.old.levels.walk) w.old w.new }
     ensures outside { ChangesOutObject io.old io.new }
 {
-    let (piece, next) = match begin(w, v, base) {
+    let (piece, next) = match begin(w, v) {
         Ok(step) => step,
         Err(s) => return Err(s),
     };
@@ -136,7 +134,7 @@ fn print<I: Source, O: Sink, N: Sink, F: Files>(
     ensures outside { ChangesOutObject io.old io.new }
 {
     let base = w.walk_len();
-    let mut at = match start(w, v, base, style, io) {
+    let mut at = match start(w, v, style, io) {
         Ok(at) => at,
         Err(s) => return Err(s),
     };
