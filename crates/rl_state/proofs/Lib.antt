@@ -1,4 +1,6 @@
 pub mod Kept
+pub mod Closed
+pub mod StockShown
 pub mod Room
 pub mod Made
 pub mod Set
