@@ -3,8 +3,9 @@ use Rattle.std.proofs.Common.{◌≡◌, ℕ, ◌%◌, ◌<◌, Bool, true, fals
 use Rattle.std.specs.List.{list_all}
 use Rattle.std.proofs.Math.ListN.{get_or-eq_default}
 use Rattle.std.proofs.lemmas.Bool.{and_parts, cases_eq, cases_lt, leb-true, leb-false}
-use Rattle.rl_tags.specs.Tagged.{Tagged, tagged_of}
-use Rattle.rl_cells.specs.Cell.{Cell, PairCell, StrCell, VectorCell, BigCell, BlockCell, More, IsClosed, cell_at, is_closed_cell, is_live, is_live_word, is_pair_cell, placed}
+use Rattle.std.proofs.lemmas.List.{get_or-set_other, get_or-set_same}
+use Rattle.rl_tags.specs.Tagged.{PairAt, Tagged, tagged_of}
+use Rattle.rl_cells.specs.Cell.{BigCell, BlockCell, Cell, IsClosed, More, PairCell, StrCell, VectorCell, car_in, car_of, cdr_in, cell_at, changed_at, is_closed_cell, is_live, is_live_word, is_pair, is_pair_cell, placed}
 use Rattle.rl_cells.specs.Laws.{IsAdded}
 
 pub both_true : (a b : Bool) → a ≡ true → b ≡ true → (a && b) ≡ true
@@ -69,3 +70,18 @@ closed_changed cells new k a d live others here closed la ld = record { at = at 
       | inl e ↦ ap (λ n. is_closed_cell new (cell_at new n)) e ∙ ap (is_closed_cell new) here ∙ both_true (is_live new a) (is_live new d) (live a la) (live d ld)
       | inr n ↦ ap (is_closed_cell new) (others j n) ∙ cell_stays cells new live (cell_at cells j) (closed.at j)
     ]
+
+-- what a pair holds lives
+pub parts_live : (cells : List Cell) (c : Cell) → is_pair_cell c ≡ true → is_closed_cell cells c ≡ true → (is_live cells (car_in c) ≡ true) × (is_live cells (cdr_in c) ≡ true)
+parts_live cells (PairCell a d) h closed = and_parts (is_live cells a) (is_live cells d) closed
+parts_live cells (StrCell bytes) h closed = absurd (cc)
+parts_live cells (VectorCell xs) h closed = absurd (cc)
+parts_live cells (BigCell z) h closed = absurd (cc)
+parts_live cells (BlockCell t words) h closed = absurd (cc)
+parts_live cells More h closed = absurd (cc)
+
+pub closed_cdr : (cells : List Cell) (p v : Tagged) → LiveStays cells (changed_at cells p (PairCell (car_of cells p) v)) → is_pair cells p ≡ true → IsClosed cells → is_live cells v ≡ true → IsClosed (changed_at cells p (PairCell (car_of cells p) v))
+closed_cdr cells (PairAt k) v live h closed lv =
+    let c = PairCell (car_in (cell_at cells k)) v in
+    closed_changed cells (changed_at cells (PairAt k) c) k (car_in (cell_at cells k)) v live (λ j n. get_or-set_other cells k j c More n) (get_or-set_same cells k c More (pair_inside cells k h)) closed (parts_live cells (cell_at cells k) h (closed.at k)).0 lv
+closed_cdr cells p v live h closed lv = absurd (cc)

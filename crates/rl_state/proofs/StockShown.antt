@@ -6,10 +6,10 @@ use Rattle.std.specs.Str.{bytes_eq}
 use Rattle.std.proofs.lemmas.Slice.Eq.{bytes_eq-Decides}
 use Rattle.rl_tags.specs.Tagged.{Tagged, Number, IdAt, StrAt, PairAt, VectorAt, BigAt, FunAt, tagged_of, index_of}
 use Rattle.rl_tags.specs.declared.Tag.TheVariants as tag
-use Rattle.rl_tree.specs.Value.{Value, Int, Id}
+use Rattle.rl_tree.specs.Value.{Value, Int, Id, Ref, Str, Fun, Pair, Object}
 use Rattle.rl_tree.specs.Name.{Name, quote_name}
 use Rattle.rl_cells.specs.Cell as cell
-use Rattle.rl_cells.specs.Cell.{Cell, PairCell, StrCell, BlockCell, More, IsClosed, cell_at, car_of, car_in, changed_at, cost_of, grown, is_closed_cell, is_id_cell, is_live, is_live_word, is_pair, is_str, placed, words_in}
+use Rattle.rl_cells.specs.Cell.{Cell, PairCell, StrCell, BlockCell, More, IsClosed, cell_at, car_of, car_in, changed_at, cost_of, grown, is_closed_cell, is_id_cell, is_live, is_live_word, is_pair, is_str, placed, words_in, cdr_of}
 use Rattle.rl_syms.specs.Contents.{value_of}
 use Rattle.rl_syms.specs.Laws.{AreIdentifiers}
 use Rattle.rl_syms.specs.Made.{id_cost, new_id, new_words, with_id}
@@ -21,16 +21,19 @@ use Rattle.rl_text.specs.Word.{Atom, Integer, Identifier, String}
 use Rattle.rl_world.specs.Counts.{room_stop, roomed, tick_stop, ticked}
 use Rattle.rl_world.specs.declared.stop.Stop.{Stop}
 use Rattle.rl_world.specs.declared.world.World.{World}
-use Rattle.rl_meaning.specs.Input.{byte_turn, made_atom, quoted_value}
+use Rattle.rl_meaning.specs.Input.{byte_turn, made_atom, quoted_value, ended_chain, first_pair_of}
 use Rattle.rl_meaning.specs.Outcome.{Outcome, Done, Stopped, made_pair, made_string, then_do}
 use Rattle.rl_meaning.specs.State.{Outside, State}
 use Rattle.rl_meaning.specs.Symbols.{interned, nil_value_of_state}
-use Rattle.rl_read.specs.Stock.{Stock, and_then_made, atom_made, identifier_at, identifier_made, named_among, pair_made, quote_made, turned, turned_at, with_room_at}
+use Rattle.rl_read.specs.Stock.{Stock, and_then_made, atom_made, identifier_at, identifier_made, named_among, pair_made, quote_made, turned, turned_at, with_room_at, PairChain, chain_ended, chain_extended, chain_hung, first_of_chain, stock_with_cdr}
+use Rattle.rl_meaning.specs.Copying.{with_object}
+use Rattle.rl_meaning.specs.Lists.{Chain, cdr_set, list_extended, pair_hung}
+use Rattle.rl_state.proofs.Pairs.{altered_grows, cdr_altered, cdr_shown, pair_shown}
 use Rattle.rl_state.specs.CellLaws.{AreCellLaws}
 use Rattle.rl_state.specs.Ending.{MeansDone, MeansValue, stop_in}
 use Rattle.rl_state.specs.ShownState.{ShowsState}
 use Rattle.rl_state.specs.Worlds.{IsWorld, WorldGrows}
-use Rattle.rl_state.proofs.Closed.{both_true, closed_made}
+use Rattle.rl_state.proofs.Closed.{both_true, closed_made, closed_cdr}
 use Rattle.rl_state.proofs.Entering.{IsNamedIn, entered_head, gains_interned, interned_made, interned_stops, named_ends, named_grows, not_counted}
 use Rattle.rl_state.proofs.Finding.{found_means}
 use Rattle.rl_state.proofs.Kept.{id_live}
@@ -340,3 +343,89 @@ module _ (w : World) (out : Outside) where
     pub turn_makes : (turns : Bool) (from : Stock) (s : State) → StandsAs from s → MakesAs from (λ k a b. Unit {0}) (turned turns from) (byte_turn turns s)
     turn_makes true from s h = turn_made_at from s h (tick_stop from.counts) refl
     turn_makes false from s h = record { value = tt; state = s; is = refl; stands = h; grows = grows_refl _ _ refl h.world; left = refl; related = tt }
+
+    -- ---- lists
+
+    cdr_set_is : (k : Stock) (p v : Tagged) (s : State) → StandsAs k s → is_pair k.cells.cells p ≡ true
+        → cdr_set (value_of k.cells.cells p) (value_of k.cells.cells v) s ≡ with_object (value_of k.cells.cells p) (Pair (value_of k.cells.cells (car_of k.cells.cells p)) (value_of k.cells.cells v)) s
+    cdr_set_is k p v s h is =
+        ap (λ (o : Option (Value × Value)). elim o [ None ↦ s | Some parts ↦ with_object (value_of k.cells.cells p) (Pair parts.0 (value_of k.cells.cells v)) s ]) (pair_shown laws.reads (stocked w k) p is s h.shows)
+
+    object_leaves : (v : Value) (o : Object) (s : State) → (with_object v o s).outside ≡ s.outside
+    object_leaves (Ref r) o s = refl
+    object_leaves (Int z) o s = refl
+    object_leaves (Id i) o s = refl
+    object_leaves (Str bytes) o s = refl
+    object_leaves (Fun f place) o s = refl
+
+    cdr_grows : (k : Stock) (p v : Tagged) (s : State) → StandsAs k s → is_pair k.cells.cells p ≡ true → Grown k (stock_with_cdr p v k)
+    cdr_grows k p v s h is = altered_grows laws (stocked w k) _ _ _ _ (cdr_altered laws (stocked w k) (stock_with_cdr p v k).cells p v is h.closed refl) h.world
+
+    cdr_stands : (k : Stock) (p v : Tagged) (s : State) → StandsAs k s → is_pair k.cells.cells p ≡ true → is_live k.cells.cells v ≡ true → StandsAs (stock_with_cdr p v k) (cdr_set (value_of k.cells.cells p) (value_of k.cells.cells v) s)
+    cdr_stands k p v s h is lv =
+        let cells = k.cells.cells in
+        let W = stocked w k in
+        let g = cdr_grows k p v s h is in
+        let has = pair_shown laws.reads W p is s h.shows in
+        subst (λ t. StandsAs (stock_with_cdr p v k) t) (sym (cdr_set_is k p v s h is)) (record {
+          world = g.world;
+          closed = closed_cdr cells p v g.live is h.closed lv;
+          shows = cdr_shown laws W (stocked w (stock_with_cdr p v k)) _ p v is (cdr_altered laws W (stock_with_cdr p v k).cells p v is h.closed refl) h.world s (value_of cells (car_of cells p)) (value_of cells (cdr_of cells p)) h.shows has;
+          outside = object_leaves (value_of cells p) (Pair (value_of cells (car_of cells p)) (value_of cells v)) s ∙ h.outside;
+        })
+
+    -- the first and the last pair
+    abbrev pub IsChainAs : Stock → PairChain → Chain → Type 0
+    IsChainAs k None None = Unit {0}
+    IsChainAs k None (Some d) = ⊥
+    IsChainAs k (Some c) None = ⊥
+    IsChainAs k (Some c) (Some d) = IsPairAs k c.0 d.0 × IsPairAs k c.1 d.1
+
+    pub chain_stays : (from k : Stock) (c : PairChain) (d : Chain) → Grown from k → IsChainAs from c d → IsChainAs k c d
+    chain_stays from k None None g h = tt
+    chain_stays from k None (Some d) g h = absurd h
+    chain_stays from k (Some c) None g h = absurd h
+    chain_stays from k (Some c) (Some d) g h = (pair_stays from k c.0 d.0 g h.0, pair_stays from k c.1 d.1 g h.1)
+
+    pub first_shown : (k : Stock) (c : PairChain) (d : Chain) (s : State) → StandsAs k s → IsChainAs k c d → IsShownAs k (first_of_chain c) (first_pair_of d)
+    first_shown k None None s h e = nil_shown k s h
+    first_shown k None (Some d) s h e = absurd e
+    first_shown k (Some c) None s h e = absurd e
+    first_shown k (Some c) (Some d) s h e = is_shown k c.0 d.0 e.0
+
+    -- a pair is hung behind the last one
+    hung_makes : (k : Stock) (c : PairChain) (d : Chain) (p : Tagged) (x : Value) (s : State) → StandsAs k s → IsChainAs k c d → IsPairAs k p x → MakesAs k IsChainAs (chain_hung c p k) (Done (pair_hung d x s).0 (pair_hung d x s).1)
+    hung_makes k None None p x s h e q = record { value = Some (x, x); state = s; is = refl; stands = h; grows = grows_refl _ _ refl h.world; left = refl; related = (q, q) }
+    hung_makes k None (Some d) p x s h e q = absurd e
+    hung_makes k (Some c) None p x s h e q = absurd e
+    hung_makes k (Some c) (Some d) p x s h e q =
+        let g = cdr_grows k c.1 p s h e.1.0 in
+        record {
+          value = Some (d.0, x);
+          state = cdr_set d.1 x s;
+          is = refl;
+          stands = subst (λ (y : Value). StandsAs (stock_with_cdr c.1 p k) (cdr_set y x s)) e.1.1 (subst (λ (x : Value). StandsAs (stock_with_cdr c.1 p k) (cdr_set (value_of k.cells.cells c.1) x s)) q.1 (cdr_stands k c.1 p s h e.1.0 (pair_live k.cells.cells p q.0)));
+          grows = g;
+          left = refl;
+          related = (pair_stays k (stock_with_cdr c.1 p k) c.0 d.0 g e.0, pair_stays k (stock_with_cdr c.1 p k) p x g q);
+        }
+
+    pub extended_makes : (from : Stock) (c : PairChain) (d : Chain) (v : Tagged) (u : Value) (s : State) → StandsAs from s → IsChainAs from c d → IsShownAs from v u → MakesAs from IsChainAs (chain_extended c v from) (list_extended d u s)
+    extended_makes from c d v u s h e p =
+        then_makes from IsPairAs IsChainAs (pair_made v nil_value from) (made_pair u nil_value_of_state s) _ _ (pair_makes from v nil_value u nil_value_of_state s h p (nil_shown from s h)) (λ q k x s h g t. hung_makes k c d q x s h (chain_stays from k c d g e) t)
+
+    pub ended_makes : (from : Stock) (c : PairChain) (d : Chain) (v : Tagged) (u : Value) (s : State) → StandsAs from s → IsChainAs from c d → IsShownAs from v u → MakesAs from IsChainAs (chain_ended c v from) (ended_chain d u s)
+    ended_makes from None None v u s h e p = record { value = None; state = s; is = refl; stands = h; grows = grows_refl _ _ refl h.world; left = refl; related = tt }
+    ended_makes from None (Some d) v u s h e p = absurd e
+    ended_makes from (Some c) None v u s h e p = absurd e
+    ended_makes from (Some c) (Some d) v u s h e p =
+        let g = cdr_grows from c.1 v s h e.1.0 in
+        record {
+          value = Some d;
+          state = cdr_set d.1 u s;
+          is = refl;
+          stands = subst (λ (y : Value). StandsAs (stock_with_cdr c.1 v from) (cdr_set y u s)) e.1.1 (subst (λ (x : Value). StandsAs (stock_with_cdr c.1 v from) (cdr_set (value_of from.cells.cells c.1) x s)) p.1 (cdr_stands from c.1 v s h e.1.0 p.0));
+          grows = g;
+          left = refl;
+          related = chain_stays from (stock_with_cdr c.1 v from) (Some c) (Some d) g e;
+        }
