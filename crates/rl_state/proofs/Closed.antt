@@ -11,7 +11,7 @@ use Rattle.rl_cells.specs.Laws.{IsAdded}
 pub both_true : (a b : Bool) → a ≡ true → b ≡ true → (a && b) ≡ true
 both_true a b h k = rw (h, k) refl
 
-all_kept : {A : Type 0} (p q : A → Bool) → ((x : A) → p x ≡ true → q x ≡ true) → (xs : List A) → list_all p xs ≡ true → list_all q xs ≡ true
+pub all_kept : {A : Type 0} (p q : A → Bool) → ((x : A) → p x ≡ true → q x ≡ true) → (xs : List A) → list_all p xs ≡ true → list_all q xs ≡ true
 all_kept p q f [] h = refl
 all_kept p q f (x ∷ xs) h =
     let b = and_parts (p x) (list_all p xs) h in

@@ -1,15 +1,15 @@
 -- What reading makes in a stock is what the definition makes in a state that the world of the stock shows, operation by operation.
-use Rattle.std.proofs.Common.{◌≡◌, ◌≢◌, ℕ, ◌%◌, ◌≤◌, Bool, true, false, nat_le, cond, if◌then◌else◌, inl, inr, List, [], ◌∷◌, length, Option, Some, None, Ok, Err, refl, sym, ap, subst, ◌∙◌, arith}
-use Rattle.std.specs.Prelude.{slice_index}
+use Rattle.std.proofs.Common.{◌≡◌, ◌≢◌, ℕ, ◌%◌, ◌≤◌, Bool, true, false, nat_le, cond, if◌then◌else◌, inl, inr, List, [], ◌∷◌, length, Option, Some, None, Ok, Err, refl, sym, ap, subst, ◌∙◌, arith, zero, suc, ◌+◌, ◌-◌, ◌/◌, ◌^◌, ◌<◌, map, ◌++◌}
+use Rattle.std.specs.Prelude.{slice_index, unwrap_or}
 use Rattle.std.specs.List.{list_all}
 use Rattle.std.specs.Str.{bytes_eq}
 use Rattle.std.proofs.lemmas.Slice.Eq.{bytes_eq-Decides}
-use Rattle.rl_tags.specs.Tagged.{Tagged, Number, IdAt, StrAt, PairAt, VectorAt, BigAt, FunAt, tagged_of, index_of}
+use Rattle.rl_tags.specs.Tagged.{Tagged, Number, IdAt, StrAt, PairAt, VectorAt, BigAt, FunAt, tagged_of, index_of, tag_of}
 use Rattle.rl_tags.specs.declared.Tag.TheVariants as tag
-use Rattle.rl_tree.specs.Value.{Value, Int, Id, Ref, Str, Fun, Pair, Object}
+use Rattle.rl_tree.specs.Value.{Value, Int, Id, Ref, Str, Fun, Pair, Object, new_value, vector_store}
 use Rattle.rl_tree.specs.Name.{Name, quote_name}
 use Rattle.rl_cells.specs.Cell as cell
-use Rattle.rl_cells.specs.Cell.{Cell, PairCell, StrCell, BlockCell, More, IsClosed, cell_at, car_of, car_in, changed_at, cost_of, grown, is_closed_cell, is_id_cell, is_live, is_live_word, is_pair, is_str, placed, words_in, cdr_of}
+use Rattle.rl_cells.specs.Cell.{Cell, PairCell, StrCell, BlockCell, More, IsClosed, cell_at, car_of, car_in, changed_at, cost_of, grown, is_closed_cell, is_id_cell, is_live, is_live_word, is_pair, is_str, placed, words_in, cdr_of, VectorCell, cdr_in}
 use Rattle.rl_syms.specs.Contents.{value_of}
 use Rattle.rl_syms.specs.Laws.{AreIdentifiers}
 use Rattle.rl_syms.specs.Made.{id_cost, new_id, new_words, with_id}
@@ -20,24 +20,28 @@ use Rattle.rl_text.specs.Maker.{Made, Has, Wants}
 use Rattle.rl_text.specs.Word.{Atom, Integer, Identifier, String}
 use Rattle.rl_world.specs.Counts.{room_stop, roomed, tick_stop, ticked}
 use Rattle.rl_world.specs.declared.stop.Stop.{Stop}
+use Rattle.rl_world.specs.declared.stop.Stop.TheVariants as stop
 use Rattle.rl_world.specs.declared.world.World.{World}
-use Rattle.rl_meaning.specs.Input.{byte_turn, made_atom, quoted_value, ended_chain, first_pair_of}
-use Rattle.rl_meaning.specs.Outcome.{Outcome, Done, Stopped, made_pair, made_string, then_do}
+use Rattle.rl_meaning.specs.Input.{byte_turn, made_atom, quoted_value, ended_chain, first_pair_of, ReadingPlace, enter, entered_from, leave, outer_levels, vector_of_chain}
+use Rattle.rl_meaning.specs.Outcome as outcome
+use Rattle.rl_meaning.specs.Outcome.{Outcome, Done, Stopped, made_pair, made_string, then_do, Levels, deeper, in_levels, made_vector, room}
 use Rattle.rl_meaning.specs.State.{Outside, State}
-use Rattle.rl_meaning.specs.Symbols.{interned, nil_value_of_state}
-use Rattle.rl_read.specs.Stock.{Stock, and_then_made, atom_made, identifier_at, identifier_made, named_among, pair_made, quote_made, turned, turned_at, with_room_at, PairChain, chain_ended, chain_extended, chain_hung, first_of_chain, stock_with_cdr}
+use Rattle.rl_meaning.specs.Symbols.{interned, nil_value_of_state, list_below, list_elements, list_with_first}
+use Rattle.rl_read.specs.Stock.{Stock, and_then_made, atom_made, identifier_at, identifier_made, named_among, pair_made, quote_made, turned, turned_at, with_room_at, PairChain, chain_ended, chain_extended, chain_hung, first_of_chain, stock_with_cdr, elements_from, elements_of, entered, entered_at, level_left, object_made, vector_made}
 use Rattle.rl_meaning.specs.Copying.{with_object}
 use Rattle.rl_meaning.specs.Lists.{Chain, cdr_set, list_extended, pair_hung}
-use Rattle.rl_state.proofs.Pairs.{altered_grows, cdr_altered, cdr_shown, pair_shown}
+use Rattle.rl_state.proofs.Pairs.{altered_grows, cdr_altered, cdr_shown, pair_shown, none_shown}
+use Rattle.std.proofs.lemmas.Bool.{le-leb}
+use Rattle.std.proofs.lemmas.List.{length-map}
 use Rattle.rl_state.specs.CellLaws.{AreCellLaws}
 use Rattle.rl_state.specs.Ending.{MeansDone, MeansValue, stop_in}
 use Rattle.rl_state.specs.ShownState.{ShowsState}
 use Rattle.rl_state.specs.Worlds.{IsWorld, WorldGrows}
-use Rattle.rl_state.proofs.Closed.{both_true, closed_made, closed_cdr}
+use Rattle.rl_state.proofs.Closed.{both_true, closed_made, closed_cdr, all_kept, parts_live}
 use Rattle.rl_state.proofs.Entering.{IsNamedIn, entered_head, gains_interned, interned_made, interned_stops, named_ends, named_grows, not_counted}
 use Rattle.rl_state.proofs.Finding.{found_means}
 use Rattle.rl_state.proofs.Kept.{id_live}
-use Rattle.rl_state.proofs.Made.{grows_refl, made_ends, pair_ends, pair_stops, string_ends, string_stops}
+use Rattle.rl_state.proofs.Made.{grows_refl, made_ends, pair_ends, pair_stops, string_ends, string_stops, ends_made, made_stops}
 use Rattle.rl_state.proofs.Room.{turn_grows, turn_means, turn_stops}
 use Rattle.rl_state.proofs.Steps.{grows_trans}
 
@@ -429,3 +433,102 @@ module _ (w : World) (out : Outside) where
           left = refl;
           related = chain_stays from (stock_with_cdr c.1 v from) (Some c) (Some d) g e;
         }
+
+    -- ---- vectors
+
+    -- what is no pair has no elements
+    no_pair : (k : Stock) (s : State) → StandsAs k s → (n : ℕ) (v : Tagged) → is_live k.cells.cells v ≡ true → tag_of v ≢ tag.Pair → list_below (suc n) s (value_of k.cells.cells v) ≡ Some []
+    no_pair k s h n v live ne = ap (λ (o : Option (Value × Value)). elim o [ None ↦ Some [] | Some parts ↦ list_with_first parts.0 (list_below n s parts.1) ]) (none_shown laws.reads (stocked w k) v live ne s h.shows)
+
+    abbrev making_vector : List Value → State → Outcome Value
+    making_vector vs s = Done (new_value s.store) (record s { store = vector_store s.store vs })
+
+    -- a walk that ends within what is asked for comes to the same elements
+    elements_shown : (k : Stock) (s : State) → StandsAs k s → (n m : ℕ) (v : Tagged) → is_live k.cells.cells v ≡ true → length (elements_from m k.cells.cells v) < m → length (elements_from m k.cells.cells v) < n
+        → list_below n s (value_of k.cells.cells v) ≡ Some (map (value_of k.cells.cells) (elements_from m k.cells.cells v))
+    elements_shown k s h zero m v live few l = absurd (omega (arith, l))
+    elements_shown k s h (suc n) zero v live few l = absurd (omega (arith, few))
+    elements_shown k s h (suc n) (suc m) (PairAt i) live few l =
+        let cells = k.cells.cells in
+        let c = cell_at cells i in
+        let later = elements_shown k s h n m (cdr_in c) (parts_live cells c live (h.closed.at i)).1 (omega (arith, few)) (omega (arith, l)) in
+        ap (λ (o : Option (Value × Value)). elim o [ None ↦ Some [] | Some parts ↦ list_with_first parts.0 (list_below n s parts.1) ]) (pair_shown laws.reads (stocked w k) (PairAt i) live s h.shows)
+        ∙ ap (list_with_first (value_of cells (car_in c))) later
+    elements_shown k s h (suc n) (suc m) (Number z) live few l = no_pair k s h n (Number z) live (λ e. absurd cc)
+    elements_shown k s h (suc n) (suc m) (IdAt i) live few l = no_pair k s h n (IdAt i) live (λ e. absurd cc)
+    elements_shown k s h (suc n) (suc m) (StrAt i) live few l = no_pair k s h n (StrAt i) live (λ e. absurd cc)
+    elements_shown k s h (suc n) (suc m) (VectorAt i) live few l = no_pair k s h n (VectorAt i) live (λ e. absurd cc)
+    elements_shown k s h (suc n) (suc m) (BigAt i) live few l = no_pair k s h n (BigAt i) live (λ e. absurd cc)
+    elements_shown k s h (suc n) (suc m) (FunAt i) live few l = no_pair k s h n (FunAt i) live (λ e. absurd cc)
+
+    -- what lists hold lives
+    elements_live : (k : Stock) (s : State) → StandsAs k s → (m : ℕ) (v : Tagged) → is_live k.cells.cells v ≡ true → list_all (is_live k.cells.cells) (elements_from m k.cells.cells v) ≡ true
+    elements_live k s h zero v live = refl
+    elements_live k s h (suc m) (PairAt i) live =
+        let parts = parts_live k.cells.cells (cell_at k.cells.cells i) live (h.closed.at i) in
+        both_true _ _ parts.0 (elements_live k s h m (cdr_in (cell_at k.cells.cells i)) parts.1)
+    elements_live k s h (suc m) (Number z) live = refl
+    elements_live k s h (suc m) (IdAt i) live = refl
+    elements_live k s h (suc m) (StrAt i) live = refl
+    elements_live k s h (suc m) (VectorAt i) live = refl
+    elements_live k s h (suc m) (BigAt i) live = refl
+    elements_live k s h (suc m) (FunAt i) live = refl
+
+    vector_made_at : (from : Stock) (xs : List Tagged) (s : State) → StandsAs from s → list_all (is_live from.cells.cells) xs ≡ true → (o : Option Stop) → room_stop from.counts from.cells (cost_of (VectorCell xs)) ≡ o
+        → MakesAs from IsShownAs (and_then_made (with_room_at o (cost_of (VectorCell xs)) from) (λ _ k. Has (VectorAt (length k.cells.cells)) (record k { cells = grown k.cells (VectorCell xs) }))) (room (cost_of (VectorCell xs)) s (making_vector (map (value_of from.cells.cells) xs)))
+    vector_made_at from xs s h live (Some why) e = value_lacks IsShownAs from why s _ (made_stops (stocked w from) (stocked w from) (cost_of (VectorCell xs)) s _ why refl h.world (omega arith) e h.shows)
+    vector_made_at from xs s h live None e =
+        let W = stocked w from in
+        let cells = from.cells.cells in
+        let c = VectorCell xs in
+        let vs = map (value_of cells) xs in
+        let r : World = record W { counts = roomed from.counts (cost_of c) } in
+        let k : Stock = record from { cells = grown from.cells c; counts = roomed from.counts (cost_of c) } in
+        let g : Grown from k = made_ends laws W r (grown from.cells c) c refl refl refl (omega arith) h.world in
+        value_has IsShownAs from k (VectorAt (length cells)) s _ h
+        (ends_made laws W r (grown from.cells c) c VectorAt (VectorAt (length cells)) s (making_vector vs) (new_value s.store) (vector_store s.store vs) (record { counted = refl; made = refl; named = refl; closed = h.closed; room = e }) refl (omega arith) h.world h.shows refl
+        (ap (λ os. vector_store os vs) h.shows.store ∙ sym (laws.makes.vector cells xs h.closed live))
+        (laws.makes.vector_named cells xs ∙ ap new_value (sym h.shows.store)))
+        g (closed_made laws.added cells c h.closed (all_kept (is_live cells) (is_live (cells ++ placed c)) g.live xs live)) refl (ap cell.is_vector_cell (laws.added.here cells c), refl)
+
+    -- of the elements of a list that ends: of at most as many as there are objects
+    pub vector_makes : (from : Stock) (c : PairChain) (d : Chain) (s : State) → StandsAs from s → IsChainAs from c d → length (elements_of from.cells.cells c) ≤ 2 ^ 31 → length (elements_of from.cells.cells c) ≤ length s.store → MakesAs from IsShownAs (vector_made c from) (vector_of_chain d s)
+    vector_makes from c d s h e few fuel =
+        let cells = from.cells.cells in
+        let xs = elements_of cells c in
+        let vs = map (value_of cells) xs in
+        let first = first_shown from c d s h e in
+        let same : list_elements s (first_pair_of d) ≡ Some vs = ap (list_elements s) (sym first.1) ∙ elements_shown from s h (suc (length s.store)) (2 ^ 31 + 1) (first_of_chain c) first.0 (omega (arith, few)) (omega (arith, fuel)) in
+        let many : length vs ≡ length xs = length-map xs (value_of cells) in
+        let fits : nat_le (length xs) (2 ^ 31) ≡ true = le-leb (length xs) (2 ^ 31) few in
+        let cost : 1 + (length vs + 1) / 2 ≡ cost_of (VectorCell xs) = ap (λ n. 1 + (n + 1) / 2) many in
+        subst (λ (x : Made Stock Tagged Stop). MakesAs from IsShownAs x (vector_of_chain d s)) (sym (ap (λ b. if b then object_made (λ n. VectorAt n) (VectorCell xs) from else Wants stop.Cells from) fits))
+        (subst (λ (o : Outcome Value). MakesAs from IsShownAs (object_made (λ n. VectorAt n) (VectorCell xs) from) o) (sym (ap (λ o. made_vector (unwrap_or o []) s) same ∙ ap (λ n. room n s (making_vector vs)) cost))
+        (vector_made_at from xs s h (elements_live from s h (2 ^ 31 + 1) (first_of_chain c) first.0) (room_stop from.counts from.cells (cost_of (VectorCell xs))) refl))
+
+    -- ---- levels
+
+    abbrev pub PlacesAs : Stock → ReadingPlace → Type 0
+    PlacesAs k p = StandsAs k p.state × (p.levels ≡ Some k.left)
+
+    abbrev pub EntersAs : Made Stock (Unit {0}) Stop → Made ReadingPlace (Unit {0}) outcome.Stop → Type 0
+    EntersAs (Has u k) (Has v p) = PlacesAs k p
+    EntersAs (Wants why k) (Wants x p) = x ≡ stop_in k.cells.cells why
+    EntersAs (Has u k) (Wants x p) = ⊥
+    EntersAs (Wants why k) (Has v p) = ⊥
+
+    relevelled : (k : Stock) (n : ℕ) (s : State) → StandsAs k s → StandsAs (record k { left = n }) s
+    relevelled k n s h = record { world = h.world; closed = h.closed; shows = h.shows; outside = h.outside }
+
+    enters : (k : Stock) (p : ReadingPlace) (n : ℕ) → StandsAs k p.state → EntersAs (entered_at n k) (entered_from p.levels (deeper 1 (Some n) p.state (λ levels. Done levels p.state)))
+    enters k p zero h = refl
+    enters k p (suc n) h =
+        let fits : nat_le 1 (suc n) ≡ true = le-leb 1 (suc n) (omega arith) in
+        let less : suc n - 1 ≡ n = omega arith in
+        subst (λ b. EntersAs (entered_at (suc n) k) (entered_from p.levels (in_levels b (suc n - 1) p.state (λ levels. Done levels p.state)))) (sym fits) (relevelled k n p.state h, ap Some less)
+
+    pub enter_makes : (k : Stock) (p : ReadingPlace) → PlacesAs k p → EntersAs (entered k) (enter p)
+    enter_makes k p h = subst (λ (l : Levels). EntersAs (entered k) (entered_from p.levels (deeper 1 l p.state (λ levels. Done levels p.state)))) (sym h.1) (enters k p k.left h.0)
+
+    pub leave_makes : (k : Stock) (p : ReadingPlace) → PlacesAs k p → PlacesAs (level_left k) (leave p)
+    leave_makes k p h = (relevelled k (suc k.left) p.state h.0, ap outer_levels h.1)
