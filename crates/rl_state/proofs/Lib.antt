@@ -2,6 +2,7 @@ pub mod Kept
 pub mod Closed
 pub mod StockShown
 pub mod ChainsRise
+pub mod StockKept
 pub mod Room
 pub mod Made
 pub mod Set
