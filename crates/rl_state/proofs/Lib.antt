@@ -3,6 +3,7 @@ pub mod Closed
 pub mod StockShown
 pub mod ChainsRise
 pub mod StockKept
+pub mod ReadingShown
 pub mod Room
 pub mod Made
 pub mod Set

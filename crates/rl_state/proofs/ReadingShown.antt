@@ -1,0 +1,271 @@
+-- A text is read in a stock as the definition reads it in a state that the world of the stock shows: byte by byte, from lists that have begun alike, each made behind those around it.
+use Rattle.std.proofs.Common.{◌≡◌, ℕ, zero, suc, ◌^◌, ◌+◌, ◌-◌, ◌*◌, ◌<◌, ◌≤◌, ◌==◌, nat_lt, nat_le, Bool, true, false, if◌then◌else◌, List, [], ◌∷◌, ◌++◌, length, Option, Some, None, refl, sym, ap, subst, ◌∙◌, arith}
+use Rattle.std.proofs.lemmas.Bool.{leb-true, leb-false, ltb-true}
+use Rattle.std.proofs.lemmas.List.{length-append}
+use Rattle.rl_tags.specs.Tagged.{Tagged, PairAt, VectorAt}
+use Rattle.rl_tree.specs.Bytes.{is_digit, is_name_byte, raised}
+use Rattle.rl_tree.specs.Value.{Value}
+use Rattle.rl_cells.specs.Cell.{Cell, VectorCell, cell_at, cdr_in, is_pair}
+use Rattle.rl_syms.specs.Laws.{AreIdentifiers}
+use Rattle.rl_syms.specs.Table.{nil_value}
+use Rattle.rl_text.specs.Byte.{Mark, Open, Close, Dot, Quote, OpenVector, CloseVector, Class, Blank, Percent, Marks, Text, Escape, Letter, Digit, Sign, Special, Nothing, class_of}
+use Rattle.rl_text.specs.Word.{Atom, Integer, Identifier, String, signed}
+use Rattle.rl_text.specs.Maker.{Made, Has, Wants, Maker}
+use Rattle.rl_text.specs.Reader.{Phase, Begun, Going, Dotted, Shut, ReaderFrame, Listing, Vectoring, Quoting, Mode, Gap, Comment, InName, InEscape, AfterSign, InNumber, InText, AfterQuote, is_inner, admits, Ended, Whole, Inside, Lacks, ended_with, left, value_ended, ReaderStep, Goes, Done, Refuses, Halts, goes_with, goes_after, group_begins, open_list, close_list, dot, close_vector, at_mark, atom_ended, in_word, at_class, goes_before, atom_before, reader_step, ReaderOutcome, Read, NoneLeft, Refused, Stopped, ends_after, at_end_between, at_end, after_step, after_turn, read_from, read_by}
+use Rattle.rl_world.specs.declared.stop.Stop.{Stop}
+use Rattle.rl_world.specs.declared.stop.Stop.TheVariants as stop
+use Rattle.rl_world.specs.declared.world.World.{World}
+use Rattle.rl_meaning.specs.Input.{ReadingPlace, byte_turn, ended_chain, enter, first_pair_of, in_state, leave, made_atom, made_in, make, quoted_value, vector_of_chain}
+use Rattle.rl_meaning.specs.Lists.{Chain, list_extended}
+use Rattle.rl_meaning.specs.Outcome as outcome
+use Rattle.rl_meaning.specs.Outcome.{Outcome}
+use Rattle.rl_meaning.specs.State.{Outside, State}
+use Rattle.rl_meaning.specs.Symbols.{nil_value_of_state}
+use Rattle.rl_read.specs.Stock.{PairChain, Stock, atom_made, chain_ended, chain_extended, elements_of, entered, entered_at, first_of_chain, in_stock, level_left, object_made, quote_made, turned, vector_made, vector_with}
+use Rattle.rl_state.specs.CellLaws.{AreCellLaws}
+use Rattle.rl_state.specs.Ending.{stop_in}
+use Rattle.rl_state.specs.Worlds.{WorldGrows}
+use Rattle.rl_state.proofs.ChainsRise.{EndsWithin, IsLastPair, IsOpenIn, IsRising, open_ends, rises_kept}
+use Rattle.rl_state.proofs.Closed.{pair_inside}
+use Rattle.rl_state.proofs.Made.{grows_refl}
+use Rattle.rl_state.proofs.StockKept.{HangsWell, IsLastIn, KeepsTo, ShutWell, Stays, atom_stays, ended_stays, extended_hangs, keeps_less, keeps_on, keeps_same, quote_stays, turn_stays, vector_stays}
+use Rattle.rl_state.proofs.StockShown.{EntersAs, IsChainAs, IsMadeAtom, IsShownAs, MakesAs, PlacesAs, StandsAs, atom_makes, chain_stays, ended_makes, enter_makes, extended_makes, first_shown, leave_makes, nil_shown, quote_makes, shown_stays, stocked, turn_makes, vector_makes}
+use Rattle.rl_state.proofs.Steps.{grows_trans}
+
+-- what a word has so far may become a name
+abbrev pub IsGoodMode : Mode → Type 0
+IsGoodMode (InName cs) = (1 ≤ length cs) × (length cs ≤ 255)
+IsGoodMode (InEscape cs) = length cs ≤ 254
+IsGoodMode mode = Unit {0}
+
+abbrev V : Type 0
+V = Tagged
+
+abbrev FramesL : Type 0
+FramesL = List (ReaderFrame PairChain)
+
+abbrev FramesK : Type 0
+FramesK = List (ReaderFrame Chain)
+
+module _ (w : World) (out : Outside) (laws : AreCellLaws) (ids : AreIdentifiers) where
+  abbrev pub At : Stock → ReadingPlace → Type 0
+  At k p = PlacesAs w out laws ids k p
+
+  -- what lives stays, and the cells before a place
+  pub record Onward (lo : ℕ) (old new : Stock) : Type 0 where
+    pub grows : WorldGrows (stocked w old) (stocked w new)
+    pub keeps : KeepsTo lo old.cells.cells new.cells.cells
+
+  onward_on : (lo : ℕ) (a b c : Stock) → Onward lo a b → Onward lo b c → Onward lo a c
+  onward_on lo a b c h k = record { grows = grows_trans _ _ _ h.grows k.grows; keeps = keeps_on lo a.cells.cells b.cells.cells c.cells.cells h.keeps k.keeps }
+
+  onward_less : (lo hi : ℕ) (a b : Stock) → lo ≤ hi → Onward hi a b → Onward lo a b
+  onward_less lo hi a b le h = record { grows = h.grows; keeps = keeps_less lo hi a.cells.cells b.cells.cells le h.keeps }
+
+  onward_same : (lo : ℕ) (k : Stock) (p : ReadingPlace) → At k p → Onward lo k k
+  onward_same lo k p at = record { grows = grows_refl _ _ refl at.0.world; keeps = keeps_same lo k.cells.cells }
+
+  -- both make what is so related, or the same is wanting for both, or there are more cells than there may be
+  data MadeAlike {A B : Type 0} (lo : ℕ) (from : Stock) (R : Stock → A → B → Type 0) : Made Stock A Stop → Made ReadingPlace B outcome.Stop → Type 0 where
+    both_have : (a : A) (b : B) (k : Stock) (p : ReadingPlace) → R k a b → At k p → Onward lo from k → MadeAlike lo from R (Has a k) (Has b p)
+    both_want : (why : Stop) (x : outcome.Stop) (k : Stock) (p : ReadingPlace) → x ≡ stop_in k.cells.cells why → MadeAlike lo from R (Wants why k) (Wants x p)
+    first_wants : (why : Stop) (k : Stock) (other : Made ReadingPlace B outcome.Stop) → 2 ^ 31 < length k.cells.cells → MadeAlike lo from R (Wants why k) other
+
+  alike : {A B : Type 0} (lo : ℕ) (from : Stock) (R : Stock → A → B → Type 0) (x : Made Stock A Stop) (act : State → Outcome B) (p : ReadingPlace) → MakesAs w out from R x (act p.state) → Stays lo from.cells.cells x → At from p → MadeAlike lo from R x (make act p)
+  alike lo from R (Has a k) act p h s at =
+      subst (λ o. MadeAlike lo from R (Has a k) (made_in p.levels o)) (sym h.is) (both_have a h.value k (record { state = h.state; levels = p.levels }) h.related (h.stands, at.1 ∙ ap Some (sym h.left)) (record { grows = h.grows; keeps = s }))
+  alike lo from R (Wants why k) act p h s at = subst (λ o. MadeAlike lo from R (Wants why k) (made_in p.levels o)) (sym h.is) (both_want why (stop_in k.cells.cells why) k (record { state = h.state; levels = p.levels }) refl)
+
+  -- ---- what has begun
+
+  -- a list that is not whole yet, with its last pair in these places
+  abbrev IsListAs : ℕ → ℕ → Stock → PairChain → Chain → Type 0
+  IsListAs lo hi k c d = IsChainAs w out laws ids k c d × IsLastIn lo hi c
+
+  -- and of which a vector may be made
+  abbrev IsOpenAs : ℕ → ℕ → Stock → PairChain → Chain → Type 0
+  IsOpenAs lo hi k c d = IsChainAs w out laws ids k c d × IsLastIn lo hi c × IsOpenIn k.cells.cells lo hi c
+
+  data FramesAs (k : Stock) : ℕ → FramesL → FramesK → Type 0 where
+    no_frames : (hi : ℕ) → FramesAs k hi [] []
+    listing : (hi lo : ℕ) (l : PairChain) (d : Chain) (n : ℕ) (p : Phase) (fs : FramesL) (gs : FramesK) → lo ≤ hi → IsListAs lo hi k l d → FramesAs k lo fs gs → FramesAs k hi (Listing l n p ∷ fs) (Listing d n p ∷ gs)
+    vectoring : (hi lo : ℕ) (l : PairChain) (d : Chain) (fs : FramesL) (gs : FramesK) → lo ≤ hi → IsOpenAs lo hi k l d → FramesAs k lo fs gs → FramesAs k hi (Vectoring l ∷ fs) (Vectoring d ∷ gs)
+    quoting : (hi : ℕ) (fs : FramesL) (gs : FramesK) → FramesAs k hi fs gs → FramesAs k hi (Quoting ∷ fs) (Quoting ∷ gs)
+
+  list_kept : (lo hi : ℕ) (k j : Stock) (c : PairChain) (d : Chain) → Onward hi k j → IsListAs lo hi k c d → IsListAs lo hi j c d
+  list_kept lo hi k j c d h e = (chain_stays w out laws ids k j c d h.grows e.0, e.1)
+
+  open_kept : (lo hi : ℕ) (old new : List Cell) (c : PairChain) → KeepsTo hi old new → IsOpenIn old lo hi c → IsOpenIn new lo hi c
+  open_kept lo hi old new None h e = tt
+  open_kept lo hi old new (Some c) h e =
+      let below = e.below in
+      record {
+        begin = e.begin;
+        end = e.end;
+        steps = e.steps;
+        first = e.first;
+        last = e.last;
+        above = e.above;
+        below = e.below;
+        rises = rises_kept old new e.steps e.begin e.end (λ j l. h.stands j (omega (arith, l, below))) e.rises;
+        nil = ap cdr_in (h.stands e.end e.below) ∙ e.nil;
+      }
+
+  vector_kept : (lo hi : ℕ) (k j : Stock) (c : PairChain) (d : Chain) → Onward hi k j → IsOpenAs lo hi k c d → IsOpenAs lo hi j c d
+  vector_kept lo hi k j c d h e = (chain_stays w out laws ids k j c d h.grows e.0, e.1, open_kept lo hi k.cells.cells j.cells.cells c h.keeps e.2)
+
+  frames_kept : (k j : Stock) (hi : ℕ) → Onward hi k j → (fs : FramesL) (gs : FramesK) → FramesAs k hi fs gs → FramesAs j hi fs gs
+  frames_kept k j hi h fs gs (no_frames hi') = no_frames hi
+  frames_kept k j hi h fs gs (listing hi' lo l d n p fs' gs' le e f) = listing hi lo l d n p fs' gs' le (list_kept lo hi k j l d h e) (frames_kept k j lo (onward_less lo hi k j le h) fs' gs' f)
+  frames_kept k j hi h fs gs (vectoring hi' lo l d fs' gs' le e f) = vectoring hi lo l d fs' gs' le (vector_kept lo hi k j l d h e) (frames_kept k j lo (onward_less lo hi k j le h) fs' gs' f)
+  frames_kept k j hi h fs gs (quoting hi' fs' gs' f) = quoting hi fs' gs' (frames_kept k j hi h fs' gs' f)
+
+  record Framed (k : Stock) (fs : FramesL) (gs : FramesK) : Type 0 where
+    hi : ℕ
+    within : hi ≤ length k.cells.cells
+    frames : FramesAs k hi fs gs
+
+  framed_on : (k j : Stock) (fs : FramesL) (gs : FramesK) (f : Framed k fs gs) → Onward f.hi k j → Framed j fs gs
+  framed_on k j fs gs f h = record { hi = f.hi; within = (let a = f.within in let b = h.keeps.longer in omega (arith, a, b)); frames = frames_kept k j f.hi h fs gs f.frames }
+
+  -- ---- how things end
+
+  data EndsAs : Ended Stock V PairChain Stop → Ended ReadingPlace Value Chain outcome.Stop → Type 0 where
+    whole : (v : V) (u : Value) (k : Stock) (p : ReadingPlace) → IsShownAs w out k v u → At k p → EndsAs (Whole v k) (Whole u p)
+    inside : (fs : FramesL) (gs : FramesK) (k : Stock) (p : ReadingPlace) → Framed k fs gs → At k p → EndsAs (Inside fs k) (Inside gs p)
+    lack : (why : Stop) (x : outcome.Stop) (k : Stock) (p : ReadingPlace) → x ≡ stop_in k.cells.cells why → EndsAs (Lacks why k) (Lacks x p)
+    first_lacks : (why : Stop) (k : Stock) (other : Ended ReadingPlace Value Chain outcome.Stop) → 2 ^ 31 < length k.cells.cells → EndsAs (Lacks why k) other
+
+  data StepsAs : ReaderStep Stock V PairChain Stop → ReaderStep ReadingPlace Value Chain outcome.Stop → Type 0 where
+    goes : (mode : Mode) (fs : FramesL) (gs : FramesK) (k : Stock) (p : ReadingPlace) → IsGoodMode mode → Framed k fs gs → At k p → StepsAs (Goes mode fs k) (Goes mode gs p)
+    done : (v : V) (u : Value) (used : Bool) (k : Stock) (p : ReadingPlace) → IsShownAs w out k v u → At k p → StepsAs (Done v used k) (Done u used p)
+    refuses : (k : Stock) (p : ReadingPlace) → At k p → StepsAs (Refuses k) (Refuses p)
+    halt : (why : Stop) (x : outcome.Stop) (k : Stock) (p : ReadingPlace) → x ≡ stop_in k.cells.cells why → StepsAs (Halts why k) (Halts x p)
+    first_halts : (why : Stop) (k : Stock) (other : ReaderStep ReadingPlace Value Chain outcome.Stop) → 2 ^ 31 < length k.cells.cells → StepsAs (Halts why k) other
+
+  -- a text ends for both in the same way and with the same bytes left, or there are more cells than there may be
+  pub data OutcomesAs : ReaderOutcome Stock V Stop → ReaderOutcome ReadingPlace Value outcome.Stop → Type 0 where
+    both_read : (v : V) (u : Value) (k : Stock) (p : ReadingPlace) (rest : List ℕ) → IsShownAs w out k v u → At k p → OutcomesAs (Read v k rest) (Read u p rest)
+    both_find_none : (k : Stock) (p : ReadingPlace) → At k p → OutcomesAs (NoneLeft k) (NoneLeft p)
+    both_refuse : (k : Stock) (p : ReadingPlace) (from : List ℕ) → At k p → OutcomesAs (Refused k from) (Refused p from)
+    both_stop : (why : Stop) (x : outcome.Stop) (k : Stock) (p : ReadingPlace) (rest : List ℕ) → x ≡ stop_in k.cells.cells why → OutcomesAs (Stopped why k rest) (Stopped x p rest)
+    first_stops : (why : Stop) (k : Stock) (rest : List ℕ) (other : ReaderOutcome ReadingPlace Value outcome.Stop) → 2 ^ 31 < length k.cells.cells → OutcomesAs (Stopped why k rest) other
+
+  if_steps : (b : Bool) (x y : ReaderStep Stock V PairChain Stop) (z t : ReaderStep ReadingPlace Value Chain outcome.Stop) → StepsAs x z → StepsAs y t → StepsAs (if b then x else y) (if b then z else t)
+  if_steps true x y z t h k = h
+  if_steps false x y z t h k = k
+
+  admitted_at : (hi : ℕ) (fs : FramesL) (gs : FramesK) (k : Stock) (p : ReadingPlace) (x : ReaderStep Stock V PairChain Stop) (y : ReaderStep ReadingPlace Value Chain outcome.Stop) → FramesAs k hi fs gs → At k p → StepsAs x y → StepsAs (if admits fs then x else Refuses k) (if admits gs then y else Refuses p)
+  admitted_at hi fs gs k p x y (no_frames hi') at h = h
+  admitted_at hi fs gs k p x y (listing hi' lo l d n Begun fs' gs' le e f) at h = h
+  admitted_at hi fs gs k p x y (listing hi' lo l d n Going fs' gs' le e f) at h = h
+  admitted_at hi fs gs k p x y (listing hi' lo l d n Dotted fs' gs' le e f) at h = h
+  admitted_at hi fs gs k p x y (listing hi' lo l d n Shut fs' gs' le e f) at h = refuses k p at
+  admitted_at hi fs gs k p x y (vectoring hi' lo l d fs' gs' le e f) at h = h
+  admitted_at hi fs gs k p x y (quoting hi' fs' gs' f) at h = h
+
+  admitted : (fs : FramesL) (gs : FramesK) (k : Stock) (p : ReadingPlace) (x : ReaderStep Stock V PairChain Stop) (y : ReaderStep ReadingPlace Value Chain outcome.Stop) → Framed k fs gs → At k p → StepsAs x y → StepsAs (if admits fs then x else Refuses k) (if admits gs then y else Refuses p)
+  admitted fs gs k p x y f at h = admitted_at f.hi fs gs k p x y f.frames at h
+
+  if_inner : (hi : ℕ) (fs : FramesL) (gs : FramesK) (k : Stock) (x y : ReaderStep Stock V PairChain Stop) (z t : ReaderStep ReadingPlace Value Chain outcome.Stop) → FramesAs k hi fs gs → StepsAs x z → StepsAs y t → StepsAs (if is_inner fs then x else y) (if is_inner gs then z else t)
+  if_inner hi fs gs k x y z t (no_frames hi') h g = g
+  if_inner hi fs gs k x y z t (listing hi' lo l d n Begun fs' gs' le e f) h g = h
+  if_inner hi fs gs k x y z t (listing hi' lo l d n Going fs' gs' le e f) h g = h
+  if_inner hi fs gs k x y z t (listing hi' lo l d n Dotted fs' gs' le e f) h g = g
+  if_inner hi fs gs k x y z t (listing hi' lo l d n Shut fs' gs' le e f) h g = h
+  if_inner hi fs gs k x y z t (vectoring hi' lo l d fs' gs' le e f) h g = h
+  if_inner hi fs gs k x y z t (quoting hi' fs' gs' f) h g = h
+
+  ended_with_ends : {A B : Type 0} (lo : ℕ) (from : Stock) (R : Stock → A → B → Type 0) (x : Made Stock A Stop) (y : Made ReadingPlace B outcome.Stop) (f : A → Stock → Ended Stock V PairChain Stop) (g : B → ReadingPlace → Ended ReadingPlace Value Chain outcome.Stop) → MadeAlike lo from R x y
+      → ((a : A) (b : B) (k : Stock) (p : ReadingPlace) → R k a b → At k p → Onward lo from k → EndsAs (f a k) (g b p)) → EndsAs (ended_with x f) (ended_with y g)
+  ended_with_ends lo from R x y f g (both_have a b k p e h c) next = next a b k p e h c
+  ended_with_ends lo from R x y f g (both_want why v k p h) next = lack why v k p h
+  ended_with_ends lo from R x y f g (first_wants why k other h) next = first_lacks why k _ h
+
+  goes_with_steps : {A B : Type 0} (lo : ℕ) (from : Stock) (R : Stock → A → B → Type 0) (x : Made Stock A Stop) (y : Made ReadingPlace B outcome.Stop) (f : A → Stock → ReaderStep Stock V PairChain Stop) (g : B → ReadingPlace → ReaderStep ReadingPlace Value Chain outcome.Stop) → MadeAlike lo from R x y
+      → ((a : A) (b : B) (k : Stock) (p : ReadingPlace) → R k a b → At k p → Onward lo from k → StepsAs (f a k) (g b p)) → StepsAs (goes_with x f) (goes_with y g)
+  goes_with_steps lo from R x y f g (both_have a b k p e h c) next = next a b k p e h c
+  goes_with_steps lo from R x y f g (both_want why v k p h) next = halt why v k p h
+  goes_with_steps lo from R x y f g (first_wants why k other h) next = first_halts why k _ h
+
+  goes_after_steps : (d : Ended Stock V PairChain Stop) (e : Ended ReadingPlace Value Chain outcome.Stop) → EndsAs d e → StepsAs (goes_after d) (goes_after e)
+  goes_after_steps d e (whole v u k p h at) = done v u true k p h at
+  goes_after_steps d e (inside fs gs k p f at) = goes Gap fs gs k p tt f at
+  goes_after_steps d e (lack why x k p h) = halt why x k p h
+  goes_after_steps d e (first_lacks why k other h) = first_halts why k _ h
+
+
+  abbrev Any : Stock → Unit {0} → Unit {0} → Type 0
+  Any k a b = Unit {0}
+
+  -- ---- levels
+
+  abbrev OnwardMade : ℕ → Stock → Made Stock (Unit {0}) Stop → Type 0
+  OnwardMade hi k (Has u j) = Onward hi k j
+  OnwardMade hi k (Wants why j) = Unit {0}
+
+  entered_onward : (hi : ℕ) (k : Stock) (p : ReadingPlace) → At k p → (n : ℕ) → OnwardMade hi k (entered_at n k)
+  entered_onward hi k p at zero = tt
+  entered_onward hi k p at (suc n) = record { grows = grows_refl _ _ refl at.0.world; keeps = keeps_same hi k.cells.cells }
+
+  entered_alike : (hi : ℕ) (k : Stock) (x : Made Stock (Unit {0}) Stop) (y : Made ReadingPlace (Unit {0}) outcome.Stop) → EntersAs w out laws ids x y → OnwardMade hi k x → MadeAlike hi k Any x y
+  entered_alike hi k (Has u j) (Has v p) h o = both_have u v j p tt h o
+  entered_alike hi k (Wants why j) (Wants x p) h o = both_want why x j p h
+  entered_alike hi k (Has u j) (Wants x p) h o = absurd h
+  entered_alike hi k (Wants why j) (Has v p) h o = absurd h
+
+  enter_alike : (hi : ℕ) (k : Stock) (p : ReadingPlace) → At k p → MadeAlike hi k Any (entered k) (enter p)
+  enter_alike hi k p at = entered_alike hi k (entered k) (enter p) (enter_makes w out laws ids k p at) (entered_onward hi k p at k.left)
+
+  -- ---- lists and vectors
+
+  extended_list : (lo hi : ℕ) (c : PairChain) (d : Chain) (v : V) (u : Value) (k : Stock) (p : ReadingPlace) → lo ≤ hi → hi ≤ length k.cells.cells → IsListAs lo hi k c d → IsShownAs w out k v u → At k p
+      → MadeAlike lo k (λ j c d. IsListAs lo (length j.cells.cells) j c d) (chain_extended c v k) (make (list_extended d u) p)
+  extended_list lo hi c d v u k p le within e h at =
+      go (chain_extended c v k) (extended_makes w out laws ids k c d v u p.state at.0 e.0 h) (extended_hangs laws.added lo k (omega (arith, le, within)) v c hi within e.1)
+    where
+      go : (x : Made Stock PairChain Stop) → MakesAs w out k (IsChainAs w out laws ids) x (list_extended d u p.state) → HangsWell lo k.cells.cells c x → MadeAlike lo k (λ j c d. IsListAs lo (length j.cells.cells) j c d) x (make (list_extended d u) p)
+      go (Has c' j) m s = alike lo k (λ j c d. IsListAs lo (length j.cells.cells) j c d) (Has c' j) (list_extended d u) p (record { value = m.value; state = m.state; is = m.is; stands = m.stands; grows = m.grows; left = m.left; related = (m.related, s.last) }) s.keeps at
+      go (Wants why j) m s = alike lo k (λ j c d. IsListAs lo (length j.cells.cells) j c d) (Wants why j) (list_extended d u) p m tt at
+
+  extended_vector : (lo hi : ℕ) (c : PairChain) (d : Chain) (v : V) (u : Value) (k : Stock) (p : ReadingPlace) → lo ≤ hi → hi ≤ length k.cells.cells → IsOpenAs lo hi k c d → IsShownAs w out k v u → At k p
+      → MadeAlike lo k (λ j c d. IsOpenAs lo (length j.cells.cells) j c d) (chain_extended c v k) (make (list_extended d u) p)
+  extended_vector lo hi c d v u k p le within e h at =
+      go (chain_extended c v k) (extended_makes w out laws ids k c d v u p.state at.0 e.0 h) (extended_hangs laws.added lo k (omega (arith, le, within)) v c hi within e.1)
+    where
+      go : (x : Made Stock PairChain Stop) → MakesAs w out k (IsChainAs w out laws ids) x (list_extended d u p.state) → HangsWell lo k.cells.cells c x → MadeAlike lo k (λ j c d. IsOpenAs lo (length j.cells.cells) j c d) x (make (list_extended d u) p)
+      go (Has c' j) m s = alike lo k (λ j c d. IsOpenAs lo (length j.cells.cells) j c d) (Has c' j) (list_extended d u) p (record { value = m.value; state = m.state; is = m.is; stands = m.stands; grows = m.grows; left = m.left; related = (m.related, s.last, s.opens hi within e.2) }) s.keeps at
+      go (Wants why j) m s = alike lo k (λ j c d. IsOpenAs lo (length j.cells.cells) j c d) (Wants why j) (list_extended d u) p m tt at
+
+  ended_list : (lo hi : ℕ) (c : PairChain) (d : Chain) (v : V) (u : Value) (k : Stock) (p : ReadingPlace) → lo ≤ hi → hi ≤ length k.cells.cells → IsListAs lo hi k c d → IsShownAs w out k v u → At k p
+      → MadeAlike lo k (λ j c d. IsListAs lo (length j.cells.cells) j c d) (chain_ended c v k) (make (ended_chain d u) p)
+  ended_list lo hi c d v u k p le within e h at =
+      go (chain_ended c v k) (ended_makes w out laws ids k c d v u p.state at.0 e.0 h) (ended_stays laws.added lo k (omega (arith, le, within)) v c hi within e.1)
+    where
+      go : (x : Made Stock PairChain Stop) → MakesAs w out k (IsChainAs w out laws ids) x (ended_chain d u p.state) → ShutWell laws.added lo k (omega (arith, le, within)) v x → MadeAlike lo k (λ j c d. IsListAs lo (length j.cells.cells) j c d) x (make (ended_chain d u) p)
+      go (Has c' j) m s = alike lo k (λ j c d. IsListAs lo (length j.cells.cells) j c d) (Has c' j) (ended_chain d u) p (record { value = m.value; state = m.state; is = m.is; stands = m.stands; grows = m.grows; left = m.left; related = (m.related, s.1) }) s.0 at
+      go (Wants why j) m s = alike lo k (λ j c d. IsListAs lo (length j.cells.cells) j c d) (Wants why j) (ended_chain d u) p m tt at
+
+  last_pair : (k : Stock) (c : PairChain) (d : Chain) → IsChainAs w out laws ids k c d → IsLastPair k.cells.cells c
+  last_pair k None None e = tt
+  last_pair k None (Some d) e = absurd e
+  last_pair k (Some c) None e = absurd e
+  last_pair k (Some c) (Some d) e = e.1.0
+
+  vector_alike : (lo hi : ℕ) (c : PairChain) (d : Chain) (k : Stock) (p : ReadingPlace) → lo ≤ length k.cells.cells → IsOpenAs lo hi k c d → At k p → MadeAlike lo k (IsShownAs w out) (vector_made c k) (make (vector_of_chain d) p)
+  vector_alike lo hi c d k p within e at = go (nat_le (length xs) (2 ^ 31)) refl
+    where
+      xs : List Tagged
+      xs = elements_of k.cells.cells c
+
+      ends : EndsWithin k.cells.cells c
+      ends = open_ends laws.changes k.cells.cells lo hi c (pair_inside k.cells.cells) (last_pair k c d e.0) e.2
+
+      go : (b : Bool) → nat_le (length xs) (2 ^ 31) ≡ b → MadeAlike lo k (IsShownAs w out) (vector_made c k) (make (vector_of_chain d) p)
+      go true few =
+          let objects : length xs ≤ length p.state.store = subst (λ store. length xs ≤ length store) (sym at.0.shows.store) ends.objects_many in
+          alike lo k (IsShownAs w out) (vector_made c k) (vector_of_chain d) p (vector_makes w out laws ids k c d p.state at.0 e.0 (leb-true (length xs) (2 ^ 31) few) objects) (vector_stays lo k.cells.cells within c k (keeps_same lo k.cells.cells)) at
+      go false many =
+          let past = leb-false (length xs) (2 ^ 31) many in
+          let cells = ends.cells_many in
+          subst (λ (x : Made Stock Tagged Stop). MadeAlike lo k (IsShownAs w out) x (make (vector_of_chain d) p)) (sym (ap (λ b. if b then object_made (λ n. VectorAt n) (VectorCell xs) k else Wants stop.Cells k) many)) (first_wants stop.Cells k _ (omega (arith, past, cells)))
