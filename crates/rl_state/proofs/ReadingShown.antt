@@ -29,7 +29,7 @@ use Rattle.rl_state.proofs.ChainsRise.{EndsWithin, IsLastPair, IsOpenIn, IsRisin
 use Rattle.rl_state.proofs.Closed.{pair_inside}
 use Rattle.rl_state.proofs.Made.{grows_refl}
 use Rattle.rl_state.proofs.StockKept.{HangsWell, IsLastIn, KeepsTo, ShutWell, Stays, atom_stays, ended_stays, extended_hangs, keeps_less, keeps_on, keeps_same, quote_stays, turn_stays, vector_stays}
-use Rattle.rl_state.proofs.StockShown.{EntersAs, IsChainAs, IsMadeAtom, IsShownAs, MakesAs, PlacesAs, StandsAs, atom_makes, chain_stays, ended_makes, enter_makes, extended_makes, first_shown, leave_makes, nil_shown, quote_makes, shown_stays, stocked, turn_makes, vector_makes}
+use Rattle.rl_state.proofs.StockShown.{EntersAs, IsChainAs, IsMadeAtom, IsShownAs, MakesAs, PlacesAs, StandsAs, atom_makes, chain_stays, ended_makes, enter_makes, extended_makes, first_shown, is_shown, leave_makes, nil_shown, quote_makes, shown_stays, stocked, turn_makes, vector_makes}
 use Rattle.rl_state.proofs.Steps.{grows_trans}
 
 -- what a word has so far may become a name
@@ -269,3 +269,157 @@ module _ (w : World) (out : Outside) (laws : AreCellLaws) (ids : AreIdentifiers)
           let past = leb-false (length xs) (2 ^ 31) many in
           let cells = ends.cells_many in
           subst (λ (x : Made Stock Tagged Stop). MadeAlike lo k (IsShownAs w out) x (make (vector_of_chain d) p)) (sym (ap (λ b. if b then object_made (λ n. VectorAt n) (VectorCell xs) k else Wants stop.Cells k) many)) (first_wants stop.Cells k _ (omega (arith, past, cells)))
+
+  framed_listing : (at k j : Stock) (hi lo : ℕ) (l : PairChain) (d : Chain) (i : ℕ) (ph : Phase) (fs : FramesL) (gs : FramesK) → lo ≤ hi → hi ≤ length at.cells.cells → Onward hi at k → Onward lo k j → IsListAs lo (length j.cells.cells) j l d → FramesAs at lo fs gs
+      → Framed j (Listing l i ph ∷ fs) (Listing d i ph ∷ gs)
+  framed_listing at k j hi lo l d i ph fs gs le within c c' e f =
+      let a = c.keeps.longer in
+      let b = c'.keeps.longer in
+      record { hi = length j.cells.cells; within = omega arith; frames = listing (length j.cells.cells) lo l d i ph fs gs (omega (arith, le, within, a, b)) e (frames_kept at j lo (onward_on lo at k j (onward_less lo hi at k le c) c') fs gs f) }
+
+  framed_vectoring : (at k j : Stock) (hi lo : ℕ) (l : PairChain) (d : Chain) (fs : FramesL) (gs : FramesK) → lo ≤ hi → hi ≤ length at.cells.cells → Onward hi at k → Onward lo k j → IsOpenAs lo (length j.cells.cells) j l d → FramesAs at lo fs gs
+      → Framed j (Vectoring l ∷ fs) (Vectoring d ∷ gs)
+  framed_vectoring at k j hi lo l d fs gs le within c c' e f =
+      let a = c.keeps.longer in
+      let b = c'.keeps.longer in
+      record { hi = length j.cells.cells; within = omega arith; frames = vectoring (length j.cells.cells) lo l d fs gs (omega (arith, le, within, a, b)) e (frames_kept at j lo (onward_on lo at k j (onward_less lo hi at k le c) c') fs gs f) }
+
+  still_within : (hi : ℕ) (k j : Stock) → hi ≤ length k.cells.cells → Onward hi k j → hi ≤ length j.cells.cells
+  still_within hi k j within c = let a = c.keeps.longer in omega (arith, within, a)
+
+  module _ (turns : Bool) where
+    abbrev m : Maker Stock V PairChain Stop
+    m = in_stock turns
+
+    abbrev n : Maker ReadingPlace Value Chain outcome.Stop
+    n = in_state turns
+
+    left_by_one : (lo : ℕ) (k : Stock) (p : ReadingPlace) → At k p → At (level_left k) (leave p) × Onward lo k (level_left k)
+    left_by_one lo k p at = (leave_makes w out laws ids k p at, record { grows = grows_refl _ _ refl at.0.world; keeps = keeps_same lo k.cells.cells })
+
+    left_alike : (lo hi : ℕ) (fs : FramesL) (gs : FramesK) (at k : Stock) (p : ReadingPlace) → FramesAs at hi fs gs → At k p → At (left m fs k) (left n gs p) × Onward lo k (left m fs k)
+    left_alike lo hi fs gs at k p (no_frames hi') h = (h, onward_same lo k p h)
+    left_alike lo hi fs gs at k p (listing hi' lo' l d i Begun fs' gs' le e f) h = left_by_one lo k p h
+    left_alike lo hi fs gs at k p (listing hi' lo' l d i Going fs' gs' le e f) h = left_by_one lo k p h
+    left_alike lo hi fs gs at k p (listing hi' lo' l d i Dotted fs' gs' le e f) h = (h, onward_same lo k p h)
+    left_alike lo hi fs gs at k p (listing hi' lo' l d i Shut fs' gs' le e f) h = left_by_one lo k p h
+    left_alike lo hi fs gs at k p (vectoring hi' lo' l d fs' gs' le e f) h = left_by_one lo k p h
+    left_alike lo hi fs gs at k p (quoting hi' fs' gs' f) h = left_by_one lo k p h
+
+    -- ---- an element ends
+
+    abbrev Goes_on : Stock → ℕ → FramesL → FramesK → Type 0
+    Goes_on at hi fs gs = (v : V) (u : Value) (k : Stock) (p : ReadingPlace) → Onward hi at k → IsShownAs w out k v u → At k p → EndsAs (value_ended m v fs k) (value_ended n u gs p)
+
+    listing_goes_on : (at : Stock) (hi lo : ℕ) (l : PairChain) (d : Chain) (i : ℕ) (ph : Phase) (fs : FramesL) (gs : FramesK) → lo ≤ hi → hi ≤ length at.cells.cells → IsListAs lo hi at l d → FramesAs at lo fs gs → Goes_on at hi (Listing l i ph ∷ fs) (Listing d i ph ∷ gs)
+    listing_goes_on at hi lo l d i Dotted fs gs le within e f v u k p c h a = ended_with_ends lo k _ _ _ _ _ (ended_list lo hi l d v u k p le (still_within hi at k within c) (list_kept lo hi at k l d c e) h a) (λ l d j q e a c'. inside _ _ j q (framed_listing at k j hi lo l d i Shut fs gs le within c c' e f) a)
+    listing_goes_on at hi lo l d i Begun fs gs le within e f v u k p c h a = ended_with_ends lo k _ _ _ _ _ (extended_list lo hi l d v u k p le (still_within hi at k within c) (list_kept lo hi at k l d c e) h a) (λ l d j q e a c'. inside _ _ j q (framed_listing at k j hi lo l d i Going fs gs le within c c' e f) a)
+    listing_goes_on at hi lo l d i Going fs gs le within e f v u k p c h a = ended_with_ends lo k _ _ _ _ _ (extended_list lo hi l d v u k p le (still_within hi at k within c) (list_kept lo hi at k l d c e) h a) (λ l d j q e a c'. inside _ _ j q (framed_listing at k j hi lo l d i Going fs gs le within c c' e f) a)
+    listing_goes_on at hi lo l d i Shut fs gs le within e f v u k p c h a = ended_with_ends lo k _ _ _ _ _ (extended_list lo hi l d v u k p le (still_within hi at k within c) (list_kept lo hi at k l d c e) h a) (λ l d j q e a c'. inside _ _ j q (framed_listing at k j hi lo l d i Going fs gs le within c c' e f) a)
+
+    value_ends : (at : Stock) (hi : ℕ) → hi ≤ length at.cells.cells → (fs : FramesL) (gs : FramesK) → FramesAs at hi fs gs → Goes_on at hi fs gs
+    value_ends at hi within fs gs (no_frames hi') v u k p c h a = whole v u k p h a
+    value_ends at hi within fs gs (listing hi' lo l d i ph fs' gs' le e f) v u k p c h a = listing_goes_on at hi lo l d i ph fs' gs' le within e f v u k p c h a
+    value_ends at hi within fs gs (vectoring hi' lo l d fs' gs' le e f) v u k p c h a =
+        ended_with_ends lo k _ _ _ _ _ (extended_vector lo hi l d v u k p le (still_within hi at k within c) (vector_kept lo hi at k l d c e) h a) (λ l d j q e a c'. inside _ _ j q (framed_vectoring at k j hi lo l d fs' gs' le within c c' e f) a)
+    value_ends at hi within fs gs (quoting hi' fs' gs' f) v u k p c h a =
+        ended_with_ends hi k _ _ _ _ _ (alike hi k _ _ (quoted_value u) p (quote_makes w out laws ids k v u p.state a.0 h) (quote_stays hi k.cells.cells (still_within hi at k within c) v k (keeps_same hi k.cells.cells)) a)
+        (λ q x j r e a c'.
+        let after = left_alike hi hi fs' gs' at j r f a in
+        value_ends at hi within fs' gs' f q x (left m fs' j) (left n gs' r) (onward_on hi at j (left m fs' j) (onward_on hi at k j c c') after.1) (shown_stays w out j (left m fs' j) q x after.1.grows (is_shown w out j q x e)) after.0)
+
+    -- a list or a vector has ended, so its level is left first
+    ends_left : (v : V) (u : Value) (hi : ℕ) (fs : FramesL) (gs : FramesK) (k : Stock) (p : ReadingPlace) → hi ≤ length k.cells.cells → FramesAs k hi fs gs → IsShownAs w out k v u → At k p → EndsAs (value_ended m v fs (left m fs k)) (value_ended n u gs (left n gs p))
+    ends_left v u hi fs gs k p within f h a =
+        let after = left_alike hi hi fs gs k k p f a in
+        value_ends k hi within fs gs f v u (left m fs k) (left n gs p) after.1 (shown_stays w out k (left m fs k) v u after.1.grows h) after.0
+
+    atom_ends : (b : Atom) (fs : FramesL) (gs : FramesK) (k : Stock) (p : ReadingPlace) → IsMadeAtom w out b → Framed k fs gs → At k p → EndsAs (atom_ended m b fs k) (atom_ended n b gs p)
+    atom_ends b fs gs k p good f a =
+        ended_with_ends f.hi k _ _ _ _ _ (alike f.hi k _ _ (made_atom b) p (atom_makes w out laws ids k b p.state a.0 good) (atom_stays f.hi k.cells.cells f.within b k (keeps_same f.hi k.cells.cells)) a)
+        (λ v u j q e a c. value_ends k f.hi f.within fs gs f.frames v u j q c e a)
+
+    -- ---- marks
+
+    begins_steps : (x : ReaderFrame PairChain) (y : ReaderFrame Chain) (fs : FramesL) (gs : FramesK) (k : Stock) (p : ReadingPlace) → Framed k fs gs → Framed k (x ∷ fs) (y ∷ gs) → At k p → StepsAs (group_begins m x fs k) (group_begins n y gs p)
+    begins_steps x y fs gs k p f g a =
+        if_inner f.hi fs gs k _ _ _ _ f.frames (goes_with_steps g.hi k Any _ _ _ _ (enter_alike g.hi k p a) (λ s t j q e a c. goes Gap _ _ j q tt (framed_on k j _ _ g c) a)) (goes Gap _ _ k p tt g a)
+
+    new_listing : (k : Stock) (fs : FramesL) (gs : FramesK) → Framed k fs gs → Framed k (Listing None 0 Begun ∷ fs) (Listing None 0 Begun ∷ gs)
+    new_listing k fs gs f = record { hi = f.hi; within = f.within; frames = listing f.hi f.hi None None 0 Begun fs gs (omega arith) (tt, tt) f.frames }
+
+    new_vectoring : (k : Stock) (fs : FramesL) (gs : FramesK) → Framed k fs gs → Framed k (Vectoring None ∷ fs) (Vectoring None ∷ gs)
+    new_vectoring k fs gs f = record { hi = f.hi; within = f.within; frames = vectoring f.hi f.hi None None fs gs (omega arith) (tt, tt, tt) f.frames }
+
+    new_quoting : (k : Stock) (fs : FramesL) (gs : FramesK) → Framed k fs gs → Framed k (Quoting ∷ fs) (Quoting ∷ gs)
+    new_quoting k fs gs f = record { hi = f.hi; within = f.within; frames = quoting f.hi fs gs f.frames }
+
+    list_begins : (fs : FramesL) (gs : FramesK) (k : Stock) (p : ReadingPlace) → Framed k fs gs → At k p → StepsAs (group_begins m (Listing None 0 Begun) fs k) (group_begins n (Listing None 0 Begun) gs p)
+    list_begins fs gs k p f a = begins_steps _ _ fs gs k p f (new_listing k fs gs f) a
+
+    framed : (hi : ℕ) (k : Stock) (fs : FramesL) (gs : FramesK) → hi ≤ length k.cells.cells → FramesAs k hi fs gs → Framed k fs gs
+    framed hi k fs gs within f = record { hi = hi; within = within; frames = f }
+
+    open_listing : (hi lo : ℕ) (l : PairChain) (d : Chain) (i : ℕ) (ph : Phase) (fs : FramesL) (gs : FramesK) (k : Stock) (p : ReadingPlace) → hi ≤ length k.cells.cells → lo ≤ hi → IsListAs lo hi k l d → FramesAs k lo fs gs → At k p → StepsAs (open_list m (Listing l i ph ∷ fs) k) (open_list n (Listing d i ph ∷ gs) p)
+    open_listing hi lo l d i Begun fs gs k p within le e f a = list_begins _ _ k p (framed hi k _ _ within (listing hi lo l d i Begun fs gs le e f)) a
+    open_listing hi lo l d i Going fs gs k p within le e f a = list_begins _ _ k p (framed hi k _ _ within (listing hi lo l d i Going fs gs le e f)) a
+    open_listing hi lo l d i Dotted fs gs k p within le e f a = goes Gap _ _ k p tt (framed hi k _ _ within (listing hi lo l d (suc i) Begun fs gs le e f)) a
+    open_listing hi lo l d i Shut fs gs k p within le e f a = list_begins _ _ k p (framed hi k _ _ within (listing hi lo l d i Shut fs gs le e f)) a
+
+    open_steps : (hi : ℕ) (fs : FramesL) (gs : FramesK) (k : Stock) (p : ReadingPlace) → hi ≤ length k.cells.cells → FramesAs k hi fs gs → At k p → StepsAs (open_list m fs k) (open_list n gs p)
+    open_steps hi fs gs k p within (no_frames hi') a = list_begins [] [] k p (framed hi k _ _ within (no_frames hi)) a
+    open_steps hi fs gs k p within (listing hi' lo l d i ph fs' gs' le e f) a = open_listing hi lo l d i ph fs' gs' k p within le e f a
+    open_steps hi fs gs k p within (vectoring hi' lo l d fs' gs' le e f) a = list_begins _ _ k p (framed hi k _ _ within (vectoring hi lo l d fs' gs' le e f)) a
+    open_steps hi fs gs k p within (quoting hi' fs' gs' f) a = list_begins _ _ k p (framed hi k _ _ within (quoting hi fs' gs' f)) a
+
+    list_closes : (hi lo : ℕ) (l : PairChain) (d : Chain) (fs : FramesL) (gs : FramesK) (k : Stock) (p : ReadingPlace) → hi ≤ length k.cells.cells → lo ≤ hi → IsListAs lo hi k l d → FramesAs k lo fs gs → At k p
+        → StepsAs (goes_after (value_ended m (first_of_chain l) fs (left m fs k))) (goes_after (value_ended n (first_pair_of d) gs (left n gs p)))
+    list_closes hi lo l d fs gs k p within le e f a = goes_after_steps _ _ (ends_left (first_of_chain l) (first_pair_of d) lo fs gs k p (omega (arith, within, le)) f (first_shown w out laws ids k l d p.state a.0 e.0) a)
+
+    -- a list behind a dot ends with NIL
+    inner_closes : (hi lo : ℕ) (l : PairChain) (d : Chain) (i : ℕ) (fs : FramesL) (gs : FramesK) (k : Stock) (p : ReadingPlace) → hi ≤ length k.cells.cells → lo ≤ hi → IsListAs lo hi k l d → FramesAs k lo fs gs → At k p
+        → StepsAs (goes_with (m.ended l m.nil k) (λ l k. Goes Gap (Listing l i Shut ∷ fs) k)) (goes_with (n.ended d n.nil p) (λ d p. Goes Gap (Listing d i Shut ∷ gs) p))
+    inner_closes hi lo l d i fs gs k p within le e f a =
+        goes_with_steps lo k _ _ _ _ _ (ended_list lo hi l d nil_value nil_value_of_state k p le within e (nil_shown w out laws ids k p.state a.0) a)
+        (λ l d j q e a' c. goes Gap _ _ j q tt (framed_listing k k j hi lo l d i Shut fs gs le within (onward_same hi k p a) c e f) a')
+
+    close_listing : (hi lo : ℕ) (l : PairChain) (d : Chain) (i : ℕ) (ph : Phase) (fs : FramesL) (gs : FramesK) (k : Stock) (p : ReadingPlace) → hi ≤ length k.cells.cells → lo ≤ hi → IsListAs lo hi k l d → FramesAs k lo fs gs → At k p
+        → StepsAs (close_list m (Listing l i ph ∷ fs) k) (close_list n (Listing d i ph ∷ gs) p)
+    close_listing hi lo l d i Dotted fs gs k p within le e f a = refuses k p a
+    close_listing hi lo l d zero Begun fs gs k p within le e f a = list_closes hi lo l d fs gs k p within le e f a
+    close_listing hi lo l d zero Going fs gs k p within le e f a = list_closes hi lo l d fs gs k p within le e f a
+    close_listing hi lo l d zero Shut fs gs k p within le e f a = list_closes hi lo l d fs gs k p within le e f a
+    close_listing hi lo l d (suc i) Begun fs gs k p within le e f a = inner_closes hi lo l d i fs gs k p within le e f a
+    close_listing hi lo l d (suc i) Going fs gs k p within le e f a = inner_closes hi lo l d i fs gs k p within le e f a
+    close_listing hi lo l d (suc i) Shut fs gs k p within le e f a = goes Gap _ _ k p tt (framed hi k _ _ within (listing hi lo l d i Shut fs gs le e f)) a
+
+    close_steps : (hi : ℕ) (fs : FramesL) (gs : FramesK) (k : Stock) (p : ReadingPlace) → hi ≤ length k.cells.cells → FramesAs k hi fs gs → At k p → StepsAs (close_list m fs k) (close_list n gs p)
+    close_steps hi fs gs k p within (no_frames hi') a = refuses k p a
+    close_steps hi fs gs k p within (listing hi' lo l d i ph fs' gs' le e f) a = close_listing hi lo l d i ph fs' gs' k p within le e f a
+    close_steps hi fs gs k p within (vectoring hi' lo l d fs' gs' le e f) a = refuses k p a
+    close_steps hi fs gs k p within (quoting hi' fs' gs' f) a = refuses k p a
+
+    dot_steps : (hi : ℕ) (fs : FramesL) (gs : FramesK) (k : Stock) (p : ReadingPlace) → hi ≤ length k.cells.cells → FramesAs k hi fs gs → At k p → StepsAs (dot m fs k) (dot n gs p)
+    dot_steps hi fs gs k p within (no_frames hi') a = refuses k p a
+    dot_steps hi fs gs k p within (listing hi' lo l d i Begun fs' gs' le e f) a = refuses k p a
+    dot_steps hi fs gs k p within (listing hi' lo l d i Going fs' gs' le e f) a = goes Gap _ _ k p tt (framed hi k _ _ within (listing hi lo l d i Dotted fs' gs' le e f)) a
+    dot_steps hi fs gs k p within (listing hi' lo l d i Dotted fs' gs' le e f) a = refuses k p a
+    dot_steps hi fs gs k p within (listing hi' lo l d i Shut fs' gs' le e f) a = refuses k p a
+    dot_steps hi fs gs k p within (vectoring hi' lo l d fs' gs' le e f) a = refuses k p a
+    dot_steps hi fs gs k p within (quoting hi' fs' gs' f) a = refuses k p a
+
+    close_vector_steps : (hi : ℕ) (fs : FramesL) (gs : FramesK) (k : Stock) (p : ReadingPlace) → hi ≤ length k.cells.cells → FramesAs k hi fs gs → At k p → StepsAs (close_vector m fs k) (close_vector n gs p)
+    close_vector_steps hi fs gs k p within (no_frames hi') a = refuses k p a
+    close_vector_steps hi fs gs k p within (listing hi' lo l d i ph fs' gs' le e f) a = refuses k p a
+    close_vector_steps hi fs gs k p within (vectoring hi' lo l d fs' gs' le e f) a =
+        let low : lo ≤ length k.cells.cells = omega (arith, le, within) in
+        goes_after_steps _ _ (ended_with_ends lo k _ _ _ _ _ (vector_alike lo hi l d k p low e a) (λ v u j q e' a' c. ends_left v u lo fs' gs' j q (still_within lo k j low c) (frames_kept k j lo c fs' gs' f) e' a'))
+    close_vector_steps hi fs gs k p within (quoting hi' fs' gs' f) a = refuses k p a
+
+    mark_steps : (mark : Mark) (fs : FramesL) (gs : FramesK) (k : Stock) (p : ReadingPlace) → Framed k fs gs → At k p → StepsAs (at_mark m mark fs k) (at_mark n mark gs p)
+    mark_steps Close fs gs k p f a = close_steps f.hi fs gs k p f.within f.frames a
+    mark_steps CloseVector fs gs k p f a = close_vector_steps f.hi fs gs k p f.within f.frames a
+    mark_steps Dot fs gs k p f a = dot_steps f.hi fs gs k p f.within f.frames a
+    mark_steps Open fs gs k p f a = admitted fs gs k p _ _ f a (open_steps f.hi fs gs k p f.within f.frames a)
+    mark_steps OpenVector fs gs k p f a = admitted fs gs k p _ _ f a (begins_steps _ _ fs gs k p f (new_vectoring k fs gs f) a)
+    mark_steps Quote fs gs k p f a = admitted fs gs k p _ _ f a (begins_steps _ _ fs gs k p f (new_quoting k fs gs f) a)
