@@ -423,3 +423,109 @@ module _ (w : World) (out : Outside) (laws : AreCellLaws) (ids : AreIdentifiers)
     mark_steps Open fs gs k p f a = admitted fs gs k p _ _ f a (open_steps f.hi fs gs k p f.within f.frames a)
     mark_steps OpenVector fs gs k p f a = admitted fs gs k p _ _ f a (begins_steps _ _ fs gs k p f (new_vectoring k fs gs f) a)
     mark_steps Quote fs gs k p f a = admitted fs gs k p _ _ f a (begins_steps _ _ fs gs k p f (new_quoting k fs gs f) a)
+
+    -- ---- a byte
+
+    word_steps : (mode : Mode) (fs : FramesL) (gs : FramesK) (k : Stock) (p : ReadingPlace) → IsGoodMode mode → Framed k fs gs → At k p → StepsAs (in_word mode fs k) (in_word mode gs p)
+    word_steps mode fs gs k p good f a = admitted fs gs k p _ _ f a (goes mode fs gs k p good f a)
+
+    class_steps : (c : Class) (b : ℕ) (fs : FramesL) (gs : FramesK) (k : Stock) (p : ReadingPlace) → Framed k fs gs → At k p → StepsAs (at_class m c b fs k) (at_class n c b gs p)
+    class_steps Blank b fs gs k p f a = goes Gap fs gs k p tt f a
+    class_steps Percent b fs gs k p f a = goes Comment fs gs k p tt f a
+    class_steps (Marks mark) b fs gs k p f a = mark_steps mark fs gs k p f a
+    class_steps Text b fs gs k p f a = word_steps (InText []) fs gs k p tt f a
+    class_steps Escape b fs gs k p f a = word_steps (InEscape []) fs gs k p (omega arith) f a
+    class_steps Letter b fs gs k p f a = word_steps (InName (raised b ∷ [])) fs gs k p (omega arith, omega arith) f a
+    class_steps Digit b fs gs k p f a = word_steps (InNumber false (b - 48)) fs gs k p tt f a
+    class_steps Sign b fs gs k p f a = word_steps (AfterSign b) fs gs k p tt f a
+    class_steps Special b fs gs k p f a = admitted fs gs k p _ _ f a (goes_after_steps _ _ (atom_ends (Identifier (b ∷ [])) fs gs k p (omega arith, omega arith) f a))
+    class_steps Nothing b fs gs k p f a = refuses k p a
+
+    before_steps : (b : ℕ) (d : Ended Stock V PairChain Stop) (e : Ended ReadingPlace Value Chain outcome.Stop) → EndsAs d e → StepsAs (goes_before m b d) (goes_before n b e)
+    before_steps b d e (whole v u k p h a) = done v u false k p h a
+    before_steps b d e (inside fs gs k p f a) = class_steps (class_of b) b fs gs k p f a
+    before_steps b d e (lack why x k p h) = halt why x k p h
+    before_steps b d e (first_lacks why k other h) = first_halts why k _ h
+
+    atom_before_steps : (c : Atom) (b : ℕ) (fs : FramesL) (gs : FramesK) (k : Stock) (p : ReadingPlace) → IsMadeAtom w out c → Framed k fs gs → At k p → StepsAs (atom_before m c b fs k) (atom_before n c b gs p)
+    atom_before_steps c b fs gs k p good f a = before_steps b _ _ (atom_ends c fs gs k p good f a)
+
+    -- what goes on only under a test of its own
+    tested : (b : Bool) (mode : Mode) (fs : FramesL) (gs : FramesK) (k : Stock) (p : ReadingPlace) → (b ≡ true → IsGoodMode mode) → Framed k fs gs → At k p → StepsAs (if b then Goes mode fs k else Refuses k) (if b then Goes mode gs p else Refuses p)
+    tested true mode fs gs k p good f a = goes mode fs gs k p (good refl) f a
+    tested false mode fs gs k p good f a = refuses k p a
+
+    name_longer : (cs : List ℕ) (x : ℕ) → length cs ≤ 254 → IsGoodMode (InName (cs ++ x ∷ []))
+    name_longer cs x l = let long = length-append cs (x ∷ []) in (omega (arith, long), omega (arith, long, l))
+
+    below_255 : (cs : List ℕ) → nat_lt (length cs) 255 ≡ true → length cs ≤ 254
+    below_255 cs e = let l = ltb-true (length cs) 255 e in omega (arith, l)
+
+    step_steps : (mode : Mode) (b : ℕ) (fs : FramesL) (gs : FramesK) (k : Stock) (p : ReadingPlace) → IsGoodMode mode → Framed k fs gs → At k p → StepsAs (reader_step m mode b fs k) (reader_step n mode b gs p)
+    step_steps Gap b fs gs k p good f a = class_steps (class_of b) b fs gs k p f a
+    step_steps Comment b fs gs k p good f a = comment_goes (b == 10)
+      where
+        comment_goes : (c : Bool) → StepsAs (Goes (if c then Gap else Comment) fs k) (Goes (if c then Gap else Comment) gs p)
+        comment_goes true = goes Gap fs gs k p tt f a
+        comment_goes false = goes Comment fs gs k p tt f a
+    step_steps (InName cs) b fs gs k p good f a =
+        if_steps (is_name_byte b) _ _ _ _ (tested (nat_lt (length cs) 255) (InName (cs ++ raised b ∷ [])) fs gs k p (λ e. name_longer cs (raised b) (below_255 cs e)) f a)
+        (if_steps (b == 33) _ _ _ _ (tested (nat_lt (length cs) 255) (InEscape cs) fs gs k p (below_255 cs) f a) (atom_before_steps (Identifier cs) b fs gs k p good f a))
+    step_steps (InEscape cs) b fs gs k p good f a = goes (InName (cs ++ b ∷ [])) fs gs k p (name_longer cs b good) f a
+    step_steps (AfterSign c) b fs gs k p good f a = if_steps (is_digit b) _ _ _ _ (goes (InNumber (c == 45) (b - 48)) fs gs k p tt f a) (atom_before_steps (Identifier (c ∷ [])) b fs gs k p (omega arith, omega arith) f a)
+    step_steps (InNumber minus i) b fs gs k p good f a =
+        if_steps (is_digit b) _ _ _ _ (tested (if minus then nat_le (10 * i + (b - 48)) (2 ^ 59) else nat_lt (10 * i + (b - 48)) (2 ^ 59)) (InNumber minus (10 * i + (b - 48))) fs gs k p (λ e. tt) f a) (atom_before_steps (Integer (signed minus i)) b fs gs k p tt f a)
+    step_steps (InText cs) b fs gs k p good f a = if_steps (b == 34) _ _ _ _ (goes (AfterQuote cs) fs gs k p tt f a) (tested (nat_lt (length cs) 65535) (InText (cs ++ b ∷ [])) fs gs k p (λ e. tt) f a)
+    step_steps (AfterQuote cs) b fs gs k p good f a = if_steps (b == 34) _ _ _ _ (tested (nat_lt (length cs) 65535) (InText (cs ++ 34 ∷ [])) fs gs k p (λ e. tt) f a) (atom_before_steps (String cs) b fs gs k p tt f a)
+
+    -- ---- a text
+
+    after_ends : (d : Ended Stock V PairChain Stop) (e : Ended ReadingPlace Value Chain outcome.Stop) → EndsAs d e → OutcomesAs (ends_after d) (ends_after e)
+    after_ends d e (whole v u k p h a) = both_read v u k p [] h a
+    after_ends d e (inside fs gs k p f a) = both_refuse k p [] a
+    after_ends d e (lack why x k p h) = both_stop why x k p [] h
+    after_ends d e (first_lacks why k other h) = first_stops why k [] _ h
+
+    between_ends : (hi : ℕ) (fs : FramesL) (gs : FramesK) (k : Stock) (p : ReadingPlace) → FramesAs k hi fs gs → At k p → OutcomesAs (at_end_between fs k) (at_end_between gs p)
+    between_ends hi fs gs k p (no_frames hi') a = both_find_none k p a
+    between_ends hi fs gs k p (listing hi' lo l d i ph fs' gs' le e f) a = both_refuse k p [] a
+    between_ends hi fs gs k p (vectoring hi' lo l d fs' gs' le e f) a = both_refuse k p [] a
+    between_ends hi fs gs k p (quoting hi' fs' gs' f) a = both_refuse k p [] a
+
+    word_ends : (c : Atom) (fs : FramesL) (gs : FramesK) (k : Stock) (p : ReadingPlace) → IsMadeAtom w out c → Framed k fs gs → At k p → OutcomesAs (ends_after (atom_ended m c fs k)) (ends_after (atom_ended n c gs p))
+    word_ends c fs gs k p good f a = after_ends _ _ (atom_ends c fs gs k p good f a)
+
+    text_ends : (mode : Mode) (fs : FramesL) (gs : FramesK) (k : Stock) (p : ReadingPlace) → IsGoodMode mode → Framed k fs gs → At k p → OutcomesAs (at_end m mode fs k) (at_end n mode gs p)
+    text_ends Gap fs gs k p good f a = between_ends f.hi fs gs k p f.frames a
+    text_ends Comment fs gs k p good f a = between_ends f.hi fs gs k p f.frames a
+    text_ends (InName cs) fs gs k p good f a = word_ends (Identifier cs) fs gs k p good f a
+    text_ends (InEscape cs) fs gs k p good f a = both_refuse k p [] a
+    text_ends (AfterSign c) fs gs k p good f a = word_ends (Identifier (c ∷ [])) fs gs k p (omega arith, omega arith) f a
+    text_ends (InNumber minus i) fs gs k p good f a = word_ends (Integer (signed minus i)) fs gs k p tt f a
+    text_ends (InText cs) fs gs k p good f a = both_refuse k p [] a
+    text_ends (AfterQuote cs) fs gs k p good f a = word_ends (String cs) fs gs k p tt f a
+
+    after_steps : (b : ℕ) (bs : List ℕ) (x : ReaderStep Stock V PairChain Stop) (y : ReaderStep ReadingPlace Value Chain outcome.Stop) (c : Mode → FramesL → Stock → ReaderOutcome Stock V Stop) (d : Mode → FramesK → ReadingPlace → ReaderOutcome ReadingPlace Value outcome.Stop) → StepsAs x y
+        → ((mode : Mode) (fs : FramesL) (gs : FramesK) (k : Stock) (p : ReadingPlace) → IsGoodMode mode → Framed k fs gs → At k p → OutcomesAs (c mode fs k) (d mode gs p)) → OutcomesAs (after_step b bs x c) (after_step b bs y d)
+    after_steps b bs x y c d (goes mode fs gs k p good f a) next = next mode fs gs k p good f a
+    after_steps b bs x y c d (done v u used k p h a) next = both_read v u k p _ h a
+    after_steps b bs x y c d (refuses k p a) next = both_refuse k p _ a
+    after_steps b bs x y c d (halt why z k p h) next = both_stop why z k p _ h
+    after_steps b bs x y c d (first_halts why k other h) next = first_stops why k _ _ h
+
+    after_turns : (lo : ℕ) (bs : List ℕ) (from : Stock) (x : Made Stock (Unit {0}) Stop) (y : Made ReadingPlace (Unit {0}) outcome.Stop) (c : Stock → ReaderOutcome Stock V Stop) (d : ReadingPlace → ReaderOutcome ReadingPlace Value outcome.Stop) → MadeAlike lo from Any x y
+        → ((k : Stock) (p : ReadingPlace) → Onward lo from k → At k p → OutcomesAs (c k) (d p)) → OutcomesAs (after_turn bs x c) (after_turn bs y d)
+    after_turns lo bs from x y c d (both_have s t k p e a o) next = next k p o a
+    after_turns lo bs from x y c d (both_want why v k p h) next = both_stop why v k p bs h
+    after_turns lo bs from x y c d (first_wants why k other h) next = first_stops why k bs _ h
+
+    turn_alike : (lo : ℕ) (k : Stock) (p : ReadingPlace) → lo ≤ length k.cells.cells → At k p → MadeAlike lo k Any (turned turns k) (make (byte_turn turns) p)
+    turn_alike lo k p within a = alike lo k Any (turned turns k) (byte_turn turns) p (turn_makes w out laws ids turns k p.state a.0) (turn_stays lo k.cells.cells within turns k (keeps_same lo k.cells.cells)) a
+
+    from_alike : (bytes : List ℕ) (mode : Mode) (fs : FramesL) (gs : FramesK) (k : Stock) (p : ReadingPlace) → IsGoodMode mode → Framed k fs gs → At k p → OutcomesAs (read_from m mode fs k bytes) (read_from n mode gs p bytes)
+    from_alike [] mode fs gs k p good f a = text_ends mode fs gs k p good f a
+    from_alike (b ∷ bs) mode fs gs k p good f a =
+        after_turns f.hi bs k _ _ _ _ (turn_alike f.hi k p f.within a) (λ j q o a. after_steps b bs _ _ _ _ (step_steps mode b fs gs j q good (framed_on k j fs gs f o) a) (λ mode fs gs k p good f a. from_alike bs mode fs gs k p good f a))
+
+    pub reads_alike : (k : Stock) (p : ReadingPlace) (bytes : List ℕ) → At k p → OutcomesAs (read_by m k bytes) (read_by n p bytes)
+    reads_alike k p bytes a = from_alike bytes Gap [] [] k p tt (record { hi = 0; within = omega arith; frames = no_frames 0 }) a
