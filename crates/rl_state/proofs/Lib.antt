@@ -4,6 +4,7 @@ pub mod StockShown
 pub mod ChainsRise
 pub mod StockKept
 pub mod ReadingShown
+pub mod ReadingEnds
 pub mod Room
 pub mod Made
 pub mod Set
