@@ -5,6 +5,7 @@ pub mod ChainsRise
 pub mod StockKept
 pub mod ReadingShown
 pub mod ReadingEnds
+pub mod ReadingTied
 pub mod Room
 pub mod Made
 pub mod Set

@@ -1,0 +1,76 @@
+-- The world behind a form that was read shows the state with the input behind it.
+use Rattle.std.proofs.Common.{◌≡◌, ℕ, suc, ◌+◌, ◌-◌, ◌^◌, ◌<◌, ◌≤◌, Bool, true, false, if◌then◌else◌, List, [], ◌∷◌, ◌++◌, length, Option, Some, None, refl, sym, ap, subst, ◌∙◌, arith}
+use Rattle.std.proofs.lemmas.List.{length-append}
+use Rattle.rl_text.specs.Word.{Identifier, Integer, String, signed}
+use Rattle.rl_text.specs.Maker.{Made, Has, Wants, Maker}
+use Rattle.rl_text.specs.Reader.{ReaderFrame, Mode, Gap, Comment, InName, InEscape, AfterSign, InNumber, InText, AfterQuote, Ended, Whole, Inside, Lacks, ReaderStep, Goes, Done, Refuses, Halts, atom_ended, reader_step, ReaderOutcome, Read, NoneLeft, Refused, Stopped, ends_after, at_end_between, at_end, after_step, after_turn, read_from}
+use Rattle.rl_world.specs.Input.{with_back}
+use Rattle.rl_world.specs.declared.world.World.{World}
+use Rattle.rl_meaning.specs.Input.{with_input}
+use Rattle.rl_meaning.specs.State.{Outside, State}
+use Rattle.rl_read.specs.Stock.{stock_of}
+use Rattle.rl_state.specs.ShownState.{ShowsState}
+use Rattle.rl_state.proofs.Outer.{shows_outer}
+use Rattle.rl_state.proofs.StockShown.{stocked}
+
+-- ---- what is left is no longer than the text
+
+abbrev pub LeavesFew : {S V W : Type 0} → ReaderOutcome S V W → ℕ → Type 0
+LeavesFew (Read v s rest) n = length rest ≤ n
+LeavesFew (NoneLeft s) n = Unit {0}
+LeavesFew (Refused s from) n = length from ≤ n
+LeavesFew (Stopped why s rest) n = length rest ≤ n
+
+module _ {S V L W : Type 0} (m : Maker S V L W) where
+  few_more : (o : ReaderOutcome S V W) (i j : ℕ) → i ≤ j → LeavesFew o i → LeavesFew o j
+  few_more (Read v s rest) i j le h = omega (arith, le, h)
+  few_more (NoneLeft s) i j le h = tt
+  few_more (Refused s from) i j le h = omega (arith, le, h)
+  few_more (Stopped why s rest) i j le h = omega (arith, le, h)
+
+  ends_few : (d : Ended S V L W) (i : ℕ) → LeavesFew (ends_after d) i
+  ends_few (Whole v s) i = omega arith
+  ends_few (Inside fs s) i = omega arith
+  ends_few (Lacks why s) i = omega arith
+
+  between_few : (fs : List (ReaderFrame L)) (s : S) (i : ℕ) → LeavesFew {V = V} {W = W} (at_end_between fs s) i
+  between_few [] s i = tt
+  between_few (f ∷ fs) s i = omega arith
+
+  end_few : (mode : Mode) (fs : List (ReaderFrame L)) (s : S) (i : ℕ) → LeavesFew (at_end m mode fs s) i
+  end_few Gap fs s i = between_few fs s i
+  end_few Comment fs s i = between_few fs s i
+  end_few (InName cs) fs s i = ends_few (atom_ended m (Identifier cs) fs s) i
+  end_few (InEscape cs) fs s i = omega arith
+  end_few (AfterSign c) fs s i = ends_few (atom_ended m (Identifier (c ∷ [])) fs s) i
+  end_few (InNumber minus n) fs s i = ends_few (atom_ended m (Integer (signed minus n)) fs s) i
+  end_few (InText cs) fs s i = omega arith
+  end_few (AfterQuote cs) fs s i = ends_few (atom_ended m (String cs) fs s) i
+
+  step_few : (b : ℕ) (bs : List ℕ) (x : ReaderStep S V L W) (further : Mode → List (ReaderFrame L) → S → ReaderOutcome S V W) → ((mode : Mode) (fs : List (ReaderFrame L)) (s : S) → LeavesFew (further mode fs s) (length bs)) → LeavesFew (after_step b bs x further) (length (b ∷ bs))
+  step_few b bs (Goes mode fs s) further h = few_more (further mode fs s) (length bs) (length (b ∷ bs)) (omega arith) (h mode fs s)
+  step_few b bs (Done v true s) further h = omega arith
+  step_few b bs (Done v false s) further h = omega arith
+  step_few b bs (Refuses s) further h = omega arith
+  step_few b bs (Halts why s) further h = omega arith
+
+  turn_few : (b : ℕ) (bs : List ℕ) (x : Made S (Unit {0}) W) (further : S → ReaderOutcome S V W) → ((s : S) → LeavesFew (further s) (length (b ∷ bs))) → LeavesFew (after_turn bs x further) (length (b ∷ bs))
+  turn_few b bs (Has u s) further h = h s
+  turn_few b bs (Wants why s) further h = omega arith
+
+  pub reading_leaves_few : (bytes : List ℕ) (mode : Mode) (fs : List (ReaderFrame L)) (s : S) → LeavesFew (read_from m mode fs s bytes) (length bytes)
+  reading_leaves_few [] mode fs s = end_few mode fs s 0
+  reading_leaves_few (b ∷ bs) mode fs s = turn_few b bs (m.turn s) _ (λ s. step_few b bs (reader_step m mode b fs s) _ (λ mode fs s. reading_leaves_few bs mode fs s))
+
+-- ---- how many bytes were taken
+
+pub taken_so : (given given' back back' came rest input left : ℕ) → given + back + came < 2 ^ 64 → (given + back + came < 2 ^ 64 → given' + back' ≡ given + back + came) → input ≡ back + (came + rest) → left ≡ back' + rest → left ≤ input → given + (input - left) ≡ given'
+taken_so given given' back back' came rest input left few counted i l le = let c = counted few in omega (arith, c, i, l, le)
+
+-- what the world shows beside the input
+pub read_shows : (w x : World) (left : List ℕ) (t : State) → ShowsState (stocked w (stock_of x)) t → t.outside.taken + (length t.outside.input - length left) ≡ x.input.given
+    → x ≡ record w { cells = x.cells; syms = record w.syms { head = x.syms.head }; counts = x.counts; levels = x.levels; output = record w.output { waiting = x.output.waiting }; input = x.input }
+    → ShowsState x (with_input left t)
+read_shows w x left t h taken e =
+    subst (λ y. ShowsState y (with_input left t)) (sym e)
+    (shows_outer (stocked w (stock_of x)) x.levels (record w.output { waiting = x.output.waiting }) w.notes x.input t (with_input left t).outside t.watched h.column h.line_length taken h)
