@@ -1,6 +1,8 @@
 -- The world behind a form that was read shows the state with the input behind it.
 use Rattle.std.proofs.Common.{◌≡◌, ℕ, suc, ◌+◌, ◌-◌, ◌^◌, ◌<◌, ◌≤◌, Bool, true, false, if◌then◌else◌, List, [], ◌∷◌, ◌++◌, length, Option, Some, None, refl, sym, ap, subst, ◌∙◌, arith}
 use Rattle.std.proofs.lemmas.List.{length-append}
+use Rattle.std.specs.Prelude.{option_map}
+use Rattle.rl_io.specs.Told.{WhereTold}
 use Rattle.rl_text.specs.Word.{Identifier, Integer, String, signed}
 use Rattle.rl_text.specs.Maker.{Made, Has, Wants, Maker}
 use Rattle.rl_text.specs.Reader.{ReaderFrame, Mode, Gap, Comment, InName, InEscape, AfterSign, InNumber, InText, AfterQuote, Ended, Whole, Inside, Lacks, ReaderStep, Goes, Done, Refuses, Halts, atom_ended, reader_step, ReaderOutcome, Read, NoneLeft, Refused, Stopped, ends_after, at_end_between, at_end, after_step, after_turn, read_from}
@@ -9,7 +11,10 @@ use Rattle.rl_world.specs.declared.world.World.{World}
 use Rattle.rl_meaning.specs.Input.{with_input}
 use Rattle.rl_meaning.specs.State.{Outside, State}
 use Rattle.rl_read.specs.Stock.{stock_of}
+use Rattle.rl_read.specs.Taken.{Unread, came_of}
 use Rattle.rl_state.specs.ShownState.{ShowsState}
+use Rattle.rl_state.specs.Ties.{IsPrintedBefore, Ties, ToldAtStart, and_told}
+use Rattle.rl_state.proofs.ToldOn.{told_through}
 use Rattle.rl_state.proofs.Outer.{shows_outer}
 use Rattle.rl_state.proofs.StockShown.{stocked}
 
@@ -74,3 +79,58 @@ pub read_shows : (w x : World) (left : List ℕ) (t : State) → ShowsState (sto
 read_shows w x left t h taken e =
     subst (λ y. ShowsState y (with_input left t)) (sym e)
     (shows_outer (stocked w (stock_of x)) x.levels (record w.output { waiting = x.output.waiting }) w.notes x.input t (with_input left t).outside t.watched h.column h.line_length taken h)
+
+-- ---- what is told
+
+printed_same : (a o p : Option (List ℕ)) (u v out : List ℕ) → IsPrintedBefore a o u out → WhereTold (option_map (λ b. b ++ u) o) (option_map (λ b. b ++ v) p) (λ before now. now ≡ before) → IsPrintedBefore a p v out
+printed_same None o p u v out h f = tt
+printed_same (Some a) None p u v out h f = absurd h
+printed_same (Some a) (Some o) None u v out h f = absurd f
+printed_same (Some a) (Some o) (Some p) u v out h f = h ∙ sym f
+
+tail_of : List ℕ → List ℕ
+tail_of [] = []
+tail_of (x ∷ xs) = xs
+
+same_rest : (xs ys zs : List ℕ) → xs ++ ys ≡ xs ++ zs → ys ≡ zs
+unfolding tail_of
+same_rest [] ys zs e = e
+same_rest (x ∷ xs) ys zs e = same_rest xs ys zs (ap tail_of e)
+
+left_same : (a i j : Option (List ℕ)) (bytes rest : List ℕ) → WhereTold a i (λ before left. left ≡ bytes ++ rest) → WhereTold i j (λ before now. before ≡ bytes ++ now) → WhereTold a j (λ before left. left ≡ rest)
+left_same a i j bytes rest h f = told_through a i j _ _ _ (λ x y z p q. same_rest bytes z rest (sym q ∙ p)) h f
+
+back_long : (back : Option ℕ) (rest : List ℕ) → length (with_back back rest) ≡ length (with_back back []) + length rest
+back_long None rest = omega arith
+back_long (Some b) rest = omega arith
+
+abbrev pub unread_of : World → Option (List ℕ) → Unread
+unread_of w i = record { returned = w.input.back; given = w.input.given; ended = w.input.ended; left = i }
+
+-- the world behind the bytes that were taken ties to the state with the input behind them
+pub read_ties : (w x : World) (at : ToldAtStart) (o p n q i j : Option (List ℕ)) (bytes rest : List ℕ) (s t : State) → Ties at (and_told w o n i) (bytes ++ rest) s → (x.input.ended ≡ true → rest ≡ [])
+    → ShowsState (stocked w (stock_of x)) t → t.outside ≡ s.outside → length (with_back x.input.back rest) ≤ length s.outside.input
+    → x ≡ record w { cells = x.cells; syms = record w.syms { head = x.syms.head }; counts = x.counts; levels = x.levels; output = record w.output { waiting = x.output.waiting }; input = x.input }
+    → (came_of (unread_of w i) + length bytes < 2 ^ 64 → came_of (unread_of x j) ≡ came_of (unread_of w i) + length bytes)
+    → WhereTold i j (λ before now. before ≡ bytes ++ now) → WhereTold (option_map (λ b. b ++ w.output.waiting) o) (option_map (λ b. b ++ x.output.waiting) p) (λ before now. now ≡ before) → q ≡ n
+    → Ties at (and_told x p q j) rest (with_input (with_back x.input.back rest) t)
+read_ties w x at o p n q i j bytes rest s t h only shown beside le keeps counted told printed same =
+    let left = with_back x.input.back rest in
+    let both = length-append bytes rest in
+    let long = ap (λ (l : List ℕ). length l) h.input ∙ back_long w.input.back (bytes ++ rest) in
+    let ends = back_long x.input.back rest in
+    let few = h.few in
+    let start = h.shows.taken in
+    let fits : came_of (unread_of w i) + length bytes < 2 ^ 64 = omega (arith, few, start, long, both) in
+    let count = counted fits in
+    let came : s.outside.taken + (length s.outside.input - length left) ≡ x.input.given = omega (arith, count, start, long, both, ends, le) in
+    let taken : t.outside.taken + (length t.outside.input - length left) ≡ x.input.given = ap (λ (y : Outside). y.taken + (length y.input - length left)) beside ∙ came in
+    record {
+      shows = read_shows w x left t shown taken keeps;
+      output = subst (λ (y : Outside). IsPrintedBefore at.out p x.output.waiting y.output) (sym beside) (printed_same at.out o p w.output.waiting x.output.waiting s.outside.output h.output printed);
+      notes = subst (λ (y : Outside). IsPrintedBefore at.notes q x.notes y.notes) (sym beside) (subst (λ l. IsPrintedBefore at.notes l x.notes s.outside.notes) (sym same) (subst (λ (l : List ℕ). IsPrintedBefore at.notes n l s.outside.notes) (sym (ap (λ (y : World). y.notes) keeps)) h.notes));
+      input = refl;
+      left = left_same at.source i j bytes rest h.left told;
+      ended = only;
+      few = omega (arith, taken, count, few, start, long, both, ends);
+    }
