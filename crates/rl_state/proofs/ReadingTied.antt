@@ -3,17 +3,28 @@ use Rattle.std.proofs.Common.{◌≡◌, ℕ, suc, ◌+◌, ◌-◌, ◌^◌, �
 use Rattle.std.proofs.lemmas.List.{length-append}
 use Rattle.std.specs.Prelude.{option_map}
 use Rattle.rl_io.specs.Told.{WhereTold}
+use Rattle.rl_tags.specs.Tagged.{Tagged}
+use Rattle.rl_cells.specs.Cell.{IsClosed}
+use Rattle.rl_syms.specs.Contents.{value_of}
+use Rattle.rl_syms.specs.Laws.{AreIdentifiers}
 use Rattle.rl_text.specs.Word.{Identifier, Integer, String, signed}
 use Rattle.rl_text.specs.Maker.{Made, Has, Wants, Maker}
-use Rattle.rl_text.specs.Reader.{ReaderFrame, Mode, Gap, Comment, InName, InEscape, AfterSign, InNumber, InText, AfterQuote, Ended, Whole, Inside, Lacks, ReaderStep, Goes, Done, Refuses, Halts, atom_ended, reader_step, ReaderOutcome, Read, NoneLeft, Refused, Stopped, ends_after, at_end_between, at_end, after_step, after_turn, read_from}
+use Rattle.rl_text.specs.Reader.{ReaderFrame, Mode, Gap, Comment, InName, InEscape, AfterSign, InNumber, InText, AfterQuote, Ended, Whole, Inside, Lacks, ReaderStep, Goes, Done, Refuses, Halts, atom_ended, reader_step, ReaderOutcome, Read, NoneLeft, Refused, Stopped, ends_after, at_end_between, at_end, after_step, after_turn, read_by, read_from}
 use Rattle.rl_world.specs.Input.{with_back}
 use Rattle.rl_world.specs.declared.world.World.{World}
-use Rattle.rl_meaning.specs.Input.{with_input}
+use Rattle.rl_meaning.specs.Input.{Form, with_input}
 use Rattle.rl_meaning.specs.State.{Outside, State}
-use Rattle.rl_read.specs.Stock.{stock_of}
-use Rattle.rl_read.specs.Taken.{Unread, came_of}
+use Rattle.rl_read.specs.Stock.{in_stock, stock_of}
+use Rattle.rl_read.specs.Frames.{CanMake}
+use Rattle.rl_world.specs.Bounds.{IsMakingCounted}
+use Rattle.rl_read.specs.Taken.{TakesBytes, Unread, came_of}
 use Rattle.rl_state.specs.ShownState.{ShowsState}
-use Rattle.rl_state.specs.Ties.{IsPrintedBefore, Ties, ToldAtStart, and_told}
+use Rattle.rl_state.specs.Ties.{IsPrintedBefore, TakesInput, Ties, ToldAtStart, and_told}
+use Rattle.rl_state.specs.CellLaws.{AreCellLaws}
+use Rattle.rl_state.specs.Descents.{levels_shown}
+use Rattle.rl_state.specs.ReadsAs.{ReadsTo}
+use Rattle.rl_state.specs.Worlds.{IsWorld}
+use Rattle.rl_state.proofs.ReadingEnds.{form_read}
 use Rattle.rl_state.proofs.ToldOn.{told_through}
 use Rattle.rl_state.proofs.Outer.{shows_outer}
 use Rattle.rl_state.proofs.StockShown.{stocked}
@@ -134,3 +145,25 @@ read_ties w x at o p n q i j bytes rest s t h only shown beside le keeps counted
       ended = only;
       few = omega (arith, taken, count, few, start, long, both, ends);
     }
+
+-- a form that was read of the input
+pub form_takes : AreCellLaws → AreIdentifiers → (w x : World) (o p n q i j : Option (List ℕ)) (v : Tagged) → IsWorld w → IsClosed w.cells.cells
+    → x ≡ record w { cells = x.cells; syms = record w.syms { head = x.syms.head }; counts = x.counts; levels = x.levels; output = record w.output { waiting = x.output.waiting }; input = x.input }
+    → WhereTold (option_map (λ b. b ++ w.output.waiting) o) (option_map (λ b. b ++ x.output.waiting) p) (λ before now. now ≡ before) → q ≡ n
+    → TakesBytes (unread_of w i) (unread_of x j) (λ before now. read_by (in_stock true) (stock_of w) before ≡ Read v (stock_of x) now)
+    → TakesInput (and_told w o n i) (and_told x p q j) (λ at rest s. ReadsTo (levels_shown w) (Form (value_of x.cells.cells v) (with_back x.input.back rest)) (with_back x.input.back rest) (and_told x p q j) at rest s)
+form_takes laws ids w x o p n q i j v world closed keeps printed same h = record {
+  bytes = h.bytes;
+  told = h.told;
+  dry = h.dry;
+  ended = h.ended;
+  means = λ at rest s t only.
+      let left = with_back x.input.back rest in
+      let is : read_by (in_stock true) (stock_of w) s.outside.input ≡ Read v (stock_of x) left = subst (λ (l : List ℕ). read_by (in_stock true) (stock_of w) l ≡ Read v (stock_of x) left) (sym t.input) (h.means rest only) in
+      let e = form_read laws ids true w world closed s t.shows s.outside.input v (stock_of x) left is in
+      let few : length left ≤ length s.outside.input = subst (λ y. LeavesFew y (length s.outside.input)) is (reading_leaves_few (in_stock true) s.outside.input Gap [] (stock_of w)) in
+      (e.state, e.is, read_ties w x at o p n q i j h.bytes rest s e.state t only e.stands.shows e.stands.outside few keeps h.counted h.told printed same);
+}
+
+pub can_make : (w : World) → IsWorld w → CanMake w
+can_make w i = record { table = i.table; bounds = i.running.bounds; counted = subst (λ a. IsMakingCounted a w.counts.outermost w.cells.mark) (sym i.running.together) tt }
