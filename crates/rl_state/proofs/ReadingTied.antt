@@ -1,6 +1,6 @@
 -- The world behind a form that was read shows the state with the input behind it.
-use Rattle.std.proofs.Common.{◌≡◌, ℕ, suc, ◌+◌, ◌-◌, ◌^◌, ◌<◌, ◌≤◌, Bool, true, false, if◌then◌else◌, List, [], ◌∷◌, ◌++◌, length, Option, Some, None, refl, sym, ap, subst, ◌∙◌, arith}
-use Rattle.std.proofs.lemmas.List.{length-append}
+use Rattle.std.proofs.Common.{◌≡◌, ℕ, suc, ◌+◌, ◌-◌, ◌^◌, ◌<◌, ◌≤◌, Bool, true, false, if◌then◌else◌, List, [], ◌∷◌, ◌++◌, drop, length, min, Option, Some, None, refl, sym, ap, subst, ◌∙◌, arith}
+use Rattle.std.proofs.lemmas.List.{length-append, length-drop}
 use Rattle.std.specs.Prelude.{option_map}
 use Rattle.rl_io.specs.Told.{WhereTold}
 use Rattle.rl_tags.specs.Tagged.{Tagged}
@@ -12,9 +12,11 @@ use Rattle.rl_text.specs.Maker.{Made, Has, Wants, Maker}
 use Rattle.rl_text.specs.Reader.{ReaderFrame, Mode, Gap, Comment, InName, InEscape, AfterSign, InNumber, InText, AfterQuote, Ended, Whole, Inside, Lacks, ReaderStep, Goes, Done, Refuses, Halts, atom_ended, reader_step, ReaderOutcome, Read, NoneLeft, Refused, Stopped, ends_after, at_end_between, at_end, after_step, after_turn, read_by, read_from}
 use Rattle.rl_world.specs.Input.{with_back}
 use Rattle.rl_world.specs.declared.world.World.{World}
-use Rattle.rl_meaning.specs.Input.{Form, with_input}
+use Rattle.rl_meaning.specs.Input.{Form, Unreadable, with_input}
+use Rattle.rl_meaning.specs.Outcome as outcome
 use Rattle.rl_meaning.specs.State.{Outside, State}
-use Rattle.rl_read.specs.Stock.{in_stock, stock_of}
+use Rattle.rl_read.specs.Stock.{Stock, in_stock, stock_of}
+use Rattle.rl_read.specs.Reads.{IsRefusedText}
 use Rattle.rl_read.specs.Frames.{CanMake}
 use Rattle.rl_world.specs.Bounds.{IsMakingCounted}
 use Rattle.rl_read.specs.Taken.{TakesBytes, Unread, came_of}
@@ -22,9 +24,9 @@ use Rattle.rl_state.specs.ShownState.{ShowsState}
 use Rattle.rl_state.specs.Ties.{IsPrintedBefore, TakesInput, Ties, ToldAtStart, and_told}
 use Rattle.rl_state.specs.CellLaws.{AreCellLaws}
 use Rattle.rl_state.specs.Descents.{levels_shown}
-use Rattle.rl_state.specs.ReadsAs.{ReadsTo}
+use Rattle.rl_state.specs.ReadsAs.{ReadsNone, ReadsTo}
 use Rattle.rl_state.specs.Worlds.{IsWorld}
-use Rattle.rl_state.proofs.ReadingEnds.{form_read}
+use Rattle.rl_state.proofs.ReadingEnds.{form_read, refused_read}
 use Rattle.rl_state.proofs.ToldOn.{told_through}
 use Rattle.rl_state.proofs.Outer.{shows_outer}
 use Rattle.rl_state.proofs.StockShown.{stocked}
@@ -167,3 +169,31 @@ form_takes laws ids w x o p n q i j v world closed keeps printed same h = record
 
 pub can_make : (w : World) → IsWorld w → CanMake w
 can_make w i = record { table = i.table; bounds = i.running.bounds; counted = subst (λ a. IsMakingCounted a w.counts.outermost w.cells.mark) (sym i.running.together) tt }
+
+least : (a : ℕ) → a < 2 ^ 64 → min a (2 ^ 64 - 1) ≡ a
+least a l = omega (arith, l)
+
+-- a text of the input that was refused: at this byte, behind which the input stands
+pub refused_takes : AreCellLaws → AreIdentifiers → (w x : World) (o p n q i j : Option (List ℕ)) (k : ℕ) → IsWorld w → IsClosed w.cells.cells
+    → x ≡ record w { cells = x.cells; syms = record w.syms { head = x.syms.head }; counts = x.counts; levels = x.levels; output = record w.output { waiting = x.output.waiting }; input = x.input }
+    → WhereTold (option_map (λ b. b ++ w.output.waiting) o) (option_map (λ b. b ++ x.output.waiting) p) (λ before now. now ≡ before) → q ≡ n
+    → TakesBytes (unread_of w i) (unread_of x j) (λ before now. IsRefusedText true w x before now k)
+    → TakesInput (and_told w o n i) (and_told x p q j) (λ at rest s. ReadsNone (levels_shown w) k (with_back x.input.back rest) (and_told x p q j) at rest s)
+refused_takes laws ids w x o p n q i j k world closed keeps printed same h = record {
+  bytes = h.bytes;
+  told = h.told;
+  dry = h.dry;
+  ended = h.ended;
+  means = λ at rest s t only.
+      let left = with_back x.input.back rest in
+      let r : IsRefusedText true w x s.outside.input left k = subst (λ (l : List ℕ). IsRefusedText true w x l left k) (sym t.input) (h.means rest only) in
+      let e = refused_read laws ids true w world closed s t.shows s.outside.input r.made r.from r.refused in
+      let shows : ShowsState (stocked w (stock_of x)) e.state = subst (λ (m : Stock). ShowsState (stocked w m) e.state) r.stays e.stands.shows in
+      let from_few : length r.from ≤ length s.outside.input = subst (λ y. LeavesFew y (length s.outside.input)) r.refused (reading_leaves_few (in_stock true) s.outside.input Gap [] (stock_of w)) in
+      let dropped = length-drop 1 r.from in
+      let behind = ap (λ (l : List ℕ). length l) r.given in
+      let few : length left ≤ length s.outside.input = omega (arith, from_few, dropped, behind) in
+      let all = t.few in
+      let number : k ≡ length s.outside.input - length r.from = r.place ∙ least (length s.outside.input - length r.from) (omega (arith, all)) in
+      (r.from, r.given, e.state, e.is ∙ ap (λ m. outcome.Done (Unreadable m r.from) e.state) (sym number), read_ties w x at o p n q i j h.bytes rest s e.state t only shows e.stands.outside few keeps h.counted h.told printed same);
+}
