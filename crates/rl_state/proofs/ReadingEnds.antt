@@ -1,8 +1,8 @@
 -- How the definition's reading of a text ends where reading in a world ends: with the form, at the end, at the byte that is refused, or with the stop.
-use Rattle.std.proofs.Common.{◌≡◌, ℕ, ◌-◌, ◌^◌, ◌<◌, ◌≤◌, Bool, List, length, refl, sym, ap, subst, ◌∙◌, arith}
+use Rattle.std.proofs.Common.{◌≡◌, ℕ, ◌-◌, ◌^◌, ◌≤◌, Bool, List, length, refl, sym, ap, subst, ◌∙◌, arith}
 use Rattle.rl_tags.specs.Tagged.{Tagged}
 use Rattle.rl_tree.specs.Value.{Value}
-use Rattle.rl_cells.specs.Cell.{Cell, IsClosed}
+use Rattle.rl_cells.specs.Cell.{IsClosed}
 use Rattle.rl_syms.specs.Contents.{value_of}
 use Rattle.rl_syms.specs.Laws.{AreIdentifiers}
 use Rattle.rl_text.specs.Reader.{ReaderOutcome, Read, NoneLeft, Refused, Stopped, read_by}

@@ -1,11 +1,11 @@
 -- A text is read in a stock as the definition reads it in a state that the world of the stock shows: byte by byte, from lists that have begun alike, each made behind those around it.
-use Rattle.std.proofs.Common.{◌≡◌, ℕ, zero, suc, ◌^◌, ◌+◌, ◌-◌, ◌*◌, ◌<◌, ◌≤◌, ◌==◌, nat_lt, nat_le, Bool, true, false, if◌then◌else◌, List, [], ◌∷◌, ◌++◌, length, Option, Some, None, refl, sym, ap, subst, ◌∙◌, arith}
+use Rattle.std.proofs.Common.{◌≡◌, ℕ, zero, suc, ◌^◌, ◌+◌, ◌-◌, ◌*◌, ◌<◌, ◌≤◌, ◌==◌, nat_lt, nat_le, Bool, true, false, if◌then◌else◌, List, [], ◌∷◌, ◌++◌, length, Some, None, refl, sym, ap, subst, ◌∙◌, arith}
 use Rattle.std.proofs.lemmas.Bool.{leb-true, leb-false, ltb-true}
 use Rattle.std.proofs.lemmas.List.{length-append}
-use Rattle.rl_tags.specs.Tagged.{Tagged, PairAt, VectorAt}
+use Rattle.rl_tags.specs.Tagged.{Tagged, VectorAt}
 use Rattle.rl_tree.specs.Bytes.{is_digit, is_name_byte, raised}
 use Rattle.rl_tree.specs.Value.{Value}
-use Rattle.rl_cells.specs.Cell.{Cell, VectorCell, cell_at, cdr_in, is_pair}
+use Rattle.rl_cells.specs.Cell.{Cell, VectorCell, cdr_in}
 use Rattle.rl_syms.specs.Laws.{AreIdentifiers}
 use Rattle.rl_syms.specs.Table.{nil_value}
 use Rattle.rl_text.specs.Byte.{Mark, Open, Close, Dot, Quote, OpenVector, CloseVector, Class, Blank, Percent, Marks, Text, Escape, Letter, Digit, Sign, Special, Nothing, class_of}
@@ -21,15 +21,15 @@ use Rattle.rl_meaning.specs.Outcome as outcome
 use Rattle.rl_meaning.specs.Outcome.{Outcome}
 use Rattle.rl_meaning.specs.State.{Outside, State}
 use Rattle.rl_meaning.specs.Symbols.{nil_value_of_state}
-use Rattle.rl_read.specs.Stock.{PairChain, Stock, atom_made, chain_ended, chain_extended, elements_of, entered, entered_at, first_of_chain, in_stock, level_left, object_made, quote_made, turned, vector_made, vector_with}
+use Rattle.rl_read.specs.Stock.{PairChain, Stock, chain_ended, chain_extended, elements_of, entered, entered_at, first_of_chain, in_stock, level_left, object_made, turned, vector_made}
 use Rattle.rl_state.specs.CellLaws.{AreCellLaws}
 use Rattle.rl_state.specs.Ending.{stop_in}
 use Rattle.rl_state.specs.Worlds.{WorldGrows}
-use Rattle.rl_state.proofs.ChainsRise.{EndsWithin, IsLastPair, IsOpenIn, IsRising, open_ends, rises_kept}
+use Rattle.rl_state.proofs.ChainsRise.{EndsWithin, IsLastPair, IsOpenIn, open_ends, rises_kept}
 use Rattle.rl_state.proofs.Closed.{pair_inside}
 use Rattle.rl_state.proofs.Made.{grows_refl}
 use Rattle.rl_state.proofs.StockKept.{HangsWell, IsLastIn, KeepsTo, ShutWell, Stays, atom_stays, ended_stays, extended_hangs, keeps_less, keeps_on, keeps_same, quote_stays, turn_stays, vector_stays}
-use Rattle.rl_state.proofs.StockShown.{EntersAs, IsChainAs, IsMadeAtom, IsShownAs, MakesAs, PlacesAs, StandsAs, atom_makes, chain_stays, ended_makes, enter_makes, extended_makes, first_shown, is_shown, leave_makes, nil_shown, quote_makes, shown_stays, stocked, turn_makes, vector_makes}
+use Rattle.rl_state.proofs.StockShown.{EntersAs, IsChainAs, IsMadeAtom, IsShownAs, MakesAs, PlacesAs, atom_makes, chain_stays, ended_makes, enter_makes, extended_makes, first_shown, is_shown, leave_makes, nil_shown, quote_makes, shown_stays, stocked, turn_makes, vector_makes}
 use Rattle.rl_state.proofs.Steps.{grows_trans}
 
 -- what a word has so far may become a name
@@ -193,7 +193,6 @@ module _ (w : World) (out : Outside) (laws : AreCellLaws) (ids : AreIdentifiers)
   goes_after_steps d e (inside fs gs k p f at) = goes Gap fs gs k p tt f at
   goes_after_steps d e (lack why x k p h) = halt why x k p h
   goes_after_steps d e (first_lacks why k other h) = first_halts why k _ h
-
 
   abbrev Any : Stock → Unit {0} → Unit {0} → Type 0
   Any k a b = Unit {0}
