@@ -1,4 +1,11 @@
 pub mod Kept
+pub mod Closed
+pub mod StockShown
+pub mod ChainsRise
+pub mod StockKept
+pub mod ReadingShown
+pub mod ReadingEnds
+pub mod ReadingTied
 pub mod Room
 pub mod Made
 pub mod Set

@@ -9,3 +9,4 @@ pub mod Ties
 pub mod BareStates
 pub mod TiesLaws
 pub mod Prints
+pub mod ReadsAs

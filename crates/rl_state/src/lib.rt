@@ -11,6 +11,7 @@ mod objects;
 mod opening;
 mod outside;
 mod printing;
+mod reading;
 mod turns;
 mod variables;
 
@@ -27,5 +28,6 @@ pub use objects::{
 pub use opening::{open, opened};
 pub use outside::{flush, next_byte, note_byte, peek, put_back, put_byte};
 pub use printing::{print1, print2};
+pub use reading::read;
 pub use turns::turn;
 pub use variables::{cell, set_cell};
