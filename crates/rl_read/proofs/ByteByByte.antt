@@ -223,8 +223,8 @@ module _ (turns turns_now : Bool) (same : turns_now ≡ turns) (start old new : 
     pub told_whole : (v : Tagged) (made : Stock) → at_end (in_stock turns) m (frames_in base new group) (stock_of new) ≡ Read v made [] → TakesBytes a (left i) (λ before now. read_by (in_stock turns) (stock_of start) before ≡ Read v made now)
     told_whole v made e = told_end (λ before now. read_by (in_stock turns) (stock_of start) before ≡ Read v made now) (λ before mid now goes g. end_whole turns start m (frames_in base old group) (stock_of old) count before mid goes now v made g (ends ∙ e))
 
-    pub told_none : (made : Stock) → at_end (in_stock turns) m (frames_in base new group) (stock_of new) ≡ NoneLeft made → TakesBytes a (left i) (λ before now. read_by (in_stock turns) (stock_of start) before ≡ NoneLeft made)
-    told_none made e = told_end (λ before now. read_by (in_stock turns) (stock_of start) before ≡ NoneLeft made) (λ before mid now goes g. end_read turns start m (frames_in base old group) (stock_of old) count before mid goes now (NoneLeft made) g (ends ∙ e))
+    pub told_none : (made : Stock) → at_end (in_stock turns) m (frames_in base new group) (stock_of new) ≡ NoneLeft made → TakesBytes a (left i) (λ before now. (now ≡ []) × (read_by (in_stock turns) (stock_of start) before ≡ NoneLeft made))
+    told_none made e = told_end (λ before now. (now ≡ []) × (read_by (in_stock turns) (stock_of start) before ≡ NoneLeft made)) (λ before mid now goes g. (g.1, end_read turns start m (frames_in base old group) (stock_of old) count before mid goes now (NoneLeft made) g (ends ∙ e)))
 
     pub told_end_refused : (last : World) (k : ℕ) → (k ≡ count) × IsRefusal last (λ t. at_end (in_stock t) m (frames_in base new group) (stock_of new)) [] → TakesBytes a (left i) (λ before now. IsRefusedText turns start last before now k)
     told_end_refused last k r = told_end (λ before now. IsRefusedText turns start last before now k) (λ before mid now goes g. end_refused turns start m (frames_in base old group) (stock_of old) count before mid goes now last (λ t. at_end (in_stock t) m (frames_in base new group) (stock_of new)) k g ends r.1 r.0)

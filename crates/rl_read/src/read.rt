@@ -49,7 +49,7 @@ pub fn read_form<T: Bytes>(w: &mut World, text: &mut T) -> Result<Val, ReadFault
     requires { CanMake w.old }
     ensures ok { IfOk result (λ v. TakesBytes (T.unread text.old w.old.input) (T.unread text.new w.new.input) (λ before now. read_by (in_stock (T.takes_turns text.old)) (stock_of w.old) before ≡ Read v (stock_of w.new) now)) }
     ensures syntax { (k : ℕ) → result ≡ Err (fault.Syntax k) → TakesBytes (T.unread text.old w.old.input) (T.unread text.new w.new.input) (λ before now. IsRefusedText (T.takes_turns text.old) w.old w.new before now k) }
-    ensures end { result ≡ Err fault.End → TakesBytes (T.unread text.old w.old.input) (T.unread text.new w.new.input) (λ before now. read_by (in_stock (T.takes_turns text.old)) (stock_of w.old) before ≡ NoneLeft (stock_of w.new)) }
+    ensures end { result ≡ Err fault.End → TakesBytes (T.unread text.old w.old.input) (T.unread text.new w.new.input) (λ before now. (now ≡ []) × (read_by (in_stock (T.takes_turns text.old)) (stock_of w.old) before ≡ NoneLeft (stock_of w.new))) }
     ensures stop { (s : Stop) → result ≡ Err (fault.Stop s) → is_fault s ≡ false → TakesBytes (T.unread text.old w.old.input) (T.unread text.new w.new.input) (λ before now. IsStoppedText (T.takes_turns text.old) w.old w.new before now s) }
     ensures counted { (s : Stop) → result ≡ Err (fault.Stop s) → is_fault s ≡ false → is_counted s ≡ true }
     ensures printed { result ≢ Err (fault.Stop stop.Write) → WhereTold (T.printed text.old w.old.output.waiting) (T.printed text.new w.new.output.waiting) (λ before now. now ≡ before) }

@@ -12,7 +12,7 @@ use Rattle.rl_text.specs.Maker.{Made, Has, Wants, Maker}
 use Rattle.rl_text.specs.Reader.{ReaderFrame, Mode, Gap, Comment, InName, InEscape, AfterSign, InNumber, InText, AfterQuote, Ended, Whole, Inside, Lacks, ReaderStep, Goes, Done, Refuses, Halts, atom_ended, reader_step, ReaderOutcome, Read, NoneLeft, Refused, Stopped, ends_after, at_end_between, at_end, after_step, after_turn, read_by, read_from}
 use Rattle.rl_world.specs.Input.{with_back}
 use Rattle.rl_world.specs.declared.world.World.{World}
-use Rattle.rl_meaning.specs.Input.{Form, Unreadable, with_input}
+use Rattle.rl_meaning.specs.Input.{End, Form, Unreadable, with_input}
 use Rattle.rl_meaning.specs.Outcome as outcome
 use Rattle.rl_meaning.specs.State.{Outside, State}
 use Rattle.rl_read.specs.Stock.{Stock, in_stock, stock_of}
@@ -26,7 +26,7 @@ use Rattle.rl_state.specs.CellLaws.{AreCellLaws}
 use Rattle.rl_state.specs.Descents.{levels_shown}
 use Rattle.rl_state.specs.ReadsAs.{ReadsNone, ReadsTo}
 use Rattle.rl_state.specs.Worlds.{IsWorld}
-use Rattle.rl_state.proofs.ReadingEnds.{form_read, refused_read}
+use Rattle.rl_state.proofs.ReadingEnds.{form_read, none_read, refused_read}
 use Rattle.rl_state.proofs.ToldOn.{told_through}
 use Rattle.rl_state.proofs.Outer.{shows_outer}
 use Rattle.rl_state.proofs.StockShown.{stocked}
@@ -165,6 +165,27 @@ form_takes laws ids w x o p n q i j v world closed keeps printed same h = record
       let e = form_read laws ids true w world closed s t.shows s.outside.input v (stock_of x) left is in
       let few : length left ≤ length s.outside.input = subst (λ y. LeavesFew y (length s.outside.input)) is (reading_leaves_few (in_stock true) s.outside.input Gap [] (stock_of w)) in
       (e.state, e.is, read_ties w x at o p n q i j h.bytes rest s e.state t only e.stands.shows e.stands.outside few keeps h.counted h.told printed same);
+}
+
+-- where nothing but blanks and comments was left of the input
+pub end_takes : AreCellLaws → AreIdentifiers → (w x : World) (o p n q i j : Option (List ℕ)) → IsWorld w → IsClosed w.cells.cells
+    → x ≡ record w { cells = x.cells; syms = record w.syms { head = x.syms.head }; counts = x.counts; levels = x.levels; output = record w.output { waiting = x.output.waiting }; input = x.input }
+    → WhereTold (option_map (λ b. b ++ w.output.waiting) o) (option_map (λ b. b ++ x.output.waiting) p) (λ before now. now ≡ before) → q ≡ n
+    → TakesBytes (unread_of w i) (unread_of x j) (λ before now. (now ≡ []) × (read_by (in_stock true) (stock_of w) before ≡ NoneLeft (stock_of x)))
+    → TakesInput (and_told w o n i) (and_told x p q j) (λ at rest s. ReadsTo (levels_shown w) End [] (and_told x p q j) at rest s)
+end_takes laws ids w x o p n q i j world closed keeps printed same h = record {
+  bytes = h.bytes;
+  told = h.told;
+  dry = h.dry;
+  ended = h.ended;
+  means = λ at rest s t only.
+      let left = with_back x.input.back rest in
+      let both : (left ≡ []) × (read_by (in_stock true) (stock_of w) (with_back w.input.back (h.bytes ++ rest)) ≡ NoneLeft (stock_of x)) = h.means rest only in
+      let is : read_by (in_stock true) (stock_of w) s.outside.input ≡ NoneLeft (stock_of x) = subst (λ (l : List ℕ). read_by (in_stock true) (stock_of w) l ≡ NoneLeft (stock_of x)) (sym t.input) both.1 in
+      let e = none_read laws ids true w world closed s t.shows s.outside.input (stock_of x) is in
+      let none = ap (λ (l : List ℕ). length l) both.0 in
+      let few : length left ≤ length s.outside.input = omega (arith, none) in
+      (e.state, e.is, subst (λ (l : List ℕ). Ties at (and_told x p q j) rest (with_input l e.state)) both.0 (read_ties w x at o p n q i j h.bytes rest s e.state t only e.stands.shows e.stands.outside few keeps h.counted h.told printed same));
 }
 
 pub can_make : (w : World) → IsWorld w → CanMake w

@@ -1,5 +1,6 @@
 -- That a call reads what the definition reads.
 use Rattle.std.specs.Prelude.{◌≡◌, List, ℕ, drop, true}
+use Rattle.rl_io.specs.declared.traits.Io.{Io}
 use Rattle.rl_meaning.specs.Input.{FormReading, Unreadable, read_bytes, with_input}
 use Rattle.rl_meaning.specs.Outcome.{Done, Levels}
 use Rattle.rl_meaning.specs.State.{State}
@@ -12,3 +13,10 @@ ReadsTo levels reading left e at rest s = (t : State) × (read_bytes true levels
 -- the text is refused at the byte of this number, and these bytes are left behind it
 abbrev pub ReadsNone : Levels → ℕ → List ℕ → WorldAndTold → ToldAtStart → List ℕ → State → Type 0
 ReadsNone levels k left e at rest s = (from : List ℕ) × (left ≡ drop 1 from) × (t : State) × (read_bytes true levels s.outside.input s ≡ Done (Unreadable k from) t) × Ties at e rest (with_input left t)
+
+-- of the objects the input and the output alone change, each by the same reference
+pub record KeepsNotesAndFiles {I O N F : Type 0} (before now : Io I O N F) : Type 0 where
+  pub notes : now.notes ≡ before.notes
+  pub files : now.files ≡ before.files
+  pub same_input : now.input.ghost_name ≡ before.input.ghost_name
+  pub same_out : now.out.ghost_name ≡ before.out.ghost_name

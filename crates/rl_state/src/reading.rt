@@ -1,15 +1,15 @@
 //! Reading, in the words of the definition.
-ghost use Rattle.std.specs.Prelude.{◌≡◌, ◌≢◌, ℕ, Err, IfOk, IsTrue};
+ghost use Rattle.std.specs.Prelude.{[], ◌≡◌, ◌≢◌, ℕ, Err, IfOk, IsTrue};
 ghost use Rattle.rl_io.specs.Faults.{Rose};
 ghost use Rattle.rl_cells.specs.Cell.{is_live};
 ghost use Rattle.rl_syms.specs.Contents.{value_of};
 ghost use Rattle.rl_world.specs.Input.{with_back};
-ghost use Rattle.rl_meaning.specs.Input.{Form};
+ghost use Rattle.rl_meaning.specs.Input.{End, Form};
 ghost use Rattle.rl_world.specs.declared.stop.Stop.TheVariants as stop;
 ghost use Rattle.rl_read.specs.Reads.{KeepsByReading};
 ghost use Rattle.rl_read.specs.declared.read.ReadFault.TheVariants as fault;
 ghost use Rattle.rl_state.specs.Descents.{levels_shown};
-ghost use Rattle.rl_state.specs.ReadsAs.{ReadsNone, ReadsTo};
+ghost use Rattle.rl_state.specs.ReadsAs.{KeepsNotesAndFiles, ReadsNone, ReadsTo};
 ghost use Rattle.rl_state.specs.Ties.{TakesInput, told_in};
 ghost use Rattle.rl_state.specs.Worlds.{IsWorld};
 
@@ -27,12 +27,14 @@ pub fn read<I: Source, O: Sink, N: Sink, F: Files>(
 ) -> Result<Val, ReadFault>
     requires world { IsWorld w.old }
     ensures form { IfOk result (λ v. TakesInput (told_in O.contents N.contents I.left w.old io.old) (told_in O.contents N.contents I.left w.new io.new) (λ at rest s. ReadsTo (levels_shown w.old) (Form (value_of w.new.cells.cells v) (with_back w.new.input.back rest)) (with_back w.new.input.back rest) (told_in O.contents N.contents I.left w.new io.new) at rest s)) }
+    ensures end { result ≡ Err fault.End → TakesInput (told_in O.contents N.contents I.left w.old io.old) (told_in O.contents N.contents I.left w.new io.new) (λ at rest s. ReadsTo (levels_shown w.old) End [] (told_in O.contents N.contents I.left w.new io.new) at rest s) }
     ensures syntax { (k : ℕ) → result ≡ Err (fault.Syntax k) → TakesInput (told_in O.contents N.contents I.left w.old io.old) (told_in O.contents N.contents I.left w.new io.new) (λ at rest s. ReadsNone (levels_shown w.old) k (with_back w.new.input.back rest) (told_in O.contents N.contents I.left w.new io.new) at rest s) }
     ensures read_failed { result ≡ Err (fault.Stop stop.Read) → Rose (I.faults io.old.input.now) (I.faults io.new.input.now) }
     ensures write_failed { result ≡ Err (fault.Stop stop.Write) → Rose (O.faults io.old.out.now) (O.faults io.new.out.now) }
     ensures steady_input { result ≢ Err (fault.Stop stop.Read) → I.faults io.new.input.now ≡ I.faults io.old.input.now }
     ensures steady_out { result ≢ Err (fault.Stop stop.Write) → O.faults io.new.out.now ≡ O.faults io.old.out.now }
     ensures keeps { KeepsByReading w.old w.new }
+    ensures rest { KeepsNotesAndFiles io.old io.new }
     ensures live { IfOk result (λ v. IsTrue (is_live w.new.cells.cells v)) }
 {
     cells_are_known();

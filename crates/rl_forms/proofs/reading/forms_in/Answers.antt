@@ -1,4 +1,4 @@
-use Rattle.std.proofs.Common.{false, map, ◌∙◌}
+use Rattle.std.proofs.Common.{false, map, ◌∙◌, ◌≡◌, []}
 use Rattle.rl_read.specs.Given.{slice_left}
 use Rattle.rl_read.specs.Reads.{IsRefusedText}
 use Rattle.rl_forms.specs.KnownData.{datum_in}
@@ -22,12 +22,12 @@ forms-preserved c =
 
 pub returns-in-Err-End-clause-read : goal.returns-in-Err-End-clause-read
 returns-in-Err-End-clause-read c =
-    end_read c.reading_is_of_text.ensures c.what_is_found_is_spelled.ensures c.blank_text_has_none.ensures c.forms.world c.read_form.new.w c.args.bytes.now (slice_left c.forms.text) c.forms.forms.items (slice_told c.forms.text c.read_form.new.text (λ before now. IsEnd c.forms.world c.read_form.new.w before) (c.in-Err-End.ensures.end cc)) c.forms.invariant.known c.forms.invariant.read
+    end_read c.reading_is_of_text.ensures c.what_is_found_is_spelled.ensures c.blank_text_has_none.ensures c.forms.world c.read_form.new.w c.args.bytes.now (slice_left c.forms.text) c.forms.forms.items (slice_told c.forms.text c.read_form.new.text (λ before now. (now ≡ []) × IsEnd c.forms.world c.read_form.new.w before) (c.in-Err-End.ensures.end cc)).1 c.forms.invariant.known c.forms.invariant.read
 
 pub returns-in-Err-End-clause-forms : goal.returns-in-Err-End-clause-forms
 returns-in-Err-End-clause-forms c = record {
   running = read_running c.forms.world c.read_form.new.w c.forms.invariant.running c.in-Err-End.ensures.able.table c.in-Err-End.ensures.keeps;
-  known = end_known c.reading_is_of_text.ensures c.forms.world c.read_form.new.w (slice_left c.forms.text) c.forms.forms.items (slice_told c.forms.text c.read_form.new.text (λ before now. IsEnd c.forms.world c.read_form.new.w before) (c.in-Err-End.ensures.end cc)) c.forms.invariant.known;
+  known = end_known c.reading_is_of_text.ensures c.forms.world c.read_form.new.w (slice_left c.forms.text) c.forms.forms.items (slice_told c.forms.text c.read_form.new.text (λ before now. (now ≡ []) × IsEnd c.forms.world c.read_form.new.w before) (c.in-Err-End.ensures.end cc)).1 c.forms.invariant.known;
   output = read_output c.forms.world c.read_form.new.w c.in-Err-End.ensures.keeps (c.in-Err-End.ensures.printed (λ e. cc)) ∙ c.forms.invariant.output;
 }
 

@@ -1,5 +1,5 @@
 use Rattle.std.proofs.Common.{ap}
-use Rattle.rl_state.proofs.ReadingTied.{can_make, form_takes, refused_takes}
+use Rattle.rl_state.proofs.ReadingTied.{can_make, end_takes, form_takes, refused_takes}
 use Rattle.rl_state.proofs.reading.read.Goals as goal
 
 pub read_form-requires : goal.read_form-requires
@@ -14,3 +14,18 @@ pub returns-in-Err-clause-syntax : goal.returns-in-Err-clause-syntax
 returns-in-Err-clause-syntax g c k e =
     refused_takes c.cells_are_known.ensures c.names_are_identifiers.ensures c.args.w.now c.read_form.new.w _ _ _ _ _ _ k c.requires.world c.is_closed.ensures c.in-Err.ensures.keeps.world
     (c.in-Err.ensures.printed (λ f. absurd (cc))) (ap (λ k. g.N.Sink.contents k.2.now) c.in-Err.ensures.kept) (c.in-Err.ensures.syntax k e)
+
+pub returns-in-Err-clause-end : goal.returns-in-Err-clause-end
+returns-in-Err-clause-end g c e =
+    end_takes c.cells_are_known.ensures c.names_are_identifiers.ensures c.args.w.now c.read_form.new.w _ _ _ _ _ _ c.requires.world c.is_closed.ensures c.in-Err.ensures.keeps.world
+    (c.in-Err.ensures.printed (λ f. absurd (cc))) (ap (λ k. g.N.Sink.contents k.2.now) c.in-Err.ensures.kept) (c.in-Err.ensures.end e)
+
+pub returns-in-Ok-clause-rest : goal.returns-in-Ok-clause-rest
+returns-in-Ok-clause-rest g c =
+    let kept = c.in-Ok.ensures.kept in
+    record { notes = ap (λ k. k.2) kept; files = ap (λ k. k.3) kept; same_input = ap (λ k. k.0) kept; same_out = ap (λ k. k.1) kept }
+
+pub returns-in-Err-clause-rest : goal.returns-in-Err-clause-rest
+returns-in-Err-clause-rest g c =
+    let kept = c.in-Err.ensures.kept in
+    record { notes = ap (λ k. k.2) kept; files = ap (λ k. k.3) kept; same_input = ap (λ k. k.0) kept; same_out = ap (λ k. k.1) kept }
