@@ -30,19 +30,16 @@ entered_within l n h = go (nat_le (l.level + n) l.bound) refl h
     go true e h = leb-true (l.level + n) l.bound e
     go false e h = absurd (cc)
 
-pub deeper_done : (w x : World) (n : ℕ) → x ≡ record w { levels = record w.levels { level = w.levels.level + n } } → enter_stop w.levels n ≡ None
+pub deeper_done : (w x : World) (n : ℕ) (l : WorldLevels) → x ≡ record w { levels = l } → l.level ≡ w.levels.level + n → l.bound ≡ w.levels.bound → enter_stop w.levels n ≡ None
     → (s : State) → ShowsState w s → MeansLevels s (deeper n (levels_shown w) s (λ l. Done l s)) (Ok tt) x
-deeper_done w x n e h s shown =
+deeper_done w x n l e entered bound h s shown =
     let within = entered_within w.levels n h in
     let fits : nat_le n (w.levels.bound - w.levels.level) ≡ true = le-leb n (w.levels.bound - w.levels.level) (omega (arith, within)) in
-    let rest : w.levels.bound - w.levels.level - n ≡ w.levels.bound - (w.levels.level + n) = omega arith in
+    let rest : w.levels.bound - w.levels.level - n ≡ l.bound - l.level = omega (arith, entered, bound) in
     subst (λ y. MeansLevels s (deeper n (levels_shown w) s (λ l. Done l s)) (Ok tt) y) (sym e) (record {
       state = s;
       is = ap (λ b. in_levels b (w.levels.bound - w.levels.level - n) s (λ l. Done l s)) fits ∙ ap (λ k. Done (Some k) s) rest;
-      good = record {
-        shows = shows_levels w (record w.levels { level = w.levels.level + n }) s shown;
-        stays = stays_still s s.store s.watched;
-      };
+      good = record { shows = shows_levels w l s shown; stays = stays_still s s.store s.watched };
     })
 
 pub deeper_stops : (w x : World) (n : ℕ) (why : stops.Stop) → x ≡ w → IsWorld w → enter_stop w.levels n ≡ Some why

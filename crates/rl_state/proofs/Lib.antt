@@ -6,6 +6,7 @@ pub mod StockKept
 pub mod ReadingShown
 pub mod ReadingEnds
 pub mod ReadingTied
+pub mod Counted
 pub mod Room
 pub mod Made
 pub mod Set
@@ -30,3 +31,4 @@ pub mod BareShown
 pub mod Printings
 pub mod PrintingEnds
 pub mod PrintingGrows
+pub mod Expanding

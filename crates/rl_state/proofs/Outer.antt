@@ -1,5 +1,5 @@
 -- Levels, and what goes out and comes in, stand beside the objects of a world.
-use Rattle.std.proofs.Common.{◌≡◌, ◌≤◌, ℕ, List, refl, sym, subst}
+use Rattle.std.proofs.Common.{◌≡◌, ◌≤◌, ℕ, List, Option, refl, sym, subst}
 use Rattle.rl_world.specs.Input.{Input}
 use Rattle.rl_world.specs.Levels.{WorldLevels}
 use Rattle.rl_world.specs.Output.{Output}
@@ -7,6 +7,7 @@ use Rattle.rl_world.specs.declared.world.World.{World}
 use Rattle.rl_tree.specs.Value.{Store}
 use Rattle.rl_meaning.specs.State.{State, Outside, Watched}
 use Rattle.rl_state.specs.ShownState.{ShowsState}
+use Rattle.rl_state.specs.Ties.{Ties, ToldAtStart, and_told, with_lines}
 use Rattle.rl_state.specs.Worlds.{IsWorld, WorldGrows}
 use Rattle.rl_state.specs.Beside.{StaysBeside}
 
@@ -34,6 +35,18 @@ grows_levels w x l page noted place e h i = subst (λ (y : World). WorldGrows w 
 
 pub grows_outer : (w x : World) (page : Output) (noted : List ℕ) (place : Input) → x ≡ record w { output = page; notes = noted; input = place } → IsWorld w → WorldGrows w x
 grows_outer w x page noted place e i = grows_levels w x w.levels page noted place e i.levels i
+
+pub lines_tie : (at : ToldAtStart) (w x : World) (o m i : Option (List ℕ)) (n : ℕ) (coming : List ℕ) (s : State) → x ≡ record w { output = record w.output { line_length = n } }
+    → Ties at (and_told w o m i) coming s → Ties at (and_told x o m i) coming (with_lines n s)
+lines_tie at w x o m i n coming s e h = subst (λ (y : World). Ties at (and_told y o m i) coming (with_lines n s)) (sym e) (record {
+  shows = shows_outer w w.levels (record w.output { line_length = n }) w.notes w.input s (with_lines n s).outside s.watched h.shows.column refl h.shows.taken h.shows;
+  output = h.output;
+  notes = h.notes;
+  input = h.input;
+  left = h.left;
+  ended = h.ended;
+  few = h.few;
+})
 
 -- what no world determines stays where objects change, or what is watched
 pub stays_still : (s : State) (store : Store) (v : Watched) → StaysBeside s (record s { store = store; watched = v })

@@ -70,6 +70,10 @@ PrintsTied at (Err why) e coming t = LeavesFronts at e t
 abbrev pub with_noted : List ℕ → State → State
 with_noted bytes s = record s { outside = record s.outside { notes = s.outside.notes ++ bytes } }
 
+-- lines are so long from here on
+abbrev pub with_lines : ℕ → State → State
+with_lines n s = record s { outside = record s.outside { line_length = n } }
+
 -- some bytes came from the source, and whatever is to come, in each state in which those are to come and then this, the call means what is said
 pub record TakesInput (old new : WorldAndTold) (P : ToldAtStart → List ℕ → State → Type 0) : Type 0 where
   pub bytes : List ℕ

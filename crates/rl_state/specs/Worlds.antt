@@ -6,7 +6,7 @@ use Rattle.rl_tags.specs.Ids.{t_id, emsg_star_id}
 use Rattle.rl_cells.specs.Cell.{Cell, CellStore, is_live}
 use Rattle.rl_syms.specs.Table.{IsTable, is_id}
 use Rattle.rl_world.specs.Bounds.{BoundsAgree}
-use Rattle.rl_world.specs.Counts.{WorldCounts}
+use Rattle.rl_world.specs.Counts.{TakesCounts, WorldCounts}
 use Rattle.rl_world.specs.Errors.{AreTexts}
 use Rattle.rl_world.specs.declared.world.World.{World}
 use Rattle.rl_tree.specs.Value.{Value}
@@ -48,9 +48,10 @@ pub record WorldGrows (old new : World) : Type 0 where
   pub live : (v : Tagged) → is_live old.cells.cells v ≡ true → is_live new.cells.cells v ≡ true
   pub values : (v : Tagged) → is_live old.cells.cells v ≡ true → value_of new.cells.cells v ≡ value_of old.cells.cells v
 
--- of a world nothing but objects, names and counts has changed: levels, output, input and notes are as they were
+-- of a world nothing but objects, names, and the turns and cells that were taken has changed: levels, output, input and notes are as they were
 pub record ObjectsAlone (old new : World) : Type 0 where
   pub rest : new ≡ record old { cells = new.cells; syms = new.syms; counts = new.counts }
+  pub counts : TakesCounts old.counts new.counts
 
 -- what no world determines: functions and compilation, bindings and the values below them, what is watched, files, and what was read, printed and noted
 pub record SameBesideWorld (s t : State) : Type 0 where

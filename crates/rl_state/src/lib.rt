@@ -2,9 +2,11 @@
 #![tactic(auto)]
 
 mod errors;
+mod expansions;
 mod identifiers;
 pub mod laws;
 mod levels;
+mod lines;
 mod names;
 mod natives;
 mod objects;
@@ -16,10 +18,12 @@ mod turns;
 mod variables;
 
 pub use errors::fail;
+pub use expansions::{begin_expansion, end_expansion, in_expansion};
 pub use identifiers::{
     definition, kind, name, properties, set_definition, set_kind, set_properties,
 };
-pub use levels::{deeper, shallower};
+pub use levels::{deeper, shallower, walk_pop, walk_push};
+pub use lines::{column, line_length, set_line_length};
 pub use names::{gensym, identifier, symbol};
 pub use natives::{car, cons, length, rplaca};
 pub use objects::{

@@ -11,7 +11,7 @@ ghost use Rattle.rl_meaning.specs.State.{State, Files};
 ghost use Rattle.rl_meaning.specs.Run.{Limits as RunLimits, started};
 ghost use Rattle.rl_state.specs.BareStates.{IsUnset};
 ghost use Rattle.rl_state.specs.ShownState.{ShowsState};
-ghost use Rattle.rl_state.specs.Worlds.{HasNumber, IsWorld, ObjectsAlone, WorldGrows};
+ghost use Rattle.rl_state.specs.Worlds.{HasNumber, IsWorld, WorldGrows};
 
 use crate::laws::cells_are_known;
 use rl_io::OutOfMemory;
@@ -54,7 +54,6 @@ pub fn opened(w: &mut World)
     requires opening { w.old.cells.count ≡ None }
     ensures shows { (s : State) (limits : RunLimits) (files : Files) (input : List ℕ) → limits.turns ≡ w.old.counts.bound → limits.cells ≡ Some w.old.counts.cells_bound → ShowsState w.old s → ShowsState w.new (started limits files input s) }
     ensures grows { WorldGrows w.old w.new }
-    ensures rest { ObjectsAlone w.old w.new }
     ensures ended { w.new ≡ record w.old { cells = record w.old.cells { count = Some 0 }; counts = record w.old.counts { opening = None } } }
 {
     bounds_are_kept();

@@ -1,5 +1,5 @@
 -- What a run counts: turns, expansions and cells, and what each call does to the counts.
-use Rattle.std.specs.Prelude.{◌≡◌, ℕ, ◌+◌, ◌-◌, ◌==◌, ◌<◌, nat_le, nat_lt, cond, length, Option, Some, None}
+use Rattle.std.specs.Prelude.{◌≡◌, ℕ, ◌+◌, ◌-◌, ◌==◌, ◌<◌, nat_le, nat_lt, cond, is_some, length, Option, Some, None}
 use Rattle.rl_tags.specs.Tagged.{Tagged}
 use Rattle.rl_cells.specs.Cell.{CellStore, used_of}
 use Rattle.rl_world.specs.declared.counts.Aside.{Aside}
@@ -111,3 +111,13 @@ IsOpen (Some e) n = 0 < n
 abbrev pub IsAside : Option Aside → Type 0
 IsAside None = Unit {0}
 IsAside (Some a) = IsOpen a.outermost a.open_count
+
+abbrev pub expansion_name : Option Expansion → Option Tagged
+expansion_name None = None
+expansion_name (Some e) = Some e.name
+
+-- turns and cells were taken, of opening, of the outermost expansion or of the run, and nothing else of the counts has changed
+pub record TakesCounts (old new : WorldCounts) : Type 0 where
+  pub rest : new ≡ record old { opening = new.opening; turns = new.turns; outermost = new.outermost }
+  pub opening : is_some new.opening ≡ is_some old.opening
+  pub name : expansion_name new.outermost ≡ expansion_name old.outermost

@@ -1,6 +1,6 @@
 //! The counts of turns, expansions and their cells.
 ghost use Rattle.std.specs.Prelude.{◌≡◌, ◌+◌, ◌<◌, ◌^◌, None, Some, if◌then◌else◌, OnOk, IfErr};
-ghost use Rattle.rl_world.specs.Counts.{aside_of, begun, cells_bound_at, cells_stop, cells_taken, counts_at_opening, expansion_ended, rejoined, room_stop, roomed, set_aside, tick_stop, ticked};
+ghost use Rattle.rl_world.specs.Counts.{IsOpen, aside_of, begun, cells_bound_at, cells_stop, cells_taken, counts_at_opening, expansion_ended, rejoined, room_stop, roomed, set_aside, tick_stop, ticked};
 ghost use Rattle.rl_world.specs.declared.stop.Stop.TheVariants as stop;
 
 use crate::stop::Stop;
@@ -181,7 +181,8 @@ impl Counts {
     /// Opens an expansion of this macro.
     pub(crate) fn begin(&mut self, name: Val)
         requires { self.old.open_count + 1 < 2 ^ 32 }
-        ensures { self.new ≡ begun self.old name }
+        ensures begun { self.new ≡ begun self.old name }
+        ensures open { IsOpen self.old.outermost self.old.open_count }
     {
         if self.outermost.is_none() {
             self.outermost = Some(Expansion {
@@ -196,7 +197,8 @@ impl Counts {
     /// Ends the newest open expansion.
     pub(crate) fn end(&mut self)
         requires { 0 < self.old.open_count }
-        ensures { self.new ≡ expansion_ended self.old }
+        ensures ended { self.new ≡ expansion_ended self.old }
+        ensures open { IsOpen self.old.outermost self.old.open_count }
     {
         self.open_count -= 1;
         if self.open_count == 0 {
@@ -206,7 +208,8 @@ impl Counts {
 
     /// How many expansions are open.
     pub(crate) fn open_count(&self) -> u32
-        ensures { result ≡ self.now.open_count }
+        ensures count { result ≡ self.now.open_count }
+        ensures open { IsOpen self.now.outermost self.now.open_count }
     {
         self.open_count
     }

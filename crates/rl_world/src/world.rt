@@ -7,7 +7,7 @@ ghost use Rattle.rl_cells.specs.Cell.{bytes_of, is_str};
 ghost use Rattle.rl_syms.specs.Table.{IsTable, IsNamed};
 ghost use Rattle.rl_syms.specs.Made.{IsOpening};
 ghost use Rattle.rl_syms.specs.Opened.{IsOpened};
-ghost use Rattle.rl_world.specs.Counts.{aside_of, begun, counts_at_opening, expansion_ended, rejoined, room_stop, roomed, set_aside, tick_stop, ticked};
+ghost use Rattle.rl_world.specs.Counts.{IsOpen, aside_of, begun, counts_at_opening, expansion_ended, rejoined, room_stop, roomed, set_aside, tick_stop, ticked};
 ghost use Rattle.rl_tree.specs.ErrorTexts.{error_text};
 ghost use Rattle.rl_world.specs.Errors.{AreTexts};
 ghost use Rattle.rl_world.specs.OpeningCells.{AreOpeningCells};
@@ -130,7 +130,8 @@ impl World {
     /// Opens an expansion of this macro; turns and cells count in the outermost one.
     pub fn begin_expansion(&mut self, name: Val)
         requires { self.old.counts.open_count + 1 < 2 ^ 32 }
-        ensures { self.new ≡ record self.old { counts = begun self.old.counts name } }
+        ensures begun { self.new ≡ record self.old { counts = begun self.old.counts name } }
+        ensures open { IsOpen self.old.counts.outermost self.old.counts.open_count }
     {
         self.counts.begin(name);
     }
@@ -138,14 +139,16 @@ impl World {
     /// Ends the newest open expansion.
     pub fn end_expansion(&mut self)
         requires { 0 < self.old.counts.open_count }
-        ensures { self.new ≡ record self.old { counts = expansion_ended self.old.counts } }
+        ensures ended { self.new ≡ record self.old { counts = expansion_ended self.old.counts } }
+        ensures open { IsOpen self.old.counts.outermost self.old.counts.open_count }
     {
         self.counts.end();
     }
 
     /// Whether an expansion is open.
     pub fn in_expansion(&self) -> bool
-        ensures { IsTrue result ↔ (0 < self.now.counts.open_count) }
+        ensures some { IsTrue result ↔ (0 < self.now.counts.open_count) }
+        ensures open { IsOpen self.now.counts.outermost self.now.counts.open_count }
     {
         self.counts.open_count() > 0
     }

@@ -1,5 +1,5 @@
 use Rattle.rl_state.proofs.Room.{turn_falls, turn_grows, turn_means, turn_stops}
-use Rattle.rl_state.proofs.Made.{grows_refl, rest_counts, rest_refl}
+use Rattle.rl_state.proofs.Made.{grows_refl, rest_refl, rest_ticked}
 use Rattle.rl_state.proofs.turns.turn.Goals as goal
 
 pub returns-in-Ok-clause-means : goal.returns-in-Ok-clause-means
@@ -15,7 +15,7 @@ pub returns-in-Ok-clause-falls : goal.returns-in-Ok-clause-falls
 returns-in-Ok-clause-falls c = turn_falls c.args.w.now c.tick.new.self c.in-Ok.ensures.counted c.in-Ok.ensures.ok
 
 pub returns-in-Ok-clause-rest : goal.returns-in-Ok-clause-rest
-returns-in-Ok-clause-rest c = rest_counts c.args.w.now c.tick.new.self _ c.in-Ok.ensures.counted
+returns-in-Ok-clause-rest c = rest_ticked c.args.w.now c.tick.new.self c.in-Ok.ensures.counted
 
 pub returns-in-Err-clause-rest : goal.returns-in-Err-clause-rest
 returns-in-Err-clause-rest c = rest_refl c.args.w.now c.tick.new.self c.in-Err.ensures.err
