@@ -1,5 +1,5 @@
 //! Printing, in the words of the definition.
-ghost use Rattle.std.specs.Prelude.{IsTrue, List, ℕ};
+ghost use Rattle.std.specs.Prelude.{◌≡◌, IsTrue, List, OnOk, ℕ};
 ghost use Rattle.rl_cells.specs.Cell.{is_live};
 ghost use Rattle.rl_syms.specs.Contents.{value_of};
 ghost use Rattle.rl_tree.specs.Atoms.{Prin1, Prin2};
@@ -9,7 +9,7 @@ ghost use Rattle.rl_meaning.specs.Printing.{printing};
 ghost use Rattle.rl_state.specs.Descents.{levels_shown};
 ghost use Rattle.rl_state.specs.Prints.{PrintsAs};
 ghost use Rattle.rl_state.specs.Ties.{TakesNothing, Ties, ToldAtStart, told_in};
-ghost use Rattle.rl_state.specs.Worlds.{IsWorld, WorldGrows};
+ghost use Rattle.rl_state.specs.Worlds.{IsWorld, PrintsAlone, WorldGrows};
 
 use crate::laws::cells_are_known;
 use rl_io::{Files, Io, Sink, Source};
@@ -29,6 +29,8 @@ pub fn print1<I: Source, O: Sink, N: Sink, F: Files>(
     ensures untaken { TakesNothing (told_in O.contents N.contents I.left w.old io.old) (told_in O.contents N.contents I.left w.new io.new) }
     ensures faults { WriteFaults result (O.faults io.old.out.now) (O.faults io.new.out.now) w.new.output.waiting }
     ensures grows { WorldGrows w.old w.new }
+    ensures alone { PrintsAlone w.old w.new }
+    ensures levels { OnOk result (w.new.levels ≡ w.old.levels) }
     ensures rest { ChangesOutObject io.old io.new }
 {
     cells_are_known();
@@ -53,6 +55,8 @@ pub fn print2<I: Source, O: Sink, N: Sink, F: Files>(
     ensures untaken { TakesNothing (told_in O.contents N.contents I.left w.old io.old) (told_in O.contents N.contents I.left w.new io.new) }
     ensures faults { WriteFaults result (O.faults io.old.out.now) (O.faults io.new.out.now) w.new.output.waiting }
     ensures grows { WorldGrows w.old w.new }
+    ensures alone { PrintsAlone w.old w.new }
+    ensures levels { OnOk result (w.new.levels ≡ w.old.levels) }
     ensures rest { ChangesOutObject io.old io.new }
 {
     cells_are_known();

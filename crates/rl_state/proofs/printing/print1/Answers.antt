@@ -1,6 +1,6 @@
 use Rattle.std.proofs.Common.{ap}
 use Rattle.rl_tree.specs.Atoms.{Prin1}
-use Rattle.rl_state.proofs.PrintingGrows.{printing_grows}
+use Rattle.rl_state.proofs.PrintingGrows.{printing_grows, prints_alone}
 use Rattle.rl_state.proofs.PrintingEnds.{printed_less, printed_whole}
 use Rattle.rl_state.proofs.printing.print1.Goals as goal
 
@@ -21,3 +21,9 @@ returns-in-Ok-clause-grows g c = printing_grows c.cells_are_known.ensures.bounds
 
 pub returns-in-Err-clause-grows : goal.returns-in-Err-clause-grows
 returns-in-Err-clause-grows g c = printing_grows c.cells_are_known.ensures.bounds _ c.args.w.now c.print1-printed.new.w c.print1-printed.ensures.world c.level.ensures.levels.within c.requires.world
+
+pub returns-in-Ok-clause-alone : goal.returns-in-Ok-clause-alone
+returns-in-Ok-clause-alone g c = prints_alone c.args.w.now c.print1-printed.new.w c.print1-printed.ensures.world
+
+pub returns-in-Err-clause-alone : goal.returns-in-Err-clause-alone
+returns-in-Err-clause-alone g c = prints_alone c.args.w.now c.print1-printed.new.w c.print1-printed.ensures.world
