@@ -113,6 +113,14 @@ impl Cells {
         let _words = &self.words;
     }
 
+    /// The cells taken in all are no more than opening, the run and the spare cells may have, and the run has a bound.
+    pub fn is_bounded(&self)
+        ensures cells { length self.now.cells ≤ 1065536 + self.now.bound }
+        ensures bound { self.now.bound ≤ 64000000 }
+    {
+        let _words = &self.words;
+    }
+
     /// Whether an object of this cost, in cells, fits.
     pub fn fits(&self, cost: u32) -> bool
         requires { cost ≤ 2147483648 }

@@ -20,16 +20,16 @@ use Rattle.rl_read.specs.Stock.{Stock, PairChain, and_then_made, atom_made, chai
 
 -- ---- cells
 
-stand_refl : (cells : List Cell) → CellsStay cells cells
+pub stand_refl : (cells : List Cell) → CellsStay cells cells
 stand_refl cells = record { longer = omega arith; stands = λ k l. refl }
 
-stand_added : (old cells more : List Cell) → CellsStay old cells → CellsStay old (cells ++ more)
+pub stand_added : (old cells more : List Cell) → CellsStay old cells → CellsStay old (cells ++ more)
 stand_added old cells more h = record {
   longer = omega (arith, h.longer, length-append cells more);
   stands = λ k l. get_or_append_left cells more More k (omega (arith, l, h.longer)) ∙ h.stands k l;
 }
 
-stand_changed : (old cells : List Cell) (i : ℕ) (c : Cell) → length old ≤ i → CellsStay old cells → CellsStay old (changed_at cells (PairAt i) c)
+pub stand_changed : (old cells : List Cell) (i : ℕ) (c : Cell) → length old ≤ i → CellsStay old cells → CellsStay old (changed_at cells (PairAt i) c)
 stand_changed old cells i c behind h = record {
   longer = omega (arith, h.longer, length-set cells i c);
   stands = λ k l. get_or-set_other cells i k c More (λ same. absurd (omega (arith, same, l, behind))) ∙ h.stands k l;

@@ -31,3 +31,4 @@ pub mod FramesStand
 pub mod ReadStands
 pub mod ReadIsDatum
 mod CellsKept
+mod WhatStands

@@ -12,6 +12,7 @@ ghost use Rattle.rl_read.specs.Given.{is_counted, is_fault};
 ghost use Rattle.rl_read.specs.Stock.{Stock, in_stock, stock_of};
 ghost use Rattle.rl_read.specs.Frames.{CanMake, IsReading, IsReadyToRead, frames_in};
 ghost use Rattle.rl_read.specs.Steps.{IsMode, may_end, mode_of, word_atom};
+ghost use Rattle.rl_read.specs.ReadingKeepsCells.{LeavesWhatStood};
 ghost use Rattle.rl_read.specs.Reads.{IsRefusal, IsRefusedText, IsStopped, IsStoppedText, KeepsByReading, NotStopped, ended_between};
 ghost use Rattle.rl_read.specs.declared.read.ReadFault.TheVariants as fault;
 ghost use Rattle.rl_world.specs.Walks.{IsSteady};
@@ -62,6 +63,7 @@ pub fn read_form<T: Bytes>(w: &mut World, text: &mut T) -> Result<Val, ReadFault
     ensures able { CanMake w.new }
     ensures levels { NotStopped result → w.new.levels ≡ w.old.levels }
     ensures keeps { KeepsByReading w.old w.new }
+    ensures stands { LeavesWhatStood (stock_of w.old) (stock_of w.new) }
 {
     bounds_are_kept();
     let base = w.walk_len();

@@ -8,15 +8,17 @@ use Rattle.rl_world.specs.declared.stop.Stop.{Stop}
 use Rattle.rl_world.specs.declared.stop.Stop.TheVariants as stop
 use Rattle.rl_read.specs.Given.{is_counted, is_fault}
 use Rattle.rl_read.specs.Stock.{Stock, in_stock, stock_of}
-use Rattle.rl_read.specs.Frames.{CanMake, frames_in}
+use Rattle.rl_read.specs.Frames.{CanMake, frames_in, frames_kept}
 use Rattle.rl_read.specs.Steps.{IsStep, step_of, mode_of}
 use Rattle.rl_read.specs.Reads.{IsRefusedText, IsStoppedText}
+use Rattle.rl_read.specs.ReadingKeepsCells.{LeavesWhatStood}
 use Rattle.rl_read.proofs.MakingStays.{steady_refl, steady_trans}
 use Rattle.rl_read.proofs.ToldByCalls.{told_first, told_same, told_waits}
 use Rattle.rl_read.proofs.ReadingKeeps.{keeps_refl, keeps_trans, keeps_given, keeps_back, keeps_levels, keeps_read, levels_back, steady_as, read_input, read_waiting, left_input, left_waiting}
 use Rattle.rl_read.proofs.MakingTakesNoTurn.{goes_left, measure_falls, turns_fall}
 use Rattle.rl_read.proofs.ByteByByte.{going_first, kept_first, ready_first, passed_able, passed_levels, passed_ready, passed_same, told_on, told_done, told_before, told_refused, told_halted, told_whole, told_none, told_end_refused, told_end_stopped, told_wants, wanted_is_counted, not_a_read, not_a_write, stop_same}
 use Rattle.rl_read.proofs.TextEnds.{levels_left, same_place}
+use Rattle.rl_read.proofs.WhatStands.{AreFramesBehind, answer_stands, byte_stands, end_stands, given_stands, stood_levels, stood_refl}
 use Rattle.rl_read.proofs.ElementEnds.{ok_mapped as ok_then}
 use Rattle.rl_read.proofs.read.read_form.Goals as goal
 use Rattle.rl_read.proofs.read.read_form.Goals.{then-not-used, else-not-used}
@@ -44,6 +46,8 @@ loop-b-init g c = record {
   writes = refl;
   kept = refl;
   keeps = keeps_refl c.args.w.now;
+  stands = stood_refl (stock_of c.args.w.now);
+  behind = subst (λ ts. AreFramesBehind (stock_of c.args.w.now) (frames_kept ts)) (sym (kept_first c.walk_len-base.result c.args.w.now c.walk_len-base.ensures)) tt;
   steady = steady_refl c.walk_len-base.result c.args.w.now.levels;
 }
 
@@ -77,6 +81,13 @@ returns-in-Ok-None-clause-write_failed g c = λ is. absurd (not_a_write stop.Wri
 pub returns-in-Ok-None-clause-levels : goal.returns-in-Ok-None-clause-levels
 returns-in-Ok-None-clause-levels g c = λ whole. levels_back c.walk_len-base.result c.args.w.now.levels c.at_end.new.w.levels c.walk_len-base.ensures (c.at_end.ensures.left whole) (steady_trans c.walk_len-base.result c.args.w.now.levels c.next.new.w.levels c.at_end.new.w.levels (steady_as c.walk_len-base.result c.args.w.now.levels c.loop-b.w c.next.new.w (sym (passed_levels c.loop-b.w c.next.new.w c.next.ensures.world)) c.loop-b.invariant.steady) c.at_end.ensures.reading.steady)
 
+pub returns-in-Ok-None-clause-stands : goal.returns-in-Ok-None-clause-stands
+returns-in-Ok-None-clause-stands g c =
+    let at = (given_stands (stock_of c.args.w.now) (g.T.Bytes.takes_turns c.loop-b.text) c.walk_len-base.result c.loop-b.w c.next.new.w c.loop-b.group c.in-Ok-None.field-0 c.in-Ok-None.ensures.turn c.next.ensures.world (c.loop-b.invariant.stands, c.loop-b.invariant.behind)) in
+    answer_stands (stock_of c.args.w.now) c.at_end.result (λ t. reader.at_end (in_stock t) (mode_of c.loop-b.mode c.loop-b.word.items) (frames_in c.walk_len-base.result c.next.new.w c.loop-b.group) (stock_of c.next.new.w)) c.at_end.new.w c.loop-b.k
+    (end_stands (stock_of c.args.w.now) true (mode_of c.loop-b.mode c.loop-b.word.items) (frames_in c.walk_len-base.result c.next.new.w c.loop-b.group) (stock_of c.next.new.w) at.1 at.0)
+    c.at_end.ensures.ok c.at_end.ensures.syntax c.at_end.ensures.end c.at_end.ensures.stop
+
 pub returns-in-Ok-None-clause-keeps : goal.returns-in-Ok-None-clause-keeps
 returns-in-Ok-None-clause-keeps g c = keeps_trans c.args.w.now c.next.new.w c.at_end.new.w (keeps_trans c.args.w.now c.loop-b.w c.next.new.w c.loop-b.invariant.keeps (keeps_given c.loop-b.w c.next.new.w c.next.ensures.world)) (keeps_read c.walk_len-base.result c.next.new.w c.at_end.new.w c.at_end.ensures.reading)
 
@@ -98,6 +109,9 @@ returns-in-Err-clause-steady_reads g c = λ not. c.in-Err.ensures.steady_reads (
 pub returns-in-Err-clause-steady_writes : goal.returns-in-Err-clause-steady_writes
 returns-in-Err-clause-steady_writes g c = λ not. c.in-Err.ensures.steady_writes (λ e. not (cc)) ∙ c.loop-b.invariant.writes
 
+pub returns-in-Err-clause-stands : goal.returns-in-Err-clause-stands
+returns-in-Err-clause-stands g c = subst (λ k. LeavesWhatStood (stock_of c.args.w.now) k) (sym (passed_same c.loop-b.w c.next.new.w c.next.ensures.world c.in-Err.ensures.err)) c.loop-b.invariant.stands
+
 pub returns-in-Err-clause-keeps : goal.returns-in-Err-clause-keeps
 returns-in-Err-clause-keeps g c = (keeps_trans c.args.w.now c.loop-b.w c.next.new.w c.loop-b.invariant.keeps (keeps_given c.loop-b.w c.next.new.w c.next.ensures.world))
 
@@ -109,6 +123,11 @@ returns-in-Err-read_byte-clause-stop g c = λ s e not. subst (λ (s : Stop). Tak
 
 pub returns-in-Err-read_byte-clause-printed : goal.returns-in-Err-read_byte-clause-printed
 returns-in-Err-read_byte-clause-printed g c = λ not. told_waits (λ waiting. g.T.Bytes.printed c.next.new.self waiting) (g.T.Bytes.printed c.args.text.now c.args.w.now.output.waiting) (g.T.Bytes.printed c.loop-b.text c.loop-b.w.output.waiting) c.next.new.w.output.waiting c.read_byte.new.w.output.waiting (read_waiting c.walk_len-base.result c.next.new.w c.read_byte.new.w c.read_byte.ensures.reading) c.loop-b.invariant.printed (c.in-Ok-Some.ensures.printed (λ e. cc))
+
+pub returns-in-Err-read_byte-clause-stands : goal.returns-in-Err-read_byte-clause-stands
+returns-in-Err-read_byte-clause-stands g c =
+    let at = (given_stands (stock_of c.args.w.now) (g.T.Bytes.takes_turns c.loop-b.text) c.walk_len-base.result c.loop-b.w c.next.new.w c.loop-b.group c.in-Ok-Some.field-0 c.in-Ok-Some.ensures.turn c.next.ensures.world (c.loop-b.invariant.stands, c.loop-b.invariant.behind)) in
+    byte_stands (stock_of c.args.w.now) (g.T.Bytes.takes_turns c.args.text.now) (mode_of c.loop-b.mode c.loop-b.word.items) c.in-Ok-Some.b (frames_in c.walk_len-base.result c.next.new.w c.loop-b.group) (stock_of c.next.new.w) _ at.1 at.0 (c.in-Err-read_byte.ensures.stop (g.T.Bytes.takes_turns c.args.text.now))
 
 pub returns-in-Err-read_byte-clause-keeps : goal.returns-in-Err-read_byte-clause-keeps
 returns-in-Err-read_byte-clause-keeps g c = (keeps_trans c.args.w.now c.next.new.w c.read_byte.new.w (keeps_trans c.args.w.now c.loop-b.w c.next.new.w c.loop-b.invariant.keeps (keeps_given c.loop-b.w c.next.new.w c.next.ensures.world)) (keeps_read c.walk_len-base.result c.next.new.w c.read_byte.new.w c.read_byte.ensures.reading))
@@ -157,6 +176,12 @@ returns-in-Done-clause-able g c = subst (λ (x : World). CanMake x) (sym (done_w
 pub returns-in-Done-clause-levels : goal.returns-in-Done-clause-levels
 returns-in-Done-clause-levels g c = λ u. let whole = (subst (λ x. IsStep c.walk_len-base.result c.read_byte.new.w c.read_byte.new.word.items x) c.in-Done.is c.in-Ok.ensures.step) in ap (λ (x : World). x.levels) (done_world g c) ∙ levels_back c.walk_len-base.result c.args.w.now.levels c.read_byte.new.w.levels c.walk_len-base.ensures (whole.ready.root refl) (steady_trans c.walk_len-base.result c.args.w.now.levels c.next.new.w.levels c.read_byte.new.w.levels (steady_as c.walk_len-base.result c.args.w.now.levels c.loop-b.w c.next.new.w (sym (passed_levels c.loop-b.w c.next.new.w c.next.ensures.world)) c.loop-b.invariant.steady) c.read_byte.ensures.reading.steady)
 
+pub returns-in-Done-clause-stands : goal.returns-in-Done-clause-stands
+returns-in-Done-clause-stands g c =
+    let at = (given_stands (stock_of c.args.w.now) (g.T.Bytes.takes_turns c.loop-b.text) c.walk_len-base.result c.loop-b.w c.next.new.w c.loop-b.group c.in-Ok-Some.field-0 c.in-Ok-Some.ensures.turn c.next.ensures.world (c.loop-b.invariant.stands, c.loop-b.invariant.behind)) in
+    subst (λ (x : World). LeavesWhatStood (stock_of c.args.w.now) (stock_of x)) (sym (done_world g c))
+    (byte_stands (stock_of c.args.w.now) (g.T.Bytes.takes_turns c.args.text.now) (mode_of c.loop-b.mode c.loop-b.word.items) c.in-Ok-Some.b (frames_in c.walk_len-base.result c.next.new.w c.loop-b.group) (stock_of c.next.new.w) _ at.1 at.0 (c.in-Ok.ensures.ok (g.T.Bytes.takes_turns c.args.text.now) ∙ ap (λ x. step_of c.walk_len-base.result c.read_byte.new.w c.read_byte.new.word.items x) c.in-Done.is))
+
 pub returns-in-Done-clause-keeps : goal.returns-in-Done-clause-keeps
 returns-in-Done-clause-keeps g c = keeps_trans c.args.w.now c.read_byte.new.w c.if-not-used.w (keeps_trans c.args.w.now c.next.new.w c.read_byte.new.w (keeps_trans c.args.w.now c.loop-b.w c.next.new.w c.loop-b.invariant.keeps (keeps_given c.loop-b.w c.next.new.w c.next.ensures.world)) (keeps_read c.walk_len-base.result c.next.new.w c.read_byte.new.w c.read_byte.ensures.reading)) (keeps_back c.read_byte.new.w c.if-not-used.w (done_world g c))
 
@@ -169,6 +194,12 @@ returns-in-Refuses-clause-printed g c = λ not. told_waits (λ waiting. g.T.Byte
 pub returns-in-Refuses-clause-levels : goal.returns-in-Refuses-clause-levels
 returns-in-Refuses-clause-levels g c = λ whole. levels_back c.walk_len-base.result c.args.w.now.levels c.refused.new.w.levels c.walk_len-base.ensures c.refused.ensures.left (steady_trans c.walk_len-base.result c.args.w.now.levels c.read_byte.new.w.levels c.refused.new.w.levels (steady_trans c.walk_len-base.result c.args.w.now.levels c.next.new.w.levels c.read_byte.new.w.levels (steady_as c.walk_len-base.result c.args.w.now.levels c.loop-b.w c.next.new.w (sym (passed_levels c.loop-b.w c.next.new.w c.next.ensures.world)) c.loop-b.invariant.steady) c.read_byte.ensures.reading.steady) c.refused.ensures.steady)
 
+pub returns-in-Refuses-clause-stands : goal.returns-in-Refuses-clause-stands
+returns-in-Refuses-clause-stands g c =
+    let at = (given_stands (stock_of c.args.w.now) (g.T.Bytes.takes_turns c.loop-b.text) c.walk_len-base.result c.loop-b.w c.next.new.w c.loop-b.group c.in-Ok-Some.field-0 c.in-Ok-Some.ensures.turn c.next.ensures.world (c.loop-b.invariant.stands, c.loop-b.invariant.behind)) in
+    stood_levels (stock_of c.args.w.now) (stock_of c.read_byte.new.w) (stock_of c.refused.new.w) _ (levels_left c.read_byte.new.w c.refused.new.w c.refused.ensures.world)
+    (byte_stands (stock_of c.args.w.now) (g.T.Bytes.takes_turns c.args.text.now) (mode_of c.loop-b.mode c.loop-b.word.items) c.in-Ok-Some.b (frames_in c.walk_len-base.result c.next.new.w c.loop-b.group) (stock_of c.next.new.w) _ at.1 at.0 (c.in-Ok.ensures.ok (g.T.Bytes.takes_turns c.args.text.now) ∙ ap (λ x. step_of c.walk_len-base.result c.read_byte.new.w c.read_byte.new.word.items x) c.in-Refuses.is))
+
 pub returns-in-Refuses-clause-keeps : goal.returns-in-Refuses-clause-keeps
 returns-in-Refuses-clause-keeps g c = keeps_trans c.args.w.now c.read_byte.new.w c.refused.new.w (keeps_trans c.args.w.now c.next.new.w c.read_byte.new.w (keeps_trans c.args.w.now c.loop-b.w c.next.new.w c.loop-b.invariant.keeps (keeps_given c.loop-b.w c.next.new.w c.next.ensures.world)) (keeps_read c.walk_len-base.result c.next.new.w c.read_byte.new.w c.read_byte.ensures.reading)) (keeps_levels c.read_byte.new.w c.refused.new.w c.refused.ensures.world)
 
@@ -179,16 +210,21 @@ loop-b-smaller g c = measure_falls (g.T.Bytes.takes_turns c.loop-b.text) (g.T.By
     (λ none. subst (λ (i : Input). g.T.Bytes.number c.next.new.self i < g.T.Bytes.number c.loop-b.text c.loop-b.w.input) (sym (read_input c.walk_len-base.result c.next.new.w c.read_byte.new.w c.read_byte.ensures.reading)) (c.in-Ok-Some.ensures.lower (subst (λ (o : Option ℕ). IsSome o) (sym c.in-Ok-Some.field-0-is) refl) none))
 
 pub loop-b-preserved : goal.loop-b-preserved
-loop-b-preserved g c = let is = subst (λ x. IsStep c.walk_len-base.result c.read_byte.new.w c.read_byte.new.word.items x) c.in-Goes.is c.in-Ok.ensures.step in record {
-  base = c.loop-b.invariant.base;
-  ready = is.0;
-  word = is.1;
-  turns = c.next.ensures.same ∙ c.loop-b.invariant.turns;
-  goes = told_on (g.T.Bytes.takes_turns c.args.text.now) (g.T.Bytes.takes_turns c.loop-b.text) c.loop-b.invariant.turns c.args.w.now c.loop-b.w c.next.new.w c.walk_len-base.result (mode_of c.loop-b.mode c.loop-b.word.items) c.loop-b.group c.loop-b.k (g.T.Bytes.unread c.args.text.now c.args.w.now.input) (g.T.Bytes.unread c.loop-b.text c.loop-b.w.input) (λ i. g.T.Bytes.unread c.next.new.self i) c.loop-b.invariant.goes c.next.ensures.world c.in-Ok-Some.field-0 c.in-Ok-Some.ensures.gives c.in-Ok-Some.ensures.turn c.in-Ok-Some.b c.in-Ok-Some.field-0-is c.read_byte.new.w.input (read_input c.walk_len-base.result c.next.new.w c.read_byte.new.w c.read_byte.ensures.reading) (mode_of c.in-Goes.next c.read_byte.new.word.items) (frames_in c.walk_len-base.result c.read_byte.new.w c.in-Goes.inside) (stock_of c.read_byte.new.w) c.saturating_add-k.result (c.in-Ok.ensures.ok (g.T.Bytes.takes_turns c.args.text.now) ∙ ap (λ x. step_of c.walk_len-base.result c.read_byte.new.w c.read_byte.new.word.items x) c.in-Goes.is) c.saturating_add-k.ensures;
-  printed = told_waits (λ waiting. g.T.Bytes.printed c.next.new.self waiting) (g.T.Bytes.printed c.args.text.now c.args.w.now.output.waiting) (g.T.Bytes.printed c.loop-b.text c.loop-b.w.output.waiting) c.next.new.w.output.waiting c.read_byte.new.w.output.waiting (read_waiting c.walk_len-base.result c.next.new.w c.read_byte.new.w c.read_byte.ensures.reading) c.loop-b.invariant.printed (c.in-Ok-Some.ensures.printed (λ e. cc));
-  reads = c.in-Ok-Some.ensures.steady_reads (λ e. cc) ∙ c.loop-b.invariant.reads;
-  writes = c.in-Ok-Some.ensures.steady_writes (λ e. cc) ∙ c.loop-b.invariant.writes;
-  kept = c.next.ensures.kept ∙ c.loop-b.invariant.kept;
-  keeps = (keeps_trans c.args.w.now c.next.new.w c.read_byte.new.w (keeps_trans c.args.w.now c.loop-b.w c.next.new.w c.loop-b.invariant.keeps (keeps_given c.loop-b.w c.next.new.w c.next.ensures.world)) (keeps_read c.walk_len-base.result c.next.new.w c.read_byte.new.w c.read_byte.ensures.reading));
-  steady = (steady_trans c.walk_len-base.result c.args.w.now.levels c.next.new.w.levels c.read_byte.new.w.levels (steady_as c.walk_len-base.result c.args.w.now.levels c.loop-b.w c.next.new.w (sym (passed_levels c.loop-b.w c.next.new.w c.next.ensures.world)) c.loop-b.invariant.steady) c.read_byte.ensures.reading.steady);
-}
+loop-b-preserved g c = let is = subst (λ x. IsStep c.walk_len-base.result c.read_byte.new.w c.read_byte.new.word.items x) c.in-Goes.is c.in-Ok.ensures.step in
+    let at = (given_stands (stock_of c.args.w.now) (g.T.Bytes.takes_turns c.loop-b.text) c.walk_len-base.result c.loop-b.w c.next.new.w c.loop-b.group c.in-Ok-Some.field-0 c.in-Ok-Some.ensures.turn c.next.ensures.world (c.loop-b.invariant.stands, c.loop-b.invariant.behind)) in
+    let on = byte_stands (stock_of c.args.w.now) (g.T.Bytes.takes_turns c.args.text.now) (mode_of c.loop-b.mode c.loop-b.word.items) c.in-Ok-Some.b (frames_in c.walk_len-base.result c.next.new.w c.loop-b.group) (stock_of c.next.new.w) _ at.1 at.0 (c.in-Ok.ensures.ok (g.T.Bytes.takes_turns c.args.text.now) ∙ ap (λ x. step_of c.walk_len-base.result c.read_byte.new.w c.read_byte.new.word.items x) c.in-Goes.is) in
+    record {
+      base = c.loop-b.invariant.base;
+      ready = is.0;
+      word = is.1;
+      turns = c.next.ensures.same ∙ c.loop-b.invariant.turns;
+      goes = told_on (g.T.Bytes.takes_turns c.args.text.now) (g.T.Bytes.takes_turns c.loop-b.text) c.loop-b.invariant.turns c.args.w.now c.loop-b.w c.next.new.w c.walk_len-base.result (mode_of c.loop-b.mode c.loop-b.word.items) c.loop-b.group c.loop-b.k (g.T.Bytes.unread c.args.text.now c.args.w.now.input) (g.T.Bytes.unread c.loop-b.text c.loop-b.w.input) (λ i. g.T.Bytes.unread c.next.new.self i) c.loop-b.invariant.goes c.next.ensures.world c.in-Ok-Some.field-0 c.in-Ok-Some.ensures.gives c.in-Ok-Some.ensures.turn c.in-Ok-Some.b c.in-Ok-Some.field-0-is c.read_byte.new.w.input (read_input c.walk_len-base.result c.next.new.w c.read_byte.new.w c.read_byte.ensures.reading) (mode_of c.in-Goes.next c.read_byte.new.word.items) (frames_in c.walk_len-base.result c.read_byte.new.w c.in-Goes.inside) (stock_of c.read_byte.new.w) c.saturating_add-k.result (c.in-Ok.ensures.ok (g.T.Bytes.takes_turns c.args.text.now) ∙ ap (λ x. step_of c.walk_len-base.result c.read_byte.new.w c.read_byte.new.word.items x) c.in-Goes.is) c.saturating_add-k.ensures;
+      printed = told_waits (λ waiting. g.T.Bytes.printed c.next.new.self waiting) (g.T.Bytes.printed c.args.text.now c.args.w.now.output.waiting) (g.T.Bytes.printed c.loop-b.text c.loop-b.w.output.waiting) c.next.new.w.output.waiting c.read_byte.new.w.output.waiting (read_waiting c.walk_len-base.result c.next.new.w c.read_byte.new.w c.read_byte.ensures.reading) c.loop-b.invariant.printed (c.in-Ok-Some.ensures.printed (λ e. cc));
+      reads = c.in-Ok-Some.ensures.steady_reads (λ e. cc) ∙ c.loop-b.invariant.reads;
+      writes = c.in-Ok-Some.ensures.steady_writes (λ e. cc) ∙ c.loop-b.invariant.writes;
+      kept = c.next.ensures.kept ∙ c.loop-b.invariant.kept;
+      stands = on.0;
+      behind = on.1;
+      keeps = (keeps_trans c.args.w.now c.next.new.w c.read_byte.new.w (keeps_trans c.args.w.now c.loop-b.w c.next.new.w c.loop-b.invariant.keeps (keeps_given c.loop-b.w c.next.new.w c.next.ensures.world)) (keeps_read c.walk_len-base.result c.next.new.w c.read_byte.new.w c.read_byte.ensures.reading));
+      steady = (steady_trans c.walk_len-base.result c.args.w.now.levels c.next.new.w.levels c.read_byte.new.w.levels (steady_as c.walk_len-base.result c.args.w.now.levels c.loop-b.w c.next.new.w (sym (passed_levels c.loop-b.w c.next.new.w c.next.ensures.world)) c.loop-b.invariant.steady) c.read_byte.ensures.reading.steady);
+    }
