@@ -9,8 +9,7 @@ use Rattle.rl_text.specs.Byte.{Mark, Open, Close, Dot, Quote, OpenVector, CloseV
 use Rattle.rl_text.specs.Word.{Atom, Integer, Identifier, String, signed}
 use Rattle.rl_text.specs.Maker.{Made, Has, Wants}
 use Rattle.rl_text.specs.Reader.{Begun, Going, Dotted, Shut, ReaderFrame, Listing, Vectoring, Quoting, Mode, Gap, Comment, InName, InEscape, AfterSign, InNumber, InText, AfterQuote, Ended, Whole, Inside, Lacks, ReaderStep, Goes, Done, Refuses, Halts, ReaderOutcome, Read, NoneLeft, Refused, Stopped, admits, is_inner, left, ended_with, value_ended, atom_ended, goes_with, goes_after, goes_before, group_begins, open_list, close_list, close_vector, dot, at_mark, in_word, at_class, atom_before, grown_to, in_number, reader_step, ends_after, at_end_between, at_end}
-use Rattle.rl_world.specs.Counts.{WorldCounts, ticked, ticked_at, room_stop, roomed, with_cells}
-use Rattle.rl_world.specs.declared.counts.Expansion.{Expansion}
+use Rattle.rl_world.specs.Counts.{CountsAreTaken, WorldCounts, room_stop, roomed, ticked}
 use Rattle.rl_world.specs.declared.stop.Stop.{Stop}
 use Rattle.rl_world.specs.declared.stop.Stop.TheVariants as stop
 use Rattle.rl_syms.specs.Made.{id_cost}
@@ -22,92 +21,17 @@ use Rattle.rl_read.specs.Reads.{ReadAnswer, IsRefusal, IsStopped}
 use Rattle.rl_read.specs.declared.frames.Group.{Group}
 use Rattle.rl_read.specs.declared.read.ReadFault.{ReadFault}
 use Rattle.rl_read.specs.declared.read.ReadFault.TheVariants as fault
-use Rattle.rl_read.specs.ReadingKeepsCells.{LeavesWhatStood, TakesInExpansion, TakesTicks, TakesTurnsAndCells}
+use Rattle.rl_read.specs.ReadingKeepsCells.{LeavesWhatStood}
 use Rattle.rl_read.specs.Stock as stock
 use Rattle.rl_read.specs.Stock.{Stock, PairChain, and_then_made, atom_made, chain_ended, chain_extended, chain_hung, elements_of, entered, entered_at, identifier_at, identifier_made, in_stock, named_among, object_made, pair_made, quote_made, stock_with_cdr, stock_of, vector_made, with_room, with_room_at}
 use Rattle.rl_read.proofs.ByteByByte.{IsPassed, passed_frames, passed_same, passed_stock}
 use Rattle.rl_read.proofs.CellsKept.{stand_refl, stand_added, stand_changed}
 
--- ---- counts
+pub stood_refl : CountsAreTaken → (k : Stock) → LeavesWhatStood k k
+stood_refl law k = record { cells = stand_refl k.cells.cells; counts = law.none k.counts }
 
-ticks_more : (a o : Option ℕ) (n : ℕ) → o ≡ Some n → TakesTicks a o → TakesTicks a (Some (n + 1))
-ticks_more None None n e h = absurd (cc)
-ticks_more None (Some m) n e h = absurd h
-ticks_more (Some k) None n e h = absurd h
-ticks_more (Some k) (Some m) n e h = let same : m ≡ n = cc in omega (arith, h, same)
-
-not_opening : (a o : Option ℕ) (n : ℕ) → o ≡ None → TakesTicks a o → a ≡ Some n → ⊥
-not_opening None o n e h is = cc
-not_opening (Some k) None n e h is = h
-not_opening (Some k) (Some m) n e h is = cc
-
-expansion_more : (a o : Option Expansion) (e f : Expansion) → o ≡ Some e → f.name ≡ e.name → e.turns ≤ f.turns → e.cells ≤ f.cells → TakesInExpansion a o → TakesInExpansion a (Some f)
-expansion_more None None e f is name turns cells h = absurd (cc)
-expansion_more None (Some g) e f is name turns cells h = absurd h
-expansion_more (Some b) None e f is name turns cells h = absurd h
-expansion_more (Some b) (Some g) e f is name turns cells h =
-    let same : g ≡ e = cc in
-    let t : g.turns ≡ e.turns = ap (λ (x : Expansion). x.turns) same in
-    let c : g.cells ≡ e.cells = ap (λ (x : Expansion). x.cells) same in
-    let n : g.name ≡ e.name = ap (λ (x : Expansion). x.name) same in
-    let first = h.0 in
-    (cc, omega (arith, h.1, t, turns), omega (arith, h.2, c, cells))
-
-expansion_roomed : (a o : Option Expansion) (cost : ℕ) → TakesInExpansion a o → TakesInExpansion a (with_cells cost o)
-expansion_roomed a None cost h = h
-expansion_roomed a (Some e) cost h = expansion_more a (Some e) e (record e { cells = e.cells + cost }) refl refl (omega arith) (omega arith) h
-
-taken_refl : (c : WorldCounts) → TakesTurnsAndCells c c
-taken_refl c = record { same = refl; opening = ticks c.opening; turns = omega arith; untaken = λ n e. refl; expansion = within c.outermost }
-  where
-    ticks : (o : Option ℕ) → TakesTicks o o
-    ticks None = tt
-    ticks (Some n) = omega arith
-
-    within : (o : Option Expansion) → TakesInExpansion o o
-    within None = tt
-    within (Some e) = (refl, omega arith, omega arith)
-
-taken_ticked_at : (a c : WorldCounts) (o : Option ℕ) (e : Option Expansion) → c.opening ≡ o → c.outermost ≡ e → TakesTurnsAndCells a c → TakesTurnsAndCells a (ticked_at o e c)
-taken_ticked_at a c (Some n) e op out h = record {
-  same = ap (λ (k : WorldCounts). record k { opening = Some (n + 1) }) h.same;
-  opening = ticks_more a.opening c.opening n op h.opening;
-  turns = h.turns;
-  untaken = h.untaken;
-  expansion = h.expansion;
-}
-taken_ticked_at a c None (Some e) op out h = record {
-  same = ap (λ (k : WorldCounts). record k { outermost = Some (record e { turns = e.turns + 1 }) }) h.same;
-  opening = h.opening;
-  turns = h.turns;
-  untaken = h.untaken;
-  expansion = expansion_more a.outermost c.outermost e (record e { turns = e.turns + 1 }) out refl (omega arith) (omega arith) h.expansion;
-}
-taken_ticked_at a c None None op out h = record {
-  same = ap (λ (k : WorldCounts). record k { turns = c.turns + 1 }) h.same;
-  opening = h.opening;
-  turns = (let l = h.turns in omega (arith, l));
-  untaken = λ n e. absurd (not_opening a.opening c.opening n op h.opening e);
-  expansion = h.expansion;
-}
-
-taken_ticked : (a c : WorldCounts) → TakesTurnsAndCells a c → TakesTurnsAndCells a (ticked c)
-taken_ticked a c h = taken_ticked_at a c c.opening c.outermost refl refl h
-
-taken_roomed : (a c : WorldCounts) (cost : ℕ) → TakesTurnsAndCells a c → TakesTurnsAndCells a (roomed c cost)
-taken_roomed a c cost h = record {
-  same = ap (λ (k : WorldCounts). record k { outermost = with_cells cost c.outermost }) h.same;
-  opening = h.opening;
-  turns = h.turns;
-  untaken = h.untaken;
-  expansion = expansion_roomed a.outermost c.outermost cost h.expansion;
-}
-
-pub stood_refl : (k : Stock) → LeavesWhatStood k k
-stood_refl k = record { cells = stand_refl k.cells.cells; counts = taken_refl k.counts }
-
-pub stood_ticked : (start k : Stock) → LeavesWhatStood start k → LeavesWhatStood start (record k { counts = ticked k.counts })
-stood_ticked start k h = record { cells = h.cells; counts = taken_ticked start.counts k.counts h.counts }
+pub stood_ticked : CountsAreTaken → (start k : Stock) → LeavesWhatStood start k → LeavesWhatStood start (record k { counts = ticked k.counts })
+stood_ticked law start k h = record { cells = h.cells; counts = law.both start.counts k.counts (ticked k.counts) h.counts (law.turn k.counts) }
 
 -- levels alone are others
 pub stood_levels : (start made now : Stock) (n : ℕ) → record made { left = n } ≡ now → LeavesWhatStood start made → LeavesWhatStood start now
@@ -116,9 +40,6 @@ stood_levels start made now n e h = subst (λ (k : Stock). LeavesWhatStood start
 -- ---- what is made
 
 module _ (start : Stock) where
-  abbrev Stood : Stock → Type 0
-  Stood k = LeavesWhatStood start k
-
   -- a pair behind the cells that stood at first
   abbrev IsBehind : Tagged → Type 0
   IsBehind p = (i : ℕ) × (length start.cells.cells ≤ i) × (p ≡ PairAt i)
@@ -134,6 +55,10 @@ module _ (start : Stock) where
   AreFramesBehind (Vectoring l ∷ fs) = IsChainBehind l × AreFramesBehind fs
   AreFramesBehind (Listing l n p ∷ fs) = IsChainBehind l × AreFramesBehind fs
 
+module _ (law : CountsAreTaken) (start : Stock) where
+  abbrev Stood : Stock → Type 0
+  Stood k = LeavesWhatStood start k
+
   abbrev Makes : {A : Type 0} → (A → Type 0) → Made Stock A Stop → Type 0
   Makes P (Has a k) = Stood k × P a
   Makes P (Wants s k) = Stood k
@@ -147,7 +72,7 @@ module _ (start : Stock) where
 
   room_makes_at : (o : Option Stop) (cost : ℕ) (k : Stock) → Stood k → Makes Anything (with_room_at o cost k)
   room_makes_at (Some s) cost k h = h
-  room_makes_at None cost k h = (record { cells = h.cells; counts = taken_roomed start.counts k.counts cost h.counts }, tt)
+  room_makes_at None cost k h = (record { cells = h.cells; counts = law.both start.counts k.counts (roomed k.counts cost) h.counts (law.cells k.counts cost) }, tt)
 
   room_makes : (cost : ℕ) (k : Stock) → Stood k → Makes Anything (with_room cost k)
   room_makes cost k h = room_makes_at (room_stop k.counts k.cells cost) cost k h
@@ -155,8 +80,8 @@ module _ (start : Stock) where
   object_makes : (P : Tagged → Type 0) (at : ℕ → Tagged) (c : Cell) (k : Stock) → ((n : ℕ) → length start.cells.cells ≤ n → P (at n)) → Stood k → Makes P (object_made at c k)
   object_makes P at c k f h = then_makes Anything P (with_room (cost_of c) k) _ (room_makes (cost_of c) k h) (λ u k h t. (record { cells = stand_added start.cells.cells k.cells.cells (placed c) h.cells; counts = h.counts }, f (length k.cells.cells) h.cells.longer))
 
-  pair_makes : (a d : Tagged) (k : Stock) → Stood k → Makes IsBehind (pair_made a d k)
-  pair_makes a d k h = object_makes IsBehind (λ n. PairAt n) (PairCell a d) k (λ n l. (n, l, refl)) h
+  pair_makes : (a d : Tagged) (k : Stock) → Stood k → Makes (IsBehind start) (pair_made a d k)
+  pair_makes a d k h = object_makes (IsBehind start) (λ n. PairAt n) (PairCell a d) k (λ n l. (n, l, refl)) h
 
   identifier_makes : (name : Name) (k : Stock) → Stood k → Makes Anything (identifier_made name k)
   identifier_makes name k h = at (named_among k.cells.cells name (ids_from k.cells.cells k.head))
@@ -170,17 +95,17 @@ module _ (start : Stock) where
   atom_makes (Identifier name) k h = identifier_makes name k h
   atom_makes (String bytes) k h = object_makes Anything (λ n. StrAt n) (StrCell bytes) k (λ n l. tt) h
 
-  cdr_stands : (p v : Tagged) (k : Stock) → IsBehind p → Stood k → Stood (stock_with_cdr p v k)
+  cdr_stands : (p v : Tagged) (k : Stock) → (IsBehind start) p → Stood k → Stood (stock_with_cdr p v k)
   cdr_stands p v k b h = record { cells = rw b.2 (stand_changed start.cells.cells k.cells.cells b.0 (PairCell (car_of k.cells.cells (PairAt b.0)) v) b.1 h.cells); counts = h.counts }
 
-  hung_makes : (c : PairChain) (p : Tagged) (k : Stock) → IsChainBehind c → IsBehind p → Stood k → Makes IsChainBehind (chain_hung c p k)
+  hung_makes : (c : PairChain) (p : Tagged) (k : Stock) → (IsChainBehind start) c → (IsBehind start) p → Stood k → Makes (IsChainBehind start) (chain_hung c p k)
   hung_makes None p k b e h = (h, e)
   hung_makes (Some c) p k b e h = (cdr_stands c.1 p k b h, e)
 
-  extended_makes : (c : PairChain) (v : Tagged) (k : Stock) → IsChainBehind c → Stood k → Makes IsChainBehind (chain_extended c v k)
-  extended_makes c v k b h = then_makes IsBehind IsChainBehind (pair_made v nil_value k) _ (pair_makes v nil_value k h) (λ p k h e. hung_makes c p k b e h)
+  extended_makes : (c : PairChain) (v : Tagged) (k : Stock) → (IsChainBehind start) c → Stood k → Makes (IsChainBehind start) (chain_extended c v k)
+  extended_makes c v k b h = then_makes (IsBehind start) (IsChainBehind start) (pair_made v nil_value k) _ (pair_makes v nil_value k h) (λ p k h e. hung_makes c p k b e h)
 
-  ended_makes : (c : PairChain) (v : Tagged) (k : Stock) → IsChainBehind c → Stood k → Makes IsChainBehind (chain_ended c v k)
+  ended_makes : (c : PairChain) (v : Tagged) (k : Stock) → (IsChainBehind start) c → Stood k → Makes (IsChainBehind start) (chain_ended c v k)
   ended_makes None v k b h = (h, tt)
   ended_makes (Some c) v k b h = (cdr_stands c.1 v k b h, b)
 
@@ -193,9 +118,9 @@ module _ (start : Stock) where
 
   quote_makes : (v : Tagged) (k : Stock) → Stood k → Makes Anything (quote_made v k)
   quote_makes v k h = then_makes Anything Anything (identifier_made quote_name k) _ (identifier_makes quote_name k h) (λ q k h t.
-      then_makes IsBehind Anything (pair_made v nil_value k) _ (pair_makes v nil_value k h) (λ p k h b. with_any (pair_made q p k) (pair_makes q p k h)))
+      then_makes (IsBehind start) Anything (pair_made v nil_value k) _ (pair_makes v nil_value k h) (λ p k h b. with_any (pair_made q p k) (pair_makes q p k h)))
     where
-      with_any : (x : Made Stock Tagged Stop) → Makes IsBehind x → Makes Anything x
+      with_any : (x : Made Stock Tagged Stop) → Makes (IsBehind start) x → Makes Anything x
       with_any (Has a k) h = (h.0, tt)
       with_any (Wants s k) h = h
 
@@ -210,7 +135,7 @@ module _ (start : Stock) where
 
   abbrev Ends : Ended Stock Tagged PairChain Stop → Type 0
   Ends (Whole v k) = Stood k
-  Ends (Inside fs k) = Stood k × AreFramesBehind fs
+  Ends (Inside fs k) = Stood k × (AreFramesBehind start) fs
   Ends (Lacks s k) = Stood k
 
   ended_with_ends : {A : Type 0} (P : A → Type 0) (x : Made Stock A Stop) (f : A → Stock → Ended Stock Tagged PairChain Stop) → Makes P x → ((a : A) (k : Stock) → Stood k → P a → Ends (f a k)) → Ends (ended_with x f)
@@ -221,22 +146,22 @@ module _ (start : Stock) where
   left_stands true k h = record { cells = h.cells; counts = h.counts }
   left_stands false k h = h
 
-  value_ends : (t : Bool) (v : Tagged) (fs : List (ReaderFrame PairChain)) (k : Stock) → AreFramesBehind fs → Stood k → Ends (value_ended (in_stock t) v fs k)
+  value_ends : (t : Bool) (v : Tagged) (fs : List (ReaderFrame PairChain)) (k : Stock) → (AreFramesBehind start) fs → Stood k → Ends (value_ended (in_stock t) v fs k)
   value_ends t v [] k b h = h
   value_ends t v (Quoting ∷ fs) k b h = ended_with_ends Anything (quote_made v k) _ (quote_makes v k h) (λ q k h e. value_ends t q fs (left (in_stock t) fs k) b (left_stands (is_inner fs) k h))
-  value_ends t v (Vectoring l ∷ fs) k b h = ended_with_ends IsChainBehind (chain_extended l v k) _ (extended_makes l v k b.0 h) (λ l k h e. (h, (e, b.1)))
-  value_ends t v (Listing l m Dotted ∷ fs) k b h = ended_with_ends IsChainBehind (chain_ended l v k) _ (ended_makes l v k b.0 h) (λ l k h e. (h, (e, b.1)))
-  value_ends t v (Listing l m Begun ∷ fs) k b h = ended_with_ends IsChainBehind (chain_extended l v k) _ (extended_makes l v k b.0 h) (λ l k h e. (h, (e, b.1)))
-  value_ends t v (Listing l m Going ∷ fs) k b h = ended_with_ends IsChainBehind (chain_extended l v k) _ (extended_makes l v k b.0 h) (λ l k h e. (h, (e, b.1)))
-  value_ends t v (Listing l m Shut ∷ fs) k b h = ended_with_ends IsChainBehind (chain_extended l v k) _ (extended_makes l v k b.0 h) (λ l k h e. (h, (e, b.1)))
+  value_ends t v (Vectoring l ∷ fs) k b h = ended_with_ends (IsChainBehind start) (chain_extended l v k) _ (extended_makes l v k b.0 h) (λ l k h e. (h, (e, b.1)))
+  value_ends t v (Listing l m Dotted ∷ fs) k b h = ended_with_ends (IsChainBehind start) (chain_ended l v k) _ (ended_makes l v k b.0 h) (λ l k h e. (h, (e, b.1)))
+  value_ends t v (Listing l m Begun ∷ fs) k b h = ended_with_ends (IsChainBehind start) (chain_extended l v k) _ (extended_makes l v k b.0 h) (λ l k h e. (h, (e, b.1)))
+  value_ends t v (Listing l m Going ∷ fs) k b h = ended_with_ends (IsChainBehind start) (chain_extended l v k) _ (extended_makes l v k b.0 h) (λ l k h e. (h, (e, b.1)))
+  value_ends t v (Listing l m Shut ∷ fs) k b h = ended_with_ends (IsChainBehind start) (chain_extended l v k) _ (extended_makes l v k b.0 h) (λ l k h e. (h, (e, b.1)))
 
-  atom_ends : (t : Bool) (a : Atom) (fs : List (ReaderFrame PairChain)) (k : Stock) → AreFramesBehind fs → Stood k → Ends (atom_ended (in_stock t) a fs k)
+  atom_ends : (t : Bool) (a : Atom) (fs : List (ReaderFrame PairChain)) (k : Stock) → (AreFramesBehind start) fs → Stood k → Ends (atom_ended (in_stock t) a fs k)
   atom_ends t a fs k b h = ended_with_ends Anything (atom_made a k) _ (atom_makes a k h) (λ v k h e. value_ends t v fs k b h)
 
   -- ---- a byte
 
   abbrev pub Steps : ReaderStep Stock Tagged PairChain Stop → Type 0
-  Steps (Goes m fs k) = Stood k × AreFramesBehind fs
+  Steps (Goes m fs k) = Stood k × (AreFramesBehind start) fs
   Steps (Done v used k) = Stood k
   Steps (Refuses k) = Stood k
   Steps (Halts s k) = Stood k
@@ -254,10 +179,10 @@ module _ (start : Stock) where
   if_steps true x y h g = h
   if_steps false x y h g = g
 
-  begins_steps : (t : Bool) (f : ReaderFrame PairChain) (fs : List (ReaderFrame PairChain)) (k : Stock) → AreFramesBehind (f ∷ fs) → Stood k → Steps (group_begins (in_stock t) f fs k)
+  begins_steps : (t : Bool) (f : ReaderFrame PairChain) (fs : List (ReaderFrame PairChain)) (k : Stock) → (AreFramesBehind start) (f ∷ fs) → Stood k → Steps (group_begins (in_stock t) f fs k)
   begins_steps t f fs k b h = if_steps (is_inner fs) _ _ (goes_with_steps Anything (entered k) _ (enter_makes k h) (λ a k h e. (h, b))) (h, b)
 
-  open_steps : (t : Bool) (fs : List (ReaderFrame PairChain)) (k : Stock) → AreFramesBehind fs → Stood k → Steps (open_list (in_stock t) fs k)
+  open_steps : (t : Bool) (fs : List (ReaderFrame PairChain)) (k : Stock) → (AreFramesBehind start) fs → Stood k → Steps (open_list (in_stock t) fs k)
   open_steps t [] k b h = begins_steps t (Listing None 0 Begun) [] k (tt, b) h
   open_steps t (Quoting ∷ fs) k b h = begins_steps t (Listing None 0 Begun) (Quoting ∷ fs) k (tt, b) h
   open_steps t (Vectoring l ∷ fs) k b h = begins_steps t (Listing None 0 Begun) (Vectoring l ∷ fs) k (tt, b) h
@@ -266,10 +191,10 @@ module _ (start : Stock) where
   open_steps t (Listing l m Going ∷ fs) k b h = begins_steps t (Listing None 0 Begun) (Listing l m Going ∷ fs) k (tt, b) h
   open_steps t (Listing l m Shut ∷ fs) k b h = begins_steps t (Listing None 0 Begun) (Listing l m Shut ∷ fs) k (tt, b) h
 
-  whole_list : (t : Bool) (l : PairChain) (fs : List (ReaderFrame PairChain)) (k : Stock) → AreFramesBehind fs → Stood k → Steps (goes_after (value_ended (in_stock t) (stock.first_of_chain l) fs (left (in_stock t) fs k)))
+  whole_list : (t : Bool) (l : PairChain) (fs : List (ReaderFrame PairChain)) (k : Stock) → (AreFramesBehind start) fs → Stood k → Steps (goes_after (value_ended (in_stock t) (stock.first_of_chain l) fs (left (in_stock t) fs k)))
   whole_list t l fs k b h = goes_after_steps _ (value_ends t (stock.first_of_chain l) fs (left (in_stock t) fs k) b (left_stands (is_inner fs) k h))
 
-  close_steps : (t : Bool) (fs : List (ReaderFrame PairChain)) (k : Stock) → AreFramesBehind fs → Stood k → Steps (close_list (in_stock t) fs k)
+  close_steps : (t : Bool) (fs : List (ReaderFrame PairChain)) (k : Stock) → (AreFramesBehind start) fs → Stood k → Steps (close_list (in_stock t) fs k)
   close_steps t [] k b h = h
   close_steps t (Quoting ∷ fs) k b h = h
   close_steps t (Vectoring l ∷ fs) k b h = h
@@ -278,10 +203,10 @@ module _ (start : Stock) where
   close_steps t (Listing l zero Going ∷ fs) k b h = whole_list t l fs k b.1 h
   close_steps t (Listing l zero Shut ∷ fs) k b h = whole_list t l fs k b.1 h
   close_steps t (Listing l (suc m) Shut ∷ fs) k b h = (h, b)
-  close_steps t (Listing l (suc m) Begun ∷ fs) k b h = goes_with_steps IsChainBehind (chain_ended l nil_value k) _ (ended_makes l nil_value k b.0 h) (λ l k h e. (h, (e, b.1)))
-  close_steps t (Listing l (suc m) Going ∷ fs) k b h = goes_with_steps IsChainBehind (chain_ended l nil_value k) _ (ended_makes l nil_value k b.0 h) (λ l k h e. (h, (e, b.1)))
+  close_steps t (Listing l (suc m) Begun ∷ fs) k b h = goes_with_steps (IsChainBehind start) (chain_ended l nil_value k) _ (ended_makes l nil_value k b.0 h) (λ l k h e. (h, (e, b.1)))
+  close_steps t (Listing l (suc m) Going ∷ fs) k b h = goes_with_steps (IsChainBehind start) (chain_ended l nil_value k) _ (ended_makes l nil_value k b.0 h) (λ l k h e. (h, (e, b.1)))
 
-  dot_steps : (t : Bool) (fs : List (ReaderFrame PairChain)) (k : Stock) → AreFramesBehind fs → Stood k → Steps (dot (in_stock t) fs k)
+  dot_steps : (t : Bool) (fs : List (ReaderFrame PairChain)) (k : Stock) → (AreFramesBehind start) fs → Stood k → Steps (dot (in_stock t) fs k)
   dot_steps t [] k b h = h
   dot_steps t (Quoting ∷ fs) k b h = h
   dot_steps t (Vectoring l ∷ fs) k b h = h
@@ -290,13 +215,13 @@ module _ (start : Stock) where
   dot_steps t (Listing l m Dotted ∷ fs) k b h = h
   dot_steps t (Listing l m Shut ∷ fs) k b h = h
 
-  close_vector_steps : (t : Bool) (fs : List (ReaderFrame PairChain)) (k : Stock) → AreFramesBehind fs → Stood k → Steps (close_vector (in_stock t) fs k)
+  close_vector_steps : (t : Bool) (fs : List (ReaderFrame PairChain)) (k : Stock) → (AreFramesBehind start) fs → Stood k → Steps (close_vector (in_stock t) fs k)
   close_vector_steps t [] k b h = h
   close_vector_steps t (Quoting ∷ fs) k b h = h
   close_vector_steps t (Listing l m p ∷ fs) k b h = h
   close_vector_steps t (Vectoring l ∷ fs) k b h = goes_after_steps _ (ended_with_ends Anything (vector_made l k) _ (vector_makes l k h) (λ v k h e. value_ends t v fs (left (in_stock t) fs k) b.1 (left_stands (is_inner fs) k h)))
 
-  mark_steps : (t : Bool) (mark : Mark) (fs : List (ReaderFrame PairChain)) (k : Stock) → AreFramesBehind fs → Stood k → Steps (at_mark (in_stock t) mark fs k)
+  mark_steps : (t : Bool) (mark : Mark) (fs : List (ReaderFrame PairChain)) (k : Stock) → (AreFramesBehind start) fs → Stood k → Steps (at_mark (in_stock t) mark fs k)
   mark_steps t Close fs k b h = close_steps t fs k b h
   mark_steps t CloseVector fs k b h = close_vector_steps t fs k b h
   mark_steps t Dot fs k b h = dot_steps t fs k b h
@@ -304,10 +229,10 @@ module _ (start : Stock) where
   mark_steps t OpenVector fs k b h = if_steps (admits fs) _ _ (begins_steps t (Vectoring None) fs k (tt, b) h) h
   mark_steps t Quote fs k b h = if_steps (admits fs) _ _ (begins_steps t Quoting fs k b h) h
 
-  word_steps : (m : Mode) (fs : List (ReaderFrame PairChain)) (k : Stock) → AreFramesBehind fs → Stood k → Steps (in_word m fs k)
+  word_steps : (m : Mode) (fs : List (ReaderFrame PairChain)) (k : Stock) → (AreFramesBehind start) fs → Stood k → Steps (in_word m fs k)
   word_steps m fs k b h = if_steps (admits fs) _ _ (h, b) h
 
-  class_steps : (t : Bool) (c : Class) (x : ℕ) (fs : List (ReaderFrame PairChain)) (k : Stock) → AreFramesBehind fs → Stood k → Steps (at_class (in_stock t) c x fs k)
+  class_steps : (t : Bool) (c : Class) (x : ℕ) (fs : List (ReaderFrame PairChain)) (k : Stock) → (AreFramesBehind start) fs → Stood k → Steps (at_class (in_stock t) c x fs k)
   class_steps t Blank x fs k b h = (h, b)
   class_steps t Percent x fs k b h = (h, b)
   class_steps t (Marks mark) x fs k b h = mark_steps t mark fs k b h
@@ -324,16 +249,16 @@ module _ (start : Stock) where
   goes_before_steps t x (Inside fs k) h = class_steps t (class_of x) x fs k h.1 h.0
   goes_before_steps t x (Lacks s k) h = h
 
-  before_steps : (t : Bool) (a : Atom) (x : ℕ) (fs : List (ReaderFrame PairChain)) (k : Stock) → AreFramesBehind fs → Stood k → Steps (atom_before (in_stock t) a x fs k)
+  before_steps : (t : Bool) (a : Atom) (x : ℕ) (fs : List (ReaderFrame PairChain)) (k : Stock) → (AreFramesBehind start) fs → Stood k → Steps (atom_before (in_stock t) a x fs k)
   before_steps t a x fs k b h = goes_before_steps t x _ (atom_ends t a fs k b h)
 
-  grown_steps : (most : ℕ) (bytes : List ℕ) (m : Mode) (fs : List (ReaderFrame PairChain)) (k : Stock) → AreFramesBehind fs → Stood k → Steps (grown_to most bytes m fs k)
+  grown_steps : (most : ℕ) (bytes : List ℕ) (m : Mode) (fs : List (ReaderFrame PairChain)) (k : Stock) → (AreFramesBehind start) fs → Stood k → Steps (grown_to most bytes m fs k)
   grown_steps most bytes m fs k b h = if_steps (nat_lt (length bytes) most) _ _ (h, b) h
 
-  number_steps : (minus : Bool) (m : ℕ) (fs : List (ReaderFrame PairChain)) (k : Stock) → AreFramesBehind fs → Stood k → Steps (in_number minus m fs k)
+  number_steps : (minus : Bool) (m : ℕ) (fs : List (ReaderFrame PairChain)) (k : Stock) → (AreFramesBehind start) fs → Stood k → Steps (in_number minus m fs k)
   number_steps minus m fs k b h = if_steps (if minus then nat_le m (2 ^ 59) else nat_lt m (2 ^ 59)) (Goes (InNumber minus m) fs k) (Refuses k) (h, b) h
 
-  step_stands : (t : Bool) (m : Mode) (x : ℕ) (fs : List (ReaderFrame PairChain)) (k : Stock) → AreFramesBehind fs → Stood k → Steps (reader_step (in_stock t) m x fs k)
+  step_stands : (t : Bool) (m : Mode) (x : ℕ) (fs : List (ReaderFrame PairChain)) (k : Stock) → (AreFramesBehind start) fs → Stood k → Steps (reader_step (in_stock t) m x fs k)
   step_stands t Gap x fs k b h = class_steps t (class_of x) x fs k b h
   step_stands t Comment x fs k b h = (h, b)
   step_stands t (InName cs) x fs k b h =
@@ -346,7 +271,7 @@ module _ (start : Stock) where
   step_stands t (AfterQuote cs) x fs k b h = if_steps (x == 34) _ _ (grown_steps 65535 cs (InText (cs ++ 34 ∷ [])) fs k b h) (before_steps t (String cs) x fs k b h)
 
   -- what a byte comes to
-  pub byte_stands : (t : Bool) (m : Mode) (x : ℕ) (fs : List (ReaderFrame PairChain)) (k : Stock) (y : ReaderStep Stock Tagged PairChain Stop) → AreFramesBehind fs → Stood k → reader_step (in_stock t) m x fs k ≡ y → Steps y
+  pub byte_stands : (t : Bool) (m : Mode) (x : ℕ) (fs : List (ReaderFrame PairChain)) (k : Stock) (y : ReaderStep Stock Tagged PairChain Stop) → (AreFramesBehind start) fs → Stood k → reader_step (in_stock t) m x fs k ≡ y → Steps y
   byte_stands t m x fs k y b h e = subst (λ (y : ReaderStep Stock Tagged PairChain Stop). Steps y) e (step_stands t m x fs k b h)
 
   -- ---- the end of a text
@@ -366,7 +291,7 @@ module _ (start : Stock) where
   between_comes [] k h = h
   between_comes (f ∷ fs) k h = h
 
-  pub end_stands : (t : Bool) (m : Mode) (fs : List (ReaderFrame PairChain)) (k : Stock) → AreFramesBehind fs → Stood k → Comes (at_end (in_stock t) m fs k)
+  pub end_stands : (t : Bool) (m : Mode) (fs : List (ReaderFrame PairChain)) (k : Stock) → (AreFramesBehind start) fs → Stood k → Comes (at_end (in_stock t) m fs k)
   end_stands t Gap fs k b h = between_comes fs k h
   end_stands t Comment fs k b h = between_comes fs k h
   end_stands t (InName cs) fs k b h = after_comes _ (atom_ends t (Identifier cs) fs k b h)
@@ -379,22 +304,22 @@ module _ (start : Stock) where
 -- ---- in a world
 
 -- a byte was given, or none was left
-pub given_stands : (start : Stock) (turns : Bool) (base : ℕ) (old new : World) (g : Group) (b : Option ℕ) → IsGiven turns old new b → IsPassed old new → LeavesWhatStood start (stock_of old) × AreFramesBehind start (frames_in base old g)
+pub given_stands : CountsAreTaken → (start : Stock) (turns : Bool) (base : ℕ) (old new : World) (g : Group) (b : Option ℕ) → IsGiven turns old new b → IsPassed old new → LeavesWhatStood start (stock_of old) × AreFramesBehind start (frames_in base old g)
     → LeavesWhatStood start (stock_of new) × AreFramesBehind start (frames_in base new g)
-given_stands start turns base old new g b given e h = (stood turns b given, subst (λ fs. AreFramesBehind start fs) (sym (passed_frames base old new g e)) h.1)
+given_stands law start turns base old new g b given e h = (stood turns b given, subst (λ fs. AreFramesBehind start fs) (sym (passed_frames base old new g e)) h.1)
   where
     same : new.counts ≡ old.counts → LeavesWhatStood start (stock_of new)
     same s = subst (λ k. LeavesWhatStood start k) (sym (passed_same old new e s)) h.0
 
     stood : (turns : Bool) (b : Option ℕ) → IsGiven turns old new b → LeavesWhatStood start (stock_of new)
-    stood true (Some b) given = subst (λ k. LeavesWhatStood start k) (sym (passed_stock old new e ∙ ap (λ (c : WorldCounts). record (stock_of old) { counts = c }) given.counted)) (stood_ticked start (stock_of old) h.0)
+    stood true (Some b) given = subst (λ k. LeavesWhatStood start k) (sym (passed_stock old new e ∙ ap (λ (c : WorldCounts). record (stock_of old) { counts = c }) given.counted)) (stood_ticked law start (stock_of old) h.0)
     stood true None given = same given
     stood false b given = same given
 
 -- the text has ended, in any of the ways
-pub answer_stands : (start : Stock) (r : Result Tagged ReadFault) (answer : Bool → ReadAnswer) (new : World) (k : ℕ) → Comes start (answer true) → IfOk r (λ v. (t : Bool) → answer t ≡ Read v (stock_of new) [])
+pub answer_stands : (law : CountsAreTaken) (start : Stock) (r : Result Tagged ReadFault) (answer : Bool → ReadAnswer) (new : World) (k : ℕ) → Comes law start (answer true) → IfOk r (λ v. (t : Bool) → answer t ≡ Read v (stock_of new) [])
     → ((j : ℕ) → r ≡ Err (fault.Syntax j) → (j ≡ k) × IsRefusal new answer []) → (r ≡ Err fault.End → (t : Bool) → answer t ≡ NoneLeft (stock_of new)) → ((s : Stop) → r ≡ Err (fault.Stop s) → IsStopped answer s [] (stock_of new)) → LeavesWhatStood start (stock_of new)
-answer_stands start (Ok v) answer new k h ok syntax none stopped = subst (Comes start) (ok true) h
-answer_stands start (Err (fault.Syntax j)) answer new k h ok syntax none stopped = let r = (syntax j refl).1 in stood_levels start r.made (stock_of new) _ r.stays (subst (Comes start) (r.refused true) h)
-answer_stands start (Err fault.End) answer new k h ok syntax none stopped = subst (Comes start) (none refl true) h
-answer_stands start (Err (fault.Stop s)) answer new k h ok syntax none stopped = subst (Comes start) (stopped s refl true) h
+answer_stands law start (Ok v) answer new k h ok syntax none stopped = subst (Comes law start) (ok true) h
+answer_stands law start (Err (fault.Syntax j)) answer new k h ok syntax none stopped = let r = (syntax j refl).1 in stood_levels start r.made (stock_of new) _ r.stays (subst (Comes law start) (r.refused true) h)
+answer_stands law start (Err fault.End) answer new k h ok syntax none stopped = subst (Comes law start) (none refl true) h
+answer_stands law start (Err (fault.Stop s)) answer new k h ok syntax none stopped = subst (Comes law start) (stopped s refl true) h

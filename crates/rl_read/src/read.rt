@@ -22,7 +22,7 @@ use crate::frames::{Group, leave};
 use crate::step::{Ended, Step, read_byte, word_ended};
 use crate::word::{Mode, Word};
 use rl_tags::Val;
-use rl_world::laws::bounds_are_kept;
+use rl_world::laws::{bounds_are_kept, counts_are_taken};
 use rl_world::{Stop, World};
 
 /// Why no form is read.
@@ -66,6 +66,7 @@ pub fn read_form<T: Bytes>(w: &mut World, text: &mut T) -> Result<Val, ReadFault
     ensures stands { LeavesWhatStood (stock_of w.old) (stock_of w.new) }
 {
     bounds_are_kept();
+    counts_are_taken();
     let base = w.walk_len();
     let mut word = Word::new();
     let mut mode = Mode::Gap;

@@ -19,7 +19,7 @@ use Rattle.rl_syms.specs.Table as table
 use Rattle.rl_syms.specs.Table.{IsFree, IsTable, SymbolCells, ids_from, is_id, name_in_cells, nil_value, symbol_in_cells}
 use Rattle.rl_syms.specs.declared.table.Syms.{Syms}
 use Rattle.rl_world.specs.Counts as counted
-use Rattle.rl_world.specs.Counts.{TakesCounts, cells_bound_at, cells_taken, room_stop, roomed, with_cells}
+use Rattle.rl_world.specs.Counts.{CountsAreTaken, TakesTurnsAndCells, cells_bound_at, cells_taken, room_stop, roomed, with_cells}
 use Rattle.rl_world.specs.declared.counts.Expansion as expansion
 use Rattle.rl_world.specs.declared.stop.Stop as stops
 use Rattle.rl_world.specs.declared.world.World.{World}
@@ -33,7 +33,6 @@ use Rattle.rl_state.specs.ShownState.{ShowsState, ShowsSymbols, counts_in, expan
 use Rattle.rl_state.specs.Beside.{StaysBeside}
 use Rattle.rl_state.specs.Worlds.{AreRunCounts, HasNumber, IsWorld, ObjectsAlone, WorldGrows}
 use Rattle.rl_state.specs.Ending.{MeansValue}
-use Rattle.rl_state.proofs.Counted.{takes_room}
 use Rattle.rl_state.proofs.Kept.{SameValues, alike_stood, blank_symbol, id_inside, named_same, number_same, same_id, symbol_like, value_stood}
 use Rattle.rl_state.proofs.Room.{left, left_behind, left_in, room_done, room_full, roomed_in}
 use Rattle.rl_state.proofs.Made.{expanding_kept, expanding_roomed, expansion_kept, running_made, taken_made}
@@ -386,10 +385,10 @@ loose_table w r cs names v name step m t =
     let x = named_final w r cs names v name None w.syms.head step m in
     subst (λ (y : World). IsTable y.cells.cells y.syms.head) x t
 
-pub entered_rest : (w r : World) (cs : cell.CellStore) (names : Syms) (cost : ℕ) → r ≡ record w { counts = roomed w.counts cost } → ObjectsAlone w (record r { cells = cs; syms = names })
-entered_rest w r cs names cost e = record {
+pub entered_rest : (law : CountsAreTaken) (w r : World) (cs : cell.CellStore) (names : Syms) (cost : ℕ) → r ≡ record w { counts = roomed w.counts cost } → ObjectsAlone w (record r { cells = cs; syms = names })
+entered_rest law w r cs names cost e = record {
   rest = subst (λ (y : World). record y { cells = cs; syms = names } ≡ record w { cells = cs; syms = names; counts = y.counts }) (sym e) refl;
-  counts = subst (λ (y : World). TakesCounts w.counts y.counts) (sym e) (takes_room w.counts cost);
+  counts = subst (λ (y : World). TakesTurnsAndCells w.counts y.counts) (sym e) (law.cells w.counts cost);
 }
 
 pub table_counted : (w r : World) (k : counted.WorldCounts) → r ≡ record w { counts = k } → IsTable w.cells.cells w.syms.head → IsTable r.cells.cells r.syms.head

@@ -6,7 +6,6 @@ pub mod StockKept
 pub mod ReadingShown
 pub mod ReadingEnds
 pub mod ReadingTied
-pub mod Counted
 pub mod Room
 pub mod Made
 pub mod Set

@@ -16,7 +16,7 @@ use Rattle.rl_syms.specs.Table.{is_id}
 use Rattle.rl_state.specs.CellLaws.{AreCellLaws}
 use Rattle.rl_world.specs.Counts as counted
 use Rattle.rl_world.specs.Bounds.{AreSpareCounted, OpenTogether, RoomIsEnough}
-use Rattle.rl_world.specs.Counts.{TakesCounts, cells_bound_at, cells_taken, room_stop, roomed, ticked, with_cells}
+use Rattle.rl_world.specs.Counts.{CountsAreTaken, TakesTurnsAndCells, cells_bound_at, cells_taken, room_stop, roomed, ticked, with_cells}
 use Rattle.rl_world.specs.Errors.{AreTexts}
 use Rattle.rl_world.specs.declared.counts.Expansion.{Expansion}
 use Rattle.rl_world.specs.declared.stop.Stop as stops
@@ -29,7 +29,6 @@ use Rattle.rl_state.specs.ShownState.{ShowsState, cells_in, counts_in, expansion
 use Rattle.rl_state.specs.Worlds.{IsWorld, AreRunCounts, HasNumber, ObjectsAlone, WorldGrows}
 use Rattle.rl_state.specs.Ending.{MeansValue}
 use Rattle.rl_state.proofs.Kept.{SameValues, all_ids_same, named_same, symbols_kept}
-use Rattle.rl_state.proofs.Counted.{takes_none, takes_room, takes_trans, takes_turn}
 use Rattle.rl_state.proofs.Room.{left, left_behind, left_in, room_done, room_fits, room_full, roomed_in}
 
 string_kept : (old new : List Cell) (v : Tagged) → KeepsIdentifiers old new → is_str old v ≡ true → is_str new v ≡ true
@@ -307,28 +306,28 @@ vector_stops w x n why e i stop s shown =
 
 -- ---- what is beside the objects
 
-pub rest_made : (w r : World) (cs : cell.CellStore) (cost : ℕ) → r ≡ record w { counts = roomed w.counts cost } → ObjectsAlone w (record r { cells = cs })
-rest_made w r cs cost e = record {
+pub rest_made : (law : CountsAreTaken) (w r : World) (cs : cell.CellStore) (cost : ℕ) → r ≡ record w { counts = roomed w.counts cost } → ObjectsAlone w (record r { cells = cs })
+rest_made law w r cs cost e = record {
   rest = subst (λ (x : World). record x { cells = cs } ≡ record w { cells = cs; syms = x.syms; counts = x.counts }) (sym e) refl;
-  counts = subst (λ (x : World). TakesCounts w.counts x.counts) (sym e) (takes_room w.counts cost);
+  counts = subst (λ (x : World). TakesTurnsAndCells w.counts x.counts) (sym e) (law.cells w.counts cost);
 }
 
-pub rest_refl : (w x : World) → x ≡ w → ObjectsAlone w x
-rest_refl w x e = record {
+pub rest_refl : (law : CountsAreTaken) (w x : World) → x ≡ w → ObjectsAlone w x
+rest_refl law w x e = record {
   rest = subst (λ (y : World). y ≡ record w { cells = y.cells; syms = y.syms; counts = y.counts }) (sym e) refl;
-  counts = subst (λ (y : World). TakesCounts w.counts y.counts) (sym e) (takes_none w.counts);
+  counts = subst (λ (y : World). TakesTurnsAndCells w.counts y.counts) (sym e) (law.none w.counts);
 }
 
-pub rest_trans : (w x y : World) → ObjectsAlone w x → ObjectsAlone x y → ObjectsAlone w y
-rest_trans w x y a b = record {
+pub rest_trans : (law : CountsAreTaken) (w x y : World) → ObjectsAlone w x → ObjectsAlone x y → ObjectsAlone w y
+rest_trans law w x y a b = record {
   rest = b.rest ∙ ap (λ (z : World). record z { cells = y.cells; syms = y.syms; counts = y.counts }) a.rest;
-  counts = takes_trans w.counts x.counts y.counts a.counts b.counts;
+  counts = law.both w.counts x.counts y.counts a.counts b.counts;
 }
 
-pub rest_ticked : (w x : World) → x ≡ record w { counts = ticked w.counts } → ObjectsAlone w x
-rest_ticked w x e = record {
+pub rest_ticked : (law : CountsAreTaken) (w x : World) → x ≡ record w { counts = ticked w.counts } → ObjectsAlone w x
+rest_ticked law w x e = record {
   rest = subst (λ (y : World). y ≡ record w { cells = y.cells; syms = y.syms; counts = y.counts }) (sym e) refl;
-  counts = subst (λ (y : World). TakesCounts w.counts y.counts) (sym e) (takes_turn w.counts);
+  counts = subst (λ (y : World). TakesTurnsAndCells w.counts y.counts) (sym e) (law.turn w.counts);
 }
 
 -- ---- room that was counted is there

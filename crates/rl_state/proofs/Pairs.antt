@@ -11,7 +11,7 @@ use Rattle.rl_syms.specs.Contents.{value_of, number_at}
 use Rattle.rl_syms.specs.Laws.{ChangesObject, IsRead}
 use Rattle.rl_state.specs.CellLaws.{AreCellLaws}
 use Rattle.rl_syms.specs.Frame.{KeepsIdentifiers}
-use Rattle.rl_world.specs.Counts.{TakesCounts}
+use Rattle.rl_world.specs.Counts.{CountsAreTaken, TakesTurnsAndCells}
 use Rattle.rl_world.specs.declared.world.World.{World}
 use Rattle.rl_meaning.specs.State.{State}
 use Rattle.rl_cells.specs.Cell as cell
@@ -22,7 +22,6 @@ use Rattle.rl_meaning.specs.Symbols.{pair_at, parts_of, places_of, vector_at}
 use Rattle.rl_state.specs.ShownState.{ShowsState}
 use Rattle.rl_state.specs.Worlds.{IsWorld, ObjectsAlone, WorldGrows}
 use Rattle.rl_meaning.specs.Copying.{with_object}
-use Rattle.rl_state.proofs.Counted.{takes_none}
 use Rattle.rl_state.proofs.Kept.{symbols_kept}
 use Rattle.rl_state.proofs.Made.{counts_changed, expanding_kept, running_changed, world_kept}
 use Rattle.rl_state.specs.Ending.{MeansAnswer}
@@ -133,10 +132,10 @@ pub altered_shown : (law : AreCellLaws) (w x : World) (new : List Cell) (r : ℕ
     → ShowsState x (record s { store = changed_store s.store r o })
 altered_shown law w x new r o a i s shown = subst (λ y. ShowsState y (record s { store = changed_store s.store r o })) (sym a.is) (object_shown law w new r o a.alters i a.closed s shown)
 
-pub altered_rest : (w x : World) (new : List Cell) → x ≡ with_list w new → ObjectsAlone w x
-altered_rest w x new e = record {
+pub altered_rest : (law : CountsAreTaken) (w x : World) (new : List Cell) → x ≡ with_list w new → ObjectsAlone w x
+altered_rest law w x new e = record {
   rest = subst (λ (y : World). y ≡ record w { cells = y.cells; syms = y.syms; counts = y.counts }) (sym e) refl;
-  counts = subst (λ (y : World). TakesCounts w.counts y.counts) (sym e) (takes_none w.counts);
+  counts = subst (λ (y : World). TakesTurnsAndCells w.counts y.counts) (sym e) (law.none w.counts);
 }
 
 pub altered_is : (w : World) (cs : cell.CellStore) (new : List Cell) → cs ≡ record w.cells { cells = new } → record w { cells = cs } ≡ with_list w new

@@ -16,7 +16,7 @@ use Rattle.rl_syms.specs.Table as table
 use Rattle.rl_syms.specs.Table.{IsTable, SymbolCells, ids_from, is_id, symbol_in_cells}
 use Rattle.rl_syms.specs.Frame.{KeepsMeaning, Sets}
 use Rattle.rl_syms.specs.declared.table.Syms.{Syms}
-use Rattle.rl_world.specs.Counts.{TakesCounts}
+use Rattle.rl_world.specs.Counts.{CountsAreTaken, TakesTurnsAndCells}
 use Rattle.rl_world.specs.declared.world.World.{World}
 use Rattle.rl_meaning.specs.State.{State}
 use Rattle.rl_meaning.specs.State as meaning
@@ -25,7 +25,6 @@ use Rattle.rl_meaning.specs.Variables.{nearest}
 use Rattle.rl_meaning.specs.Symbols.{with_symbol, with_top, message_id, new_symbol}
 use Rattle.rl_state.specs.ShownState.{ShowsState, ShowsSymbols, is_listed, definition_in, number_in, option_value_in, pointer_named, value_seen, seen_of, symbol_meant}
 use Rattle.rl_state.specs.Worlds.{IsWorld, HasNumber, ObjectsAlone, WorldGrows, SeenOtherwise}
-use Rattle.rl_state.proofs.Counted.{takes_none}
 use Rattle.rl_state.proofs.Kept.{AlikeShown, all_ids_same, id_cell, named_same, number_same, symbol_like}
 use Rattle.rl_state.proofs.Made.{counts_changed, expanding_kept, made_stays, running_changed}
 
@@ -346,10 +345,10 @@ field_set w cs names id y e f t sets = record {
 pub field_grows : (law : IdentifiersAreNumbered) (w x : World) (id : Tagged) (y : SymbolCells) → IsFieldSet w x id y → IsWorld w → WorldGrows w x
 field_grows law w x id y s i = subst (λ z. WorldGrows w z) (sym s.is) (set_grows law w x.cells.cells id y i s.table s.sets)
 
-pub field_rest : (w x : World) (id : Tagged) (y : SymbolCells) → IsFieldSet w x id y → ObjectsAlone w x
-field_rest w x id y s = record {
+pub field_rest : (law : CountsAreTaken) (w x : World) (id : Tagged) (y : SymbolCells) → IsFieldSet w x id y → ObjectsAlone w x
+field_rest law w x id y s = record {
   rest = subst (λ (z : World). z ≡ record w { cells = z.cells; syms = z.syms; counts = z.counts }) (sym s.is) refl;
-  counts = subst (λ (z : World). TakesCounts w.counts z.counts) (sym s.is) (takes_none w.counts);
+  counts = subst (λ (z : World). TakesTurnsAndCells w.counts z.counts) (sym s.is) (law.none w.counts);
 }
 
 pub properties_shown : (law : IdentifiersAreNumbered) (w x : World) (id v : Tagged) → IsFieldSet w x id (record (symbol_in_cells w.cells.cells (index_of id)) { plist = v }) → IsWorld w → is_id w.cells.cells id ≡ true

@@ -18,10 +18,11 @@ use Rattle.rl_state.specs.ShownState.{ShowsState}
 use Rattle.rl_state.specs.Worlds.{WorldGrows}
 use Rattle.rl_state.specs.Beside.{StaysBeside}
 use Rattle.rl_state.specs.Ending.{EndsShown, MeansDone, MeansAnswer, StopsWith, parts_in, stop_in}
+use Rattle.rl_state.proofs.Outer.{stays_still}
 use Rattle.rl_state.proofs.Steps.{shows_reading, stays_reading, stays_trans}
 
 still : (s : State) → StaysBeside s s
-still s = record { functions = record { functions = refl; compilation = refl }; bindings = record { entries = refl; hidden = λ i b h. refl }; outside = refl }
+still s = stays_still s s.store s.watched
 
 pub turn_then : {A : Type 0} (s : State) (next : State → Outcome A) → turn s next ≡ then_do (turn s (λ t. Done (tt {0}) t)) (λ u t. next t)
 turn_then {A} s next = go s.counts.expansion

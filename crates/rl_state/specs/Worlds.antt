@@ -6,7 +6,7 @@ use Rattle.rl_tags.specs.Ids.{t_id, emsg_star_id}
 use Rattle.rl_cells.specs.Cell.{Cell, CellStore, is_live}
 use Rattle.rl_syms.specs.Table.{IsTable, is_id}
 use Rattle.rl_world.specs.Bounds.{BoundsAgree}
-use Rattle.rl_world.specs.Counts.{TakesCounts, WorldCounts}
+use Rattle.rl_world.specs.Counts.{TakesTurnsAndCells, WorldCounts}
 use Rattle.rl_world.specs.Errors.{AreTexts}
 use Rattle.rl_world.specs.Walks.{IsSteady}
 use Rattle.rl_world.specs.declared.world.World.{World}
@@ -52,12 +52,12 @@ pub record WorldGrows (old new : World) : Type 0 where
 -- of a world nothing but objects, names, and the turns and cells that were taken has changed: levels, output, input and notes are as they were
 pub record ObjectsAlone (old new : World) : Type 0 where
   pub rest : new ≡ record old { cells = new.cells; syms = new.syms; counts = new.counts }
-  pub counts : TakesCounts old.counts new.counts
+  pub counts : TakesTurnsAndCells old.counts new.counts
 
 -- of a world nothing but the turns that were taken, levels, and what waits to be printed has changed, and what walks kept stays below
 pub record PrintsAlone (old new : World) : Type 0 where
   pub rest : new ≡ record old { counts = new.counts; levels = new.levels; output = record old.output { waiting = new.output.waiting; column = new.output.column } }
-  pub counts : TakesCounts old.counts new.counts
+  pub counts : TakesTurnsAndCells old.counts new.counts
   pub steady : IsSteady (length old.levels.walk) old.levels new.levels
 
 -- what no world determines: functions and compilation, bindings and the values below them, what is watched, files, and what was read, printed and noted

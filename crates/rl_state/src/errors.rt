@@ -13,6 +13,7 @@ ghost use Rattle.rl_tags.specs.Tagged.{Number};
 use crate::objects::pair;
 use rl_syms::laws::identifiers_are_numbered;
 use rl_tags::{EMSG_STAR, NIL, Val};
+use rl_world::laws::counts_are_taken;
 use rl_world::{NStep, World};
 
 /// Makes this the message of an error.
@@ -23,6 +24,7 @@ fn set_message(w: &mut World, v: Val)
     ensures grows { WorldGrows w.old w.new }
     ensures rest { ObjectsAlone w.old w.new }
 {
+    counts_are_taken();
     identifiers_are_numbered();
     w.syms.set_value(&mut w.cells, EMSG_STAR, Some(v));
 }
@@ -45,6 +47,7 @@ pub fn fail(w: &mut World, n: u8, culprit: Val) -> NStep
     ensures grows { WorldGrows w.old w.new }
     ensures rest { ObjectsAlone w.old w.new }
 {
+    counts_are_taken();
     let text = w.error_text(n);
     let rest = match pair(w, text, NIL) {
         Ok(v) => v,

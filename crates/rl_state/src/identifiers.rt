@@ -13,6 +13,7 @@ use rl_syms::laws::identifiers_are_numbered;
 use rl_tags::Val;
 use rl_tree::{Kind, VarKind};
 use rl_world::World;
+use rl_world::laws::counts_are_taken;
 
 /// The name of an identifier, as a string.
 pub fn name(w: &World, id: Val) -> Val
@@ -63,6 +64,7 @@ pub fn set_properties(w: &mut World, id: Val, v: Val)
     ensures grows { WorldGrows w.old w.new }
     ensures rest { ObjectsAlone w.old w.new }
 {
+    counts_are_taken();
     identifiers_are_numbered();
     w.syms.set_plist(&mut w.cells, id, v);
 }
@@ -77,6 +79,7 @@ pub fn set_definition(w: &mut World, id: Val, d: Option<(Kind, Val)>)
     ensures grows { WorldGrows w.old w.new }
     ensures rest { ObjectsAlone w.old w.new }
 {
+    counts_are_taken();
     identifiers_are_numbered();
     w.syms.set_function(&mut w.cells, id, d);
 }
@@ -89,6 +92,7 @@ pub fn set_kind(w: &mut World, id: Val, k: VarKind)
     ensures grows { WorldGrows w.old w.new }
     ensures rest { ObjectsAlone w.old w.new }
 {
+    counts_are_taken();
     identifiers_are_numbered();
     w.syms.set_kind(&mut w.cells, id, k);
 }

@@ -14,6 +14,7 @@ ghost use Rattle.rl_state.specs.Ending.{MeansValue};
 use crate::laws::cells_are_known;
 use rl_syms::laws::{identifiers_are_numbered, names_are_identifiers};
 use rl_tags::Val;
+use rl_world::laws::counts_are_taken;
 use rl_world::{Stop, World};
 
 /// The interned identifier of this name of 1 to 255 bytes; where there is none yet it is made. After a stop the objects are
@@ -28,6 +29,7 @@ pub fn identifier(w: &mut World, name: &[u8]) -> Result<Val, Stop>
     ensures grows { WorldGrows w.old w.new }
     ensures rest { ObjectsAlone w.old w.new }
 {
+    counts_are_taken();
     identifiers_are_numbered();
     names_are_identifiers();
     match w.syms.find(&w.cells, name) {
@@ -47,6 +49,7 @@ pub fn symbol(w: &mut World, name: &[u8]) -> Result<Val, Stop>
     ensures grows { WorldGrows w.old w.new }
     ensures rest { ObjectsAlone w.old w.new }
 {
+    counts_are_taken();
     cells_are_known();
     names_are_identifiers();
     match w.room(identifier_cost(name)) {
@@ -68,6 +71,7 @@ pub fn gensym(w: &mut World) -> Result<Val, Stop>
     ensures grows { WorldGrows w.old w.new }
     ensures rest { ObjectsAlone w.old w.new }
 {
+    counts_are_taken();
     cells_are_known();
     names_are_identifiers();
     // There are fewer identifiers than cells, so the name is one of 16 bytes at most, and takes two cells.
@@ -101,6 +105,7 @@ fn enter(w: &mut World, name: &[u8]) -> Result<Val, Stop>
     ensures grows { WorldGrows w.old w.new }
     ensures rest { ObjectsAlone w.old w.new }
 {
+    counts_are_taken();
     cells_are_known();
     match w.room(identifier_cost(name)) {
         Ok(()) => {

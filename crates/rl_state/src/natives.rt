@@ -15,6 +15,7 @@ use crate::objects::{pair, parts, set_car};
 use crate::turns::turn;
 use rl_meaning::laws::walks_are_unbounded;
 use rl_tags::Val;
+use rl_world::laws::counts_are_taken;
 use rl_world::{NStep, World};
 use std::marker::Brand;
 
@@ -43,6 +44,7 @@ pub fn car(w: &mut World, v: Val) -> NStep
     ensures grows { WorldGrows w.old w.new }
     ensures rest { ObjectsAlone w.old w.new }
 {
+    counts_are_taken();
     match parts(w, v) {
         Some(p) => NStep::Done(p.0),
         None => fail(w, 13, v),
@@ -59,6 +61,7 @@ pub fn rplaca(w: &mut World, u: Val, v: Val) -> NStep
     ensures grows { WorldGrows w.old w.new }
     ensures rest { ObjectsAlone w.old w.new }
 {
+    counts_are_taken();
     match parts(w, u) {
         Some(_p) => {
             set_car(w, u, v);
@@ -85,6 +88,7 @@ pub fn length(w: &mut World, u: Val) -> NStep
     ensures grows { WorldGrows w.old w.new }
     ensures rest { ObjectsAlone w.old w.new }
 {
+    counts_are_taken();
     walks_are_unbounded::<Brand>();
     let mut n: u64 = 0;
     let mut at = u;

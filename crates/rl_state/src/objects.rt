@@ -16,6 +16,7 @@ ghost use Rattle.rl_state.specs.Ending.{MeansValue, parts_in};
 
 use crate::laws::cells_are_known;
 use rl_tags::{Tag, Val};
+use rl_world::laws::counts_are_taken;
 use rl_world::{Stop, World};
 
 /// An integer of 60 bits.
@@ -38,6 +39,7 @@ pub fn pair(w: &mut World, a: Val, d: Val) -> Result<Val, Stop>
     ensures grows { WorldGrows w.old w.new }
     ensures rest { ObjectsAlone w.old w.new }
 {
+    counts_are_taken();
     match w.room(1) {
         Ok(()) => {
             cells_are_known();
@@ -64,6 +66,7 @@ pub fn string(w: &mut World, bytes: &[u8]) -> Result<Val, Stop>
     ensures grows { WorldGrows w.old w.new }
     ensures rest { ObjectsAlone w.old w.new }
 {
+    counts_are_taken();
     match w.room(string_cost(bytes)) {
         Ok(()) => {
             cells_are_known();
@@ -90,6 +93,7 @@ pub fn vector(w: &mut World, places: u32) -> Result<Val, Stop>
     ensures grows { WorldGrows w.old w.new }
     ensures rest { ObjectsAlone w.old w.new }
 {
+    counts_are_taken();
     match w.room(vector_cost(places)) {
         Ok(()) => {
             cells_are_known();
@@ -122,6 +126,7 @@ pub fn set_car(w: &mut World, p: Val, v: Val)
     ensures grows { WorldGrows w.old w.new }
     ensures rest { ObjectsAlone w.old w.new }
 {
+    counts_are_taken();
     cells_are_known();
     w.cells.set_car(p, v);
 }
@@ -135,6 +140,7 @@ pub fn set_cdr(w: &mut World, p: Val, v: Val)
     ensures grows { WorldGrows w.old w.new }
     ensures rest { ObjectsAlone w.old w.new }
 {
+    counts_are_taken();
     cells_are_known();
     w.cells.set_cdr(p, v);
 }
@@ -174,6 +180,7 @@ pub fn set_place(w: &mut World, v: Val, i: u32, x: Val)
     ensures grows { WorldGrows w.old w.new }
     ensures rest { ObjectsAlone w.old w.new }
 {
+    counts_are_taken();
     cells_are_known();
     w.cells.put(v, i, x);
 }

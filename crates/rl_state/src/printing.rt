@@ -15,6 +15,7 @@ use crate::laws::cells_are_known;
 use rl_io::{Files, Io, Sink, Source};
 use rl_syms::laws::names_are_numbered;
 use rl_tags::Val;
+use rl_world::laws::counts_are_taken;
 use rl_world::{Stop, World};
 
 /// Prints a value as PRIN1 does.
@@ -33,6 +34,7 @@ pub fn print1<I: Source, O: Sink, N: Sink, F: Files>(
     ensures levels { OnOk result (w.new.levels ≡ w.old.levels) }
     ensures rest { ChangesOutObject io.old io.new }
 {
+    counts_are_taken();
     cells_are_known();
     names_are_numbered();
     let printed = rl_print::print1(w, v, io);
@@ -59,6 +61,7 @@ pub fn print2<I: Source, O: Sink, N: Sink, F: Files>(
     ensures levels { OnOk result (w.new.levels ≡ w.old.levels) }
     ensures rest { ChangesOutObject io.old io.new }
 {
+    counts_are_taken();
     cells_are_known();
     names_are_numbered();
     let printed = rl_print::print2(w, v, io);

@@ -7,7 +7,7 @@ ghost use Rattle.rl_state.specs.Worlds.{IsWorld, ObjectsAlone, WorldGrows};
 ghost use Rattle.rl_state.specs.Ending.{MeansDone};
 ghost use Rattle.rl_world.specs.Counts.{count_turns_left, ticked};
 
-use rl_world::laws::bounds_are_kept;
+use rl_world::laws::{bounds_are_kept, counts_are_taken};
 use rl_world::{Stop, World};
 
 /// Takes a turn.
@@ -20,6 +20,7 @@ pub fn turn(w: &mut World) -> Result<(), Stop>
     ensures grows { WorldGrows w.old w.new }
     ensures rest { ObjectsAlone w.old w.new }
 {
+    counts_are_taken();
     bounds_are_kept();
     match w.tick() {
         Ok(()) => Ok(()),

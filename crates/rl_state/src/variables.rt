@@ -11,6 +11,7 @@ ghost use Rattle.std.specs.Option.{ForSome};
 use rl_syms::laws::identifiers_are_numbered;
 use rl_tags::Val;
 use rl_world::World;
+use rl_world::laws::counts_are_taken;
 
 /// Gives a value cell another value, or none: in the definition a binding, the end of one, or a setting.
 pub fn set_cell(w: &mut World, id: Val, v: Option<Val>)
@@ -21,6 +22,7 @@ pub fn set_cell(w: &mut World, id: Val, v: Option<Val>)
     ensures grows { WorldGrows w.old w.new }
     ensures rest { ObjectsAlone w.old w.new }
 {
+    counts_are_taken();
     identifiers_are_numbered();
     w.syms.set_value(&mut w.cells, id, v);
 }

@@ -1,5 +1,5 @@
 -- What a run counts: turns, expansions and cells, and what each call does to the counts.
-use Rattle.std.specs.Prelude.{◌≡◌, ℕ, ◌+◌, ◌-◌, ◌==◌, ◌<◌, nat_le, nat_lt, cond, is_some, length, Option, Some, None}
+use Rattle.std.specs.Prelude.{◌≡◌, ℕ, ◌+◌, ◌-◌, ◌==◌, ◌<◌, ◌≤◌, nat_le, nat_lt, cond, length, Option, Some, None}
 use Rattle.rl_tags.specs.Tagged.{Tagged}
 use Rattle.rl_cells.specs.Cell.{CellStore, used_of}
 use Rattle.rl_world.specs.declared.counts.Aside.{Aside}
@@ -112,12 +112,31 @@ abbrev pub IsAside : Option Aside → Type 0
 IsAside None = Unit {0}
 IsAside (Some a) = IsOpen a.outermost a.open_count
 
-abbrev pub expansion_name : Option Expansion → Option Tagged
-expansion_name None = None
-expansion_name (Some e) = Some e.name
+-- ---- turns and cells are taken, and nothing else of the counts has changed
 
--- turns and cells were taken, of opening, of the outermost expansion or of the run, and nothing else of the counts has changed
-pub record TakesCounts (old new : WorldCounts) : Type 0 where
-  pub rest : new ≡ record old { opening = new.opening; turns = new.turns; outermost = new.outermost }
-  pub opening : is_some new.opening ≡ is_some old.opening
-  pub name : expansion_name new.outermost ≡ expansion_name old.outermost
+-- in opening some ticks may have been taken
+abbrev pub TakesTicks : Option ℕ → Option ℕ → Type 0
+TakesTicks None None = Unit {0}
+TakesTicks (Some before) (Some now) = before ≤ now
+TakesTicks before now = ⊥
+
+-- the outermost expansion is the same one, and may have taken turns and cells
+abbrev pub TakesInExpansion : Option Expansion → Option Expansion → Type 0
+TakesInExpansion None None = Unit {0}
+TakesInExpansion (Some before) (Some now) = (now.name ≡ before.name) × (before.turns ≤ now.turns) × (before.cells ≤ now.cells)
+TakesInExpansion before now = ⊥
+
+pub record TakesTurnsAndCells (old new : WorldCounts) : Type 0 where
+  pub same : new ≡ record old { opening = new.opening; turns = new.turns; outermost = new.outermost }
+  pub opening : TakesTicks old.opening new.opening
+  pub turns : old.turns ≤ new.turns
+  -- in opening the run takes none
+  pub untaken : (ticks : ℕ) → old.opening ≡ Some ticks → new.turns ≡ old.turns
+  pub expansion : TakesInExpansion old.outermost new.outermost
+
+-- a turn and the cells of an object are taken so, and what is taken one after the other
+pub record CountsAreTaken : Type 0 where
+  pub none : (c : WorldCounts) → TakesTurnsAndCells c c
+  pub both : (a b c : WorldCounts) → TakesTurnsAndCells a b → TakesTurnsAndCells b c → TakesTurnsAndCells a c
+  pub turn : (c : WorldCounts) → TakesTurnsAndCells c (ticked c)
+  pub cells : (c : WorldCounts) (cost : ℕ) → TakesTurnsAndCells c (roomed c cost)

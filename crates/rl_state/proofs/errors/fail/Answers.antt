@@ -39,7 +39,7 @@ pub returns-clause-live : goal.returns-clause-live
 returns-clause-live c = subst (λ n. IsAnswerLive c.set_message.new.w.cells.cells (step.Error n c.in-Ok-pair.v)) (sym c.number.ensures) (refl, c.set_message.ensures.grows.live c.in-Ok-pair.v c.in-Ok-pair.ensures.live)
 
 pub returns-in-Err-pair-clause-rest : goal.returns-in-Err-pair-clause-rest
-returns-in-Err-pair-clause-rest c = rest_trans c.args.w.now c.pair.new.w c.pair-2.new.w c.pair.ensures.rest c.pair-2.ensures.rest
+returns-in-Err-pair-clause-rest c = rest_trans c.counts_are_taken.ensures c.args.w.now c.pair.new.w c.pair-2.new.w c.pair.ensures.rest c.pair-2.ensures.rest
 
 pub returns-clause-rest : goal.returns-clause-rest
-returns-clause-rest c = rest_trans c.args.w.now c.pair-2.new.w c.set_message.new.w (rest_trans c.args.w.now c.pair.new.w c.pair-2.new.w c.pair.ensures.rest c.pair-2.ensures.rest) c.set_message.ensures.rest
+returns-clause-rest c = rest_trans c.counts_are_taken.ensures c.args.w.now c.pair-2.new.w c.set_message.new.w (rest_trans c.counts_are_taken.ensures c.args.w.now c.pair.new.w c.pair-2.new.w c.pair.ensures.rest c.pair-2.ensures.rest) c.set_message.ensures.rest

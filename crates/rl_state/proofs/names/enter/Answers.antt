@@ -35,7 +35,7 @@ returns-in-Ok-clause-grows c =
     (interned_in w c.room.new.self name c.requires.free c.intern.new.c c.intern.new.self c.unwrap.result (rw c.identifier_cost.ensures at c.in-Ok.ensures.counted) (rw c.unwrap.ensures at c.intern.ensures.ok) c.intern.ensures.made)
 
 pub returns-in-Ok-clause-rest : goal.returns-in-Ok-clause-rest
-returns-in-Ok-clause-rest c = entered_rest c.args.w.now c.room.new.self c.intern.new.c c.intern.new.self _ c.in-Ok.ensures.counted
+returns-in-Ok-clause-rest c = entered_rest c.counts_are_taken.ensures c.args.w.now c.room.new.self c.intern.new.c c.intern.new.self _ c.in-Ok.ensures.counted
 
 pub returns-in-Err-clause-means : goal.returns-in-Err-clause-means
 returns-in-Err-clause-means c =
@@ -46,4 +46,4 @@ pub returns-in-Err-clause-grows : goal.returns-in-Err-clause-grows
 returns-in-Err-clause-grows c = grows_refl c.args.w.now c.room.new.self c.in-Err.ensures.err c.requires.world
 
 pub returns-in-Err-clause-rest : goal.returns-in-Err-clause-rest
-returns-in-Err-clause-rest c = rest_refl c.args.w.now c.room.new.self c.in-Err.ensures.err
+returns-in-Err-clause-rest c = rest_refl c.counts_are_taken.ensures c.args.w.now c.room.new.self c.in-Err.ensures.err

@@ -34,7 +34,7 @@ returns-in-Ok-clause-grows c =
     gensym_grows c.cells_are_known.ensures c.names_are_identifiers.ensures w r c.gensym.new.c c.gensym.new.self c.unwrap.result few c.requires into c.gensym.ensures.table
 
 pub returns-in-Ok-clause-rest : goal.returns-in-Ok-clause-rest
-returns-in-Ok-clause-rest c = entered_rest c.args.w.now c.room.new.self c.gensym.new.c c.gensym.new.self _ c.in-Ok.ensures.counted
+returns-in-Ok-clause-rest c = entered_rest c.counts_are_taken.ensures c.args.w.now c.room.new.self c.gensym.new.c c.gensym.new.self _ c.in-Ok.ensures.counted
 
 pub returns-in-Err-clause-means : goal.returns-in-Err-clause-means
 returns-in-Err-clause-means c =
@@ -44,4 +44,4 @@ pub returns-in-Err-clause-grows : goal.returns-in-Err-clause-grows
 returns-in-Err-clause-grows c = grows_refl c.args.w.now c.room.new.self c.in-Err.ensures.err c.requires
 
 pub returns-in-Err-clause-rest : goal.returns-in-Err-clause-rest
-returns-in-Err-clause-rest c = rest_refl c.args.w.now c.room.new.self c.in-Err.ensures.err
+returns-in-Err-clause-rest c = rest_refl c.counts_are_taken.ensures c.args.w.now c.room.new.self c.in-Err.ensures.err

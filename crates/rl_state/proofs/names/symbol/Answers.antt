@@ -39,7 +39,7 @@ returns-in-Ok-clause-grows c =
     named_grows law w r c.loose.new.c c.loose.new.self c.unwrap.result name None w.syms.head false not_counted c.requires.world gains into
 
 pub returns-in-Ok-clause-rest : goal.returns-in-Ok-clause-rest
-returns-in-Ok-clause-rest c = entered_rest c.args.w.now c.room.new.self c.loose.new.c c.loose.new.self _ c.in-Ok.ensures.counted
+returns-in-Ok-clause-rest c = entered_rest c.counts_are_taken.ensures c.args.w.now c.room.new.self c.loose.new.c c.loose.new.self _ c.in-Ok.ensures.counted
 
 pub returns-in-Err-clause-means : goal.returns-in-Err-clause-means
 returns-in-Err-clause-means c = symbol_stops c.args.w.now c.room.new.self (new_symbol c.args.name.now false) c.in-Err.why c.requires.world c.in-Err.ensures.err (rw c.identifier_cost.ensures at c.in-Err.ensures.stop)
@@ -48,4 +48,4 @@ pub returns-in-Err-clause-grows : goal.returns-in-Err-clause-grows
 returns-in-Err-clause-grows c = grows_refl c.args.w.now c.room.new.self c.in-Err.ensures.err c.requires.world
 
 pub returns-in-Err-clause-rest : goal.returns-in-Err-clause-rest
-returns-in-Err-clause-rest c = rest_refl c.args.w.now c.room.new.self c.in-Err.ensures.err
+returns-in-Err-clause-rest c = rest_refl c.counts_are_taken.ensures c.args.w.now c.room.new.self c.in-Err.ensures.err

@@ -23,7 +23,7 @@ pub returns-in-Err-clause-grows : goal.returns-in-Err-clause-grows
 returns-in-Err-clause-grows g c = printing_grows c.cells_are_known.ensures.bounds _ c.args.w.now c.print1-printed.new.w c.print1-printed.ensures.world c.level.ensures.levels.within c.requires.world
 
 pub returns-in-Ok-clause-alone : goal.returns-in-Ok-clause-alone
-returns-in-Ok-clause-alone g c = prints_alone c.args.w.now c.print1-printed.new.w c.print1-printed.ensures.world
+returns-in-Ok-clause-alone g c = prints_alone c.counts_are_taken.ensures c.args.w.now c.print1-printed.new.w c.print1-printed.ensures.world
 
 pub returns-in-Err-clause-alone : goal.returns-in-Err-clause-alone
-returns-in-Err-clause-alone g c = prints_alone c.args.w.now c.print1-printed.new.w c.print1-printed.ensures.world
+returns-in-Err-clause-alone g c = prints_alone c.counts_are_taken.ensures c.args.w.now c.print1-printed.new.w c.print1-printed.ensures.world

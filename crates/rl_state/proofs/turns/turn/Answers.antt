@@ -15,10 +15,10 @@ pub returns-in-Ok-clause-falls : goal.returns-in-Ok-clause-falls
 returns-in-Ok-clause-falls c = turn_falls c.args.w.now c.tick.new.self c.in-Ok.ensures.counted c.in-Ok.ensures.ok
 
 pub returns-in-Ok-clause-rest : goal.returns-in-Ok-clause-rest
-returns-in-Ok-clause-rest c = rest_ticked c.args.w.now c.tick.new.self c.in-Ok.ensures.counted
+returns-in-Ok-clause-rest c = rest_ticked c.counts_are_taken.ensures c.args.w.now c.tick.new.self c.in-Ok.ensures.counted
 
 pub returns-in-Err-clause-rest : goal.returns-in-Err-clause-rest
-returns-in-Err-clause-rest c = rest_refl c.args.w.now c.tick.new.self c.in-Err.ensures.err
+returns-in-Err-clause-rest c = rest_refl c.counts_are_taken.ensures c.args.w.now c.tick.new.self c.in-Err.ensures.err
 
 pub returns-in-Err-clause-grows : goal.returns-in-Err-clause-grows
 returns-in-Err-clause-grows c = grows_refl c.args.w.now c.tick.new.self c.in-Err.ensures.err c.requires.world
