@@ -30,3 +30,4 @@ pub mod BareShown
 pub mod Printings
 pub mod PrintingEnds
 pub mod PrintingGrows
+mod ReadingGrows
