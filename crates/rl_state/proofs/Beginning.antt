@@ -23,7 +23,7 @@ use Rattle.rl_meaning.specs.State.{State, Files}
 use Rattle.rl_meaning.specs.Run.{Limits, started}
 use Rattle.rl_state.specs.CellLaws.{AreCellLaws}
 use Rattle.rl_state.specs.ShownState.{ShowsState, counts_in}
-use Rattle.rl_state.specs.Worlds.{AreRunCounts, HasNumber, IsWorld, WorldGrows}
+use Rattle.rl_state.specs.Worlds.{AreWorldCounts, HasNumber, IsWorld, WorldGrows}
 use Rattle.rl_state.proofs.Kept.{id_cell, id_inside}
 use Rattle.rl_state.proofs.Room.{left}
 
@@ -77,7 +77,7 @@ message_place = refl
 
 -- ---- the world as it begins
 
-running_opens : AreBoundsKept → (c : cell.CellStore) (turns bound : ℕ) → turns ≤ 2 ^ 59 - 1 → IsOpening c bound → AreRunCounts c (counts_at_opening turns bound)
+running_opens : AreBoundsKept → (c : cell.CellStore) (turns bound : ℕ) → turns ≤ 2 ^ 59 - 1 → IsOpening c bound → AreWorldCounts c (counts_at_opening turns bound)
 running_opens law c turns bound few o = record { bounds = law.opening c turns bound o; together = refl; unexpanded = λ n h. refl; untaken = λ n h. refl; few = few }
 
 -- what a world has as it begins
@@ -102,7 +102,7 @@ world_opens law ids w turns bound nest few b =
       t = subst (λ id. HasNumber w.cells.cells id 1) t_place (number 1 (omega (arith, long)));
       message = subst (λ id. HasNumber w.cells.cells id 3) message_place (number 3 (omega (arith, long)));
       texts = b.texts;
-      running = subst (λ k. AreRunCounts w.cells k) (sym b.counts) (running_opens law.bounds w.cells turns bound few b.opening);
+      running = subst (λ k. AreWorldCounts w.cells k) (sym b.counts) (running_opens law.bounds w.cells turns bound few b.opening);
       levels = subst (λ (l : WorldLevels). l.level ≤ l.bound) (sym b.levels) (omega arith);
       made = omega (arith, made);
       expanding = λ e h. absurd (let f : None ≡ Some e = ap (λ (k : counted.WorldCounts). k.outermost) (sym b.counts) ∙ h in cc);
@@ -116,14 +116,14 @@ ended_cells c = record c { count = Some 0 }
 abbrev ended_counts : counted.WorldCounts → counted.WorldCounts
 ended_counts k = record k { opening = None }
 
-in_opening : (c : cell.CellStore) (k : counted.WorldCounts) → AreRunCounts c k → c.count ≡ None → (n : ℕ) × (k.opening ≡ Some n)
+in_opening : (c : cell.CellStore) (k : counted.WorldCounts) → AreWorldCounts c k → c.count ≡ None → (n : ℕ) × (k.opening ≡ Some n)
 in_opening c k r h = go k.opening refl (subst (λ o. OpenTogether k.opening o) h r.bounds.together)
   where
     go : (o : Option ℕ) → k.opening ≡ o → OpenTogether o None → (n : ℕ) × (k.opening ≡ Some n)
     go None e t = absurd t
     go (Some n) e t = (n, e)
 
-running_ended : AreBoundsKept → (c : cell.CellStore) (k : counted.WorldCounts) → AreRunCounts c k → c.count ≡ None → AreRunCounts (ended_cells c) (ended_counts k)
+running_ended : AreBoundsKept → (c : cell.CellStore) (k : counted.WorldCounts) → AreWorldCounts c k → c.count ≡ None → AreWorldCounts (ended_cells c) (ended_counts k)
 running_ended law c k r h = record {
   bounds = law.opened k c r.bounds h;
   together = r.together;
@@ -132,7 +132,7 @@ running_ended law c k r h = record {
   few = r.few;
 }
 
-counts_ended : (c : cell.CellStore) (k : counted.WorldCounts) → AreRunCounts c k → c.count ≡ None → counts_in (ended_cells c) (ended_counts k) ≡ left k.bound k.bound k.cells_bound None
+counts_ended : (c : cell.CellStore) (k : counted.WorldCounts) → AreWorldCounts c k → c.count ≡ None → counts_in (ended_cells c) (ended_counts k) ≡ left k.bound k.bound k.cells_bound None
 counts_ended c k r h =
     let at = in_opening c k r h in
     let none = r.untaken at.0 at.1 in

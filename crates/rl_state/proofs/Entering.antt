@@ -31,7 +31,7 @@ use Rattle.rl_meaning.specs.Variables.{Nearest, nearest}
 use Rattle.rl_state.specs.CellLaws.{AreCellLaws}
 use Rattle.rl_state.specs.ShownState.{ShowsState, ShowsSymbols, counts_in, expansion_in, given_in, is_listed, option_value_in, seen_of, symbol_meant, turns_in, value_seen}
 use Rattle.rl_state.specs.Beside.{StaysBeside}
-use Rattle.rl_state.specs.Worlds.{AreRunCounts, HasNumber, IsWorld, ObjectsAlone, WorldGrows}
+use Rattle.rl_state.specs.Worlds.{AreWorldCounts, HasNumber, IsWorld, ObjectsAlone, WorldGrows}
 use Rattle.rl_state.specs.Ending.{MeansValue}
 use Rattle.rl_state.proofs.Kept.{SameValues, alike_stood, blank_symbol, id_inside, named_same, number_same, same_id, symbol_like, value_stood}
 use Rattle.rl_state.proofs.Room.{left, left_behind, left_in, room_done, room_full, roomed_in}
@@ -115,7 +115,7 @@ module _ (law : AreCellLaws) (w : World) (name : Name) (link after : Option Tagg
   abbrev block : Cell
   block = BlockCell tag.Id (new_words (StrAt (length old_cells)) nil_value link)
 
-  text_running : AreRunCounts (cell.grown w.cells (StrCell name)) (roomed w.counts (cost_of (StrCell name)))
+  text_running : AreWorldCounts (cell.grown w.cells (StrCell name)) (roomed w.counts (cost_of (StrCell name)))
   text_running = running_made law w.cells w.counts (StrCell name) (omega arith) i.running
 
   cells_added : with_cells 3 (with_cells (cost_of (StrCell name)) w.counts.outermost) ≡ with_cells (id_cost name) w.counts.outermost
@@ -128,8 +128,8 @@ module _ (law : AreCellLaws) (w : World) (name : Name) (link after : Option Tagg
       go None = refl
       go (Some e) = ap (λ n. Some (record e { cells = n })) (three e.cells (cost_of (StrCell name)))
 
-  counted_entered : AreRunCounts (with_id w.cells name nil_value link) entered_counts
-  counted_entered = subst (λ e. AreRunCounts (with_id w.cells name nil_value link) (record w.counts { outermost = e })) cells_added
+  counted_entered : AreWorldCounts (with_id w.cells name nil_value link) entered_counts
+  counted_entered = subst (λ e. AreWorldCounts (with_id w.cells name nil_value link) (record w.counts { outermost = e })) cells_added
       (running_made law (cell.grown w.cells (StrCell name)) (roomed w.counts (cost_of (StrCell name))) block (omega arith) text_running)
 
   taken_entered : cells_taken w.counts.opening (with_id w.cells name nil_value link) ≡ cells_taken w.counts.opening w.cells + id_cost name

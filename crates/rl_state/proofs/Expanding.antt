@@ -15,7 +15,7 @@ use Rattle.rl_world.specs.declared.world.World.{World}
 use Rattle.rl_meaning.specs.State.{State, Counts, Expansion}
 use Rattle.rl_meaning.specs.Evaluation.{closed_expansion, opened_expansion, with_expansion, without_expansion}
 use Rattle.rl_state.specs.ShownState.{ShowsState, cells_in, counts_in, expansion_in, given_in, number_in, turns_in}
-use Rattle.rl_state.specs.Worlds.{AreRunCounts, IsWorld, WorldGrows}
+use Rattle.rl_state.specs.Worlds.{AreWorldCounts, IsWorld, WorldGrows}
 use Rattle.rl_state.proofs.Made.{IsExpanding, unmarked}
 
 -- a world that differs in its counts alone
@@ -33,7 +33,7 @@ shows_counted w x k s e is counts h = subst (λ (y : World). ShowsState y (recor
   bound = h.bound;
 })
 
-grows_counted : (w x : World) (k : counted.WorldCounts) → x ≡ record w { counts = k } → AreRunCounts w.cells k → IsExpanding w.cells.cells k.outermost → IsWorld w → WorldGrows w x
+grows_counted : (w x : World) (k : counted.WorldCounts) → x ≡ record w { counts = k } → AreWorldCounts w.cells k → IsExpanding w.cells.cells k.outermost → IsWorld w → WorldGrows w x
 grows_counted w x k is r e i = subst (λ (y : World). WorldGrows w y) (sym is) (record {
   world = record { table = i.table; t = i.t; message = i.message; texts = i.texts; running = r; levels = i.levels; made = i.made; expanding = e };
   live = λ v h. h;
@@ -63,7 +63,7 @@ expanding_begun cells name (Some e) id h = h
 not_opening : (o : Option ℕ) (n : ℕ) → o ≡ None → o ≡ Some n → ⊥
 not_opening o n e f = absurd (let q = sym e ∙ f in cc)
 
-running_begun : AreBoundsKept → (s : cell.CellStore) (k : counted.WorldCounts) (name : Tagged) → k.opening ≡ None → AreRunCounts s k → AreRunCounts s (begun k name)
+running_begun : AreBoundsKept → (s : cell.CellStore) (k : counted.WorldCounts) (name : Tagged) → k.opening ≡ None → AreWorldCounts s k → AreWorldCounts s (begun k name)
 running_begun law s k name run r = record {
   bounds = law.begun k s name (subst (λ (m : Option ℕ). IsSpareFree m (length s.cells)) (sym (unmarked s k r)) tt) r.bounds;
   together = r.together;
@@ -108,7 +108,7 @@ none_ended : (outer : Option expansion.Expansion) (b : Bool) → outer ≡ None 
 none_ended outer true h = refl
 none_ended outer false h = h
 
-running_ended : AreBoundsKept → (s : cell.CellStore) (k : counted.WorldCounts) → AreRunCounts s k → AreRunCounts s (expansion_ended k)
+running_ended : AreBoundsKept → (s : cell.CellStore) (k : counted.WorldCounts) → AreWorldCounts s k → AreWorldCounts s (expansion_ended k)
 running_ended law s k r = record {
   bounds = law.ended k s r.bounds;
   together = r.together;

@@ -31,3 +31,4 @@ pub mod Printings
 pub mod PrintingEnds
 pub mod PrintingGrows
 pub mod Expanding
+mod ReadingGrows

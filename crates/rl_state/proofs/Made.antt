@@ -26,7 +26,7 @@ use Rattle.rl_meaning.specs.Outcome.{Outcome, Done, room, made_pair, made_string
 use Rattle.rl_meaning.specs.Atoms.{made_places}
 use Rattle.rl_meaning.specs.Symbols.{nil_value_of_state}
 use Rattle.rl_state.specs.ShownState.{ShowsState, cells_in, counts_in, expansion_in, given_in, turns_in}
-use Rattle.rl_state.specs.Worlds.{IsWorld, AreRunCounts, HasNumber, ObjectsAlone, WorldGrows}
+use Rattle.rl_state.specs.Worlds.{IsWorld, AreWorldCounts, HasNumber, ObjectsAlone, WorldGrows}
 use Rattle.rl_state.specs.Ending.{MeansValue}
 use Rattle.rl_state.proofs.Kept.{SameValues, all_ids_same, named_same, symbols_kept}
 use Rattle.rl_state.proofs.Room.{left, left_behind, left_in, room_done, room_fits, room_full, roomed_in}
@@ -63,7 +63,7 @@ IsExpanding cells outer = ForSome outer (λ e. is_id cells e.name ≡ true)
 pub expanding_kept : (old new : List Cell) (outer : Option Expansion) → ((v : Tagged) → is_id old v ≡ true → is_id new v ≡ true) → IsExpanding old outer → IsExpanding new outer
 expanding_kept old new outer f h = λ e is. f e.name (h e is)
 
-pub world_kept : (law : AreCellLaws) (w : World) (c : cell.CellStore) (k : counted.WorldCounts) → KeepsIdentifiers w.cells.cells c.cells → SameValues w.cells.cells c.cells → AreRunCounts c k → IsExpanding c.cells k.outermost → IsWorld w → IsWorld (record w { cells = c; counts = k })
+pub world_kept : (law : AreCellLaws) (w : World) (c : cell.CellStore) (k : counted.WorldCounts) → KeepsIdentifiers w.cells.cells c.cells → SameValues w.cells.cells c.cells → AreWorldCounts c k → IsExpanding c.cells k.outermost → IsWorld w → IsWorld (record w { cells = c; counts = k })
 world_kept law w c k b same r x i = record {
   table = law.kept.table w.cells.cells c.cells w.syms.head b i.table;
   t = numbered_kept law.kept w.cells.cells c.cells _ 1 b same i.t;
@@ -81,14 +81,14 @@ abbrev pub with_made : World → Cell → World
 with_made w c = record w { cells = grown w.cells c; counts = roomed w.counts (cost_of c) }
 
 -- no spare cells are in use
-pub unmarked : (s : cell.CellStore) (k : counted.WorldCounts) → AreRunCounts s k → s.mark ≡ None
+pub unmarked : (s : cell.CellStore) (k : counted.WorldCounts) → AreWorldCounts s k → s.mark ≡ None
 unmarked s k r = go s.mark (subst (λ a. AreSpareCounted a k.outermost s.mark (length s.cells)) r.together r.bounds.spare)
   where
     go : (mark : Option ℕ) → AreSpareCounted None k.outermost mark (length s.cells) → mark ≡ None
     go None h = refl
     go (Some m) h = absurd h
 
-pub running_made : (law : AreCellLaws) (s : cell.CellStore) (k : counted.WorldCounts) (c : Cell) → 0 < cost_of c → AreRunCounts s k → AreRunCounts (grown s c) (roomed k (cost_of c))
+pub running_made : (law : AreCellLaws) (s : cell.CellStore) (k : counted.WorldCounts) (c : Cell) → 0 < cost_of c → AreWorldCounts s k → AreWorldCounts (grown s c) (roomed k (cost_of c))
 running_made law s k c some r = record {
   bounds = law.bounds.made k s c some r.bounds;
   together = r.together;
@@ -101,7 +101,7 @@ abbrev counted_so : cell.CellStore → List Cell → Option ℕ → Option ℕ �
 counted_so s cells count mark = record s { cells = cells; count = count; mark = mark }
 
 -- the cells of a new object are taken
-pub taken_made : (law : AreCellLaws) (s : cell.CellStore) (k : counted.WorldCounts) (c : Cell) → 0 < cost_of c → AreRunCounts s k → cells_taken k.opening (grown s c) ≡ cells_taken k.opening s + cost_of c
+pub taken_made : (law : AreCellLaws) (s : cell.CellStore) (k : counted.WorldCounts) (c : Cell) → 0 < cost_of c → AreWorldCounts s k → cells_taken k.opening (grown s c) ≡ cells_taken k.opening s + cost_of c
 taken_made law s k c some r = go k.opening s.count s.mark (unmarked s k r) r.bounds.together
   where
     go : (o count mark : Option ℕ) → mark ≡ None → OpenTogether o count → cells_taken o (counted_so s (s.cells ++ placed c) (more_counted count mark (cost_of c)) mark) ≡ cells_taken o (counted_so s s.cells count mark) + cost_of c
@@ -112,7 +112,7 @@ taken_made law s k c some r = go k.opening s.count s.mark (unmarked s k r) r.bou
     go (Some n) (Some used) mark m t = absurd t
 
 -- where as many cells hold other objects, as much counts
-pub running_changed : (s : cell.CellStore) (k : counted.WorldCounts) (new : List Cell) → length new ≡ length s.cells → AreRunCounts s k → AreRunCounts (record s { cells = new }) k
+pub running_changed : (s : cell.CellStore) (k : counted.WorldCounts) (new : List Cell) → length new ≡ length s.cells → AreWorldCounts s k → AreWorldCounts (record s { cells = new }) k
 running_changed s k new long r = record {
   bounds = record { bound = r.bounds.bound; together = r.bounds.together; spare = subst (λ n. AreSpareCounted k.aside k.outermost s.mark n) (sym long) r.bounds.spare };
   together = r.together;

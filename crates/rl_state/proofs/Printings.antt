@@ -29,7 +29,7 @@ use Rattle.rl_meaning.specs.Symbols.{name_of_number, new_symbol}
 use Rattle.rl_meaning.specs.Printing.{levels_in, progress_in, setting_in, turns_taken}
 use Rattle.rl_state.specs.ShownState.{ShowsState, counts_in, expansion_in, symbol_meant, turns_in}
 use Rattle.rl_state.specs.Descents.{levels_shown}
-use Rattle.rl_state.specs.Worlds.{AreRunCounts, IsWorld}
+use Rattle.rl_state.specs.Worlds.{AreWorldCounts, IsWorld}
 use Rattle.rl_state.proofs.Room.{running_ticked}
 
 -- ---- names
@@ -72,7 +72,7 @@ names_shown numbers named w s shown i = go (nat_lt i (ids_before cells (length c
 
 -- ---- turns
 
-turns_shown : (c : cell.CellStore) (k : counted.WorldCounts) (s : State) → AreRunCounts c k → s.counts ≡ counts_in c k → turns_left s ≡ count_turns_left k
+turns_shown : (c : cell.CellStore) (k : counted.WorldCounts) (s : State) → AreWorldCounts c k → s.counts ≡ counts_in c k → turns_left s ≡ count_turns_left k
 turns_shown c k s r e = ap (λ q. turns_of q s.counts.turns) (ap (λ (q : Counts). q.expansion) e) ∙ ap (λ n. turns_of (expansion_in c.cells k.open_count k.outermost) n) (ap (λ (q : Counts). q.turns) e) ∙ go k.opening k.outermost refl refl
   where
     go : (o : Option ℕ) (outer : Option expansion.Expansion) → k.opening ≡ o → k.outermost ≡ outer → turns_of (expansion_in c.cells k.open_count outer) (turns_in o k.bound k.turns) ≡ turns_left_at o outer k.turns k.bound
@@ -117,20 +117,20 @@ pub taken_is : (e : Option Expansion) (n : ℕ) (s : State) → turns_taken e n 
 taken_is None n s = refl
 taken_is (Some e) n s = refl
 
-still_left : (c : cell.CellStore) (k : counted.WorldCounts) (o : Option ℕ) (outer : Option expansion.Expansion) → AreRunCounts c k → k.opening ≡ o → k.outermost ≡ outer
+still_left : (c : cell.CellStore) (k : counted.WorldCounts) (o : Option ℕ) (outer : Option expansion.Expansion) → AreWorldCounts c k → k.opening ≡ o → k.outermost ≡ outer
     → counts_in c k ≡ retaken (expansion_in c.cells k.open_count outer) (turns_left_at o outer k.turns k.bound) (counts_in c k)
 still_left c k None None r eo ex = rw (eo, ex) refl
 still_left c k None (Some e) r eo ex = rw (eo, ex) refl
 still_left c k (Some n) None r eo ex = rw (eo, ex) refl
 still_left c k (Some n) (Some e) r eo ex = absurd (let none = r.unexpanded n eo in let f : Some e ≡ None = sym ex ∙ none in cc)
 
-after_tick : (c : cell.CellStore) (k : counted.WorldCounts) (n : ℕ) (o : Option ℕ) (outer : Option expansion.Expansion) → AreRunCounts c k → k.opening ≡ o → k.outermost ≡ outer
+after_tick : (c : cell.CellStore) (k : counted.WorldCounts) (n : ℕ) (o : Option ℕ) (outer : Option expansion.Expansion) → AreWorldCounts c k → k.opening ≡ o → k.outermost ≡ outer
     → retaken (counts_in c (counted.ticked_at o outer k)).expansion n (counts_in c (counted.ticked_at o outer k)) ≡ retaken (counts_in c k).expansion n (counts_in c k)
 after_tick c k n None None r eo ex = rw (eo, ex) refl
 after_tick c k n None (Some e) r eo ex = rw (eo, ex) refl
 after_tick c k n (Some m) None r eo ex = rw (eo, ex) refl
 after_tick c k n (Some m) (Some e) r eo ex = absurd (let none = r.unexpanded m eo in let f : Some e ≡ None = sym ex ∙ none in cc)
 
-pub retaken_ticks : AreBoundsKept → (number : ℕ) (c : cell.CellStore) (k : counted.WorldCounts) → AreRunCounts c k → counts_in c (ticks number k) ≡ retaken (counts_in c k).expansion (count_turns_left (ticks number k)) (counts_in c k)
+pub retaken_ticks : AreBoundsKept → (number : ℕ) (c : cell.CellStore) (k : counted.WorldCounts) → AreWorldCounts c k → counts_in c (ticks number k) ≡ retaken (counts_in c k).expansion (count_turns_left (ticks number k)) (counts_in c k)
 retaken_ticks law zero c k r = still_left c k k.opening k.outermost r refl refl
 retaken_ticks law (suc number) c k r = retaken_ticks law number c (ticked k) (running_ticked law c k r) ∙ after_tick c k (count_turns_left (ticks (suc number) k)) k.opening k.outermost r refl refl

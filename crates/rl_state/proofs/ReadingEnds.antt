@@ -74,14 +74,14 @@ module _ (laws : AreCellLaws) (ids : AreIdentifiers) (turns : Bool) (w : World) 
 
   -- no world has so many cells
   stop_ends : (x : ReaderOutcome Stock Tagged Stop) (y : ReaderOutcome ReadingPlace Value outcome.Stop) (why : Stop) (made : Stock) (rest : List ℕ) → length made.cells.cells ≤ 2 ^ 31 → OutcomesAs w s.outside laws ids x y → x ≡ Stopped why made rest
-      → (t : State) × (form_reading_of bytes y ≡ outcome.Stopped (stop_in made.cells.cells why) t)
+      → (t : State) × (form_reading_of bytes y ≡ outcome.Stopped (stop_in made.cells.cells why) t) × (t.outside ≡ s.outside)
   stop_ends x y why made rest few (both_read v' u k p rest' h a) e = absurd cc
   stop_ends x y why made rest few (both_find_none k p a) e = absurd cc
   stop_ends x y why made rest few (both_refuse k p from a) e = absurd cc
   stop_ends x y why made rest few (both_stop why' z k p rest' h) e =
       let k_is : k ≡ made = cc in
       let why_is : why' ≡ why = cc in
-      (p.state, ap (λ z. outcome.Stopped z p.state) (h ∙ ap (λ (k : Stock). stop_in k.cells.cells why') k_is ∙ ap (stop_in made.cells.cells) why_is))
+      (p.state, ap (λ z. outcome.Stopped z p.state) (h.0 ∙ ap (λ (k : Stock). stop_in k.cells.cells why') k_is ∙ ap (stop_in made.cells.cells) why_is), h.1)
   stop_ends x y why made rest few (first_stops why' k rest' other h) e =
       let k_is : k ≡ made = cc in
       let same : length k.cells.cells ≡ length made.cells.cells = ap (λ (k : Stock). length k.cells.cells) k_is in
@@ -96,5 +96,5 @@ module _ (laws : AreCellLaws) (ids : AreIdentifiers) (turns : Bool) (w : World) 
   pub refused_read : (made : Stock) (from : List ℕ) → read_by (in_stock turns) (stock_of w) bytes ≡ Refused made from → EndsRead w s.outside made (read_bytes turns (levels_shown w) bytes s) (Unreadable (length bytes - length from) from)
   refused_read made from e = refused_ends _ there made from alike e
 
-  pub stop_read : (why : Stop) (made : Stock) (rest : List ℕ) → length made.cells.cells ≤ 2 ^ 31 → read_by (in_stock turns) (stock_of w) bytes ≡ Stopped why made rest → (t : State) × (read_bytes turns (levels_shown w) bytes s ≡ outcome.Stopped (stop_in made.cells.cells why) t)
+  pub stop_read : (why : Stop) (made : Stock) (rest : List ℕ) → length made.cells.cells ≤ 2 ^ 31 → read_by (in_stock turns) (stock_of w) bytes ≡ Stopped why made rest → (t : State) × (read_bytes turns (levels_shown w) bytes s ≡ outcome.Stopped (stop_in made.cells.cells why) t) × (t.outside ≡ s.outside)
   stop_read why made rest few e = stop_ends _ there why made rest few alike e

@@ -65,16 +65,20 @@ module _ (w : World) (out : Outside) (laws : AreCellLaws) (ids : AreIdentifiers)
   onward_same : (lo : ℕ) (k : Stock) (p : ReadingPlace) → At k p → Onward lo k k
   onward_same lo k p at = record { grows = grows_refl _ _ refl at.0.world; keeps = keeps_same lo k.cells.cells }
 
+  -- the same is wanting, and the outside is as at first
+  abbrev pub StopsAlike : Stop → outcome.Stop → Stock → ReadingPlace → Type 0
+  StopsAlike why x k p = (x ≡ stop_in k.cells.cells why) × (p.state.outside ≡ out)
+
   -- both make what is so related, or the same is wanting for both, or there are more cells than there may be
   data MadeAlike {A B : Type 0} (lo : ℕ) (from : Stock) (R : Stock → A → B → Type 0) : Made Stock A Stop → Made ReadingPlace B outcome.Stop → Type 0 where
     both_have : (a : A) (b : B) (k : Stock) (p : ReadingPlace) → R k a b → At k p → Onward lo from k → MadeAlike lo from R (Has a k) (Has b p)
-    both_want : (why : Stop) (x : outcome.Stop) (k : Stock) (p : ReadingPlace) → x ≡ stop_in k.cells.cells why → MadeAlike lo from R (Wants why k) (Wants x p)
+    both_want : (why : Stop) (x : outcome.Stop) (k : Stock) (p : ReadingPlace) → StopsAlike why x k p → MadeAlike lo from R (Wants why k) (Wants x p)
     first_wants : (why : Stop) (k : Stock) (other : Made ReadingPlace B outcome.Stop) → 2 ^ 31 < length k.cells.cells → MadeAlike lo from R (Wants why k) other
 
   alike : {A B : Type 0} (lo : ℕ) (from : Stock) (R : Stock → A → B → Type 0) (x : Made Stock A Stop) (act : State → Outcome B) (p : ReadingPlace) → MakesAs w out from R x (act p.state) → Stays lo from.cells.cells x → At from p → MadeAlike lo from R x (make act p)
   alike lo from R (Has a k) act p h s at =
       subst (λ o. MadeAlike lo from R (Has a k) (made_in p.levels o)) (sym h.is) (both_have a h.value k (record { state = h.state; levels = p.levels }) h.related (h.stands, at.1 ∙ ap Some (sym h.left)) (record { grows = h.grows; keeps = s }))
-  alike lo from R (Wants why k) act p h s at = subst (λ o. MadeAlike lo from R (Wants why k) (made_in p.levels o)) (sym h.is) (both_want why (stop_in k.cells.cells why) k (record { state = h.state; levels = p.levels }) refl)
+  alike lo from R (Wants why k) act p h s at = subst (λ o. MadeAlike lo from R (Wants why k) (made_in p.levels o)) (sym h.is) (both_want why (stop_in k.cells.cells why) k (record { state = h.state; levels = p.levels }) (refl, h.outside))
 
   -- ---- what has begun
 
@@ -133,14 +137,14 @@ module _ (w : World) (out : Outside) (laws : AreCellLaws) (ids : AreIdentifiers)
   data EndsAs : Ended Stock V PairChain Stop → Ended ReadingPlace Value Chain outcome.Stop → Type 0 where
     whole : (v : V) (u : Value) (k : Stock) (p : ReadingPlace) → IsShownAs w out k v u → At k p → EndsAs (Whole v k) (Whole u p)
     inside : (fs : FramesL) (gs : FramesK) (k : Stock) (p : ReadingPlace) → Framed k fs gs → At k p → EndsAs (Inside fs k) (Inside gs p)
-    lack : (why : Stop) (x : outcome.Stop) (k : Stock) (p : ReadingPlace) → x ≡ stop_in k.cells.cells why → EndsAs (Lacks why k) (Lacks x p)
+    lack : (why : Stop) (x : outcome.Stop) (k : Stock) (p : ReadingPlace) → StopsAlike why x k p → EndsAs (Lacks why k) (Lacks x p)
     first_lacks : (why : Stop) (k : Stock) (other : Ended ReadingPlace Value Chain outcome.Stop) → 2 ^ 31 < length k.cells.cells → EndsAs (Lacks why k) other
 
   data StepsAs : ReaderStep Stock V PairChain Stop → ReaderStep ReadingPlace Value Chain outcome.Stop → Type 0 where
     goes : (mode : Mode) (fs : FramesL) (gs : FramesK) (k : Stock) (p : ReadingPlace) → IsGoodMode mode → Framed k fs gs → At k p → StepsAs (Goes mode fs k) (Goes mode gs p)
     done : (v : V) (u : Value) (used : Bool) (k : Stock) (p : ReadingPlace) → IsShownAs w out k v u → At k p → StepsAs (Done v used k) (Done u used p)
     refuses : (k : Stock) (p : ReadingPlace) → At k p → StepsAs (Refuses k) (Refuses p)
-    halt : (why : Stop) (x : outcome.Stop) (k : Stock) (p : ReadingPlace) → x ≡ stop_in k.cells.cells why → StepsAs (Halts why k) (Halts x p)
+    halt : (why : Stop) (x : outcome.Stop) (k : Stock) (p : ReadingPlace) → StopsAlike why x k p → StepsAs (Halts why k) (Halts x p)
     first_halts : (why : Stop) (k : Stock) (other : ReaderStep ReadingPlace Value Chain outcome.Stop) → 2 ^ 31 < length k.cells.cells → StepsAs (Halts why k) other
 
   -- a text ends for both in the same way and with the same bytes left, or there are more cells than there may be
@@ -148,7 +152,7 @@ module _ (w : World) (out : Outside) (laws : AreCellLaws) (ids : AreIdentifiers)
     both_read : (v : V) (u : Value) (k : Stock) (p : ReadingPlace) (rest : List ℕ) → IsShownAs w out k v u → At k p → OutcomesAs (Read v k rest) (Read u p rest)
     both_find_none : (k : Stock) (p : ReadingPlace) → At k p → OutcomesAs (NoneLeft k) (NoneLeft p)
     both_refuse : (k : Stock) (p : ReadingPlace) (from : List ℕ) → At k p → OutcomesAs (Refused k from) (Refused p from)
-    both_stop : (why : Stop) (x : outcome.Stop) (k : Stock) (p : ReadingPlace) (rest : List ℕ) → x ≡ stop_in k.cells.cells why → OutcomesAs (Stopped why k rest) (Stopped x p rest)
+    both_stop : (why : Stop) (x : outcome.Stop) (k : Stock) (p : ReadingPlace) (rest : List ℕ) → StopsAlike why x k p → OutcomesAs (Stopped why k rest) (Stopped x p rest)
     first_stops : (why : Stop) (k : Stock) (rest : List ℕ) (other : ReaderOutcome ReadingPlace Value outcome.Stop) → 2 ^ 31 < length k.cells.cells → OutcomesAs (Stopped why k rest) other
 
   if_steps : (b : Bool) (x y : ReaderStep Stock V PairChain Stop) (z t : ReaderStep ReadingPlace Value Chain outcome.Stop) → StepsAs x z → StepsAs y t → StepsAs (if b then x else y) (if b then z else t)

@@ -1,7 +1,7 @@
 -- The world behind a form that was read shows the state with the input behind it.
-use Rattle.std.proofs.Common.{◌≡◌, ℕ, ◌+◌, ◌-◌, ◌^◌, ◌<◌, ◌≤◌, true, false, List, [], ◌∷◌, ◌++◌, length, min, Option, Some, None, refl, sym, ap, subst, ◌∙◌, arith}
+use Rattle.std.proofs.Common.{◌≡◌, ◌≢◌, ℕ, ◌+◌, ◌-◌, ◌^◌, ◌<◌, ◌≤◌, true, false, List, [], ◌∷◌, ◌++◌, length, min, Option, Some, None, refl, sym, ap, subst, ◌∙◌, arith}
 use Rattle.std.proofs.lemmas.List.{length-append, length-drop}
-use Rattle.std.specs.Prelude.{option_map}
+use Rattle.std.specs.Prelude.{option_map, Result, Err}
 use Rattle.rl_io.specs.Told.{WhereTold}
 use Rattle.rl_tags.specs.Tagged.{Tagged}
 use Rattle.rl_cells.specs.Cell.{IsClosed}
@@ -11,12 +11,17 @@ use Rattle.rl_text.specs.Word.{Identifier, Integer, String, signed}
 use Rattle.rl_text.specs.Maker.{Made, Has, Wants, Maker}
 use Rattle.rl_text.specs.Reader.{ReaderFrame, Mode, Gap, Comment, InName, InEscape, AfterSign, InNumber, InText, AfterQuote, Ended, Whole, Inside, Lacks, ReaderStep, Goes, Done, Refuses, Halts, atom_ended, reader_step, ReaderOutcome, Read, NoneLeft, Refused, Stopped, ends_after, at_end_between, at_end, after_step, after_turn, read_by, read_from}
 use Rattle.rl_world.specs.Input.{with_back}
+use Rattle.rl_world.specs.declared.stop.Stop as stops
+use Rattle.rl_world.specs.declared.stop.Stop.TheVariants as stop
 use Rattle.rl_world.specs.declared.world.World.{World}
 use Rattle.rl_meaning.specs.Input.{End, Form, Unreadable, with_input}
 use Rattle.rl_meaning.specs.Outcome as outcome
 use Rattle.rl_meaning.specs.State.{Outside, State}
 use Rattle.rl_read.specs.Stock.{Stock, in_stock, stock_of}
-use Rattle.rl_read.specs.Reads.{IsRefusedText}
+use Rattle.rl_read.specs.Given.{is_fault}
+use Rattle.rl_read.specs.declared.read.ReadFault.{ReadFault}
+use Rattle.rl_read.specs.declared.read.ReadFault.TheVariants as fault
+use Rattle.rl_read.specs.Reads.{IsRefusedText, IsStoppedText}
 use Rattle.rl_read.specs.Frames.{CanMake}
 use Rattle.rl_world.specs.Bounds.{IsMakingCounted}
 use Rattle.rl_read.specs.Taken.{TakesBytes, Unread, came_of}
@@ -24,9 +29,10 @@ use Rattle.rl_state.specs.ShownState.{ShowsState}
 use Rattle.rl_state.specs.Ties.{IsPrintedBefore, TakesInput, Ties, ToldAtStart, and_told}
 use Rattle.rl_state.specs.CellLaws.{AreCellLaws}
 use Rattle.rl_state.specs.Descents.{levels_shown}
-use Rattle.rl_state.specs.ReadsAs.{ReadsNone, ReadsTo}
+use Rattle.rl_state.specs.Ending.{stop_in}
+use Rattle.rl_state.specs.ReadsAs.{ReadsNone, ReadsTo, ReadsUntil}
 use Rattle.rl_state.specs.Worlds.{IsWorld}
-use Rattle.rl_state.proofs.ReadingEnds.{form_read, none_read, refused_read}
+use Rattle.rl_state.proofs.ReadingEnds.{form_read, none_read, refused_read, stop_read}
 use Rattle.rl_state.proofs.ToldOn.{told_through}
 use Rattle.rl_state.proofs.Outer.{shows_outer}
 use Rattle.rl_state.proofs.StockShown.{stocked}
@@ -218,3 +224,34 @@ refused_takes laws ids w x o p n q i j k world closed keeps printed same h = rec
       let number : k ≡ length s.outside.input - length r.from = r.place ∙ least (length s.outside.input - length r.from) (omega (arith, all)) in
       (r.from, r.given, e.state, e.is ∙ ap (λ m. outcome.Done (Unreadable m r.from) e.state) (sym number), read_ties w x at o p n q i j h.bytes rest s e.state t only shows e.stands.outside few keeps h.counted h.told printed same);
 }
+
+-- reading of the input that stopped for want of a turn, of a level or of cells, of which there are no more than there may be
+pub stop_takes : AreCellLaws → AreIdentifiers → (w x : World) (o p n q i j : Option (List ℕ)) (why : stops.Stop) → IsWorld w → IsClosed w.cells.cells → length x.cells.cells ≤ 1065536 + x.cells.bound → x.cells.bound ≤ 64000000
+    → x ≡ record w { cells = x.cells; syms = record w.syms { head = x.syms.head }; counts = x.counts; levels = x.levels; output = record w.output { waiting = x.output.waiting }; input = x.input }
+    → WhereTold (option_map (λ b. b ++ w.output.waiting) o) (option_map (λ b. b ++ x.output.waiting) p) (λ before now. now ≡ before) → q ≡ n
+    → TakesBytes (unread_of w i) (unread_of x j) (λ before now. IsStoppedText true w x before now why)
+    → TakesInput (and_told w o n i) (and_told x p q j) (λ at rest s. ReadsUntil (levels_shown w) (stop_in x.cells.cells why) (and_told x p q j) at s)
+stop_takes laws ids w x o p n q i j why world closed many bound keeps printed same h = record {
+  bytes = h.bytes;
+  told = h.told;
+  dry = h.dry;
+  ended = h.ended;
+  means = λ at rest s t only.
+      let left = with_back x.input.back rest in
+      let is : read_by (in_stock true) (stock_of w) s.outside.input ≡ Stopped why (stock_of x) left = subst (λ (l : List ℕ). read_by (in_stock true) (stock_of w) l ≡ Stopped why (stock_of x) left) (sym t.input) (h.means rest only) in
+      let e = stop_read laws ids true w world closed s t.shows s.outside.input why (stock_of x) left (omega (arith, many, bound)) is in
+      record {
+        state = e.0;
+        is = e.1;
+        output = subst (λ (y : Outside). IsPrintedBefore at.out p x.output.waiting y.output) (sym e.2) (printed_same at.out o p w.output.waiting x.output.waiting s.outside.output t.output printed);
+        notes = subst (λ (y : Outside). IsPrintedBefore at.notes q x.notes y.notes) (sym e.2)
+            (subst (λ l. IsPrintedBefore at.notes l x.notes s.outside.notes) (sym same) (subst (λ (l : List ℕ). IsPrintedBefore at.notes n l s.outside.notes) (sym (ap (λ (y : World). y.notes) keeps)) t.notes));
+      };
+}
+
+-- a stop of the counters is no failed write
+pub not_written : (r : Result Tagged ReadFault) (why : stops.Stop) → r ≡ Err (fault.Stop why) → is_fault why ≡ false → r ≢ Err (fault.Stop stop.Write)
+not_written r why e counted f =
+    let same : why ≡ stop.Write = cc in
+    let clash : true ≡ false = subst (λ (s : stops.Stop). is_fault s ≡ false) same counted in
+    cc

@@ -17,7 +17,7 @@ use Rattle.rl_meaning.specs.State.{State, Counts, Expansion}
 use Rattle.rl_meaning.specs.Outcome.{Outcome, Done, Stopped, Cells, room, turn, cells_within, expansion_within, run_room, run_turn, expansion_turn}
 use Rattle.rl_syms.specs.Contents.{ids_before}
 use Rattle.rl_state.specs.ShownState.{ShowsState, counts_in, expansion_in, given_in, turns_in}
-use Rattle.rl_state.specs.Worlds.{IsWorld, AreRunCounts, WorldGrows}
+use Rattle.rl_state.specs.Worlds.{IsWorld, AreWorldCounts, WorldGrows}
 use Rattle.rl_state.specs.Ending.{StopsWith, MeansDone, stop_in}
 
 -- what is left of turns and cells
@@ -28,7 +28,7 @@ left g t c e = record { given = g; turns = t; cells = Some c; expansion = e }
 abbrev pub left_behind : cell.CellStore → counted.WorldCounts → ℕ → Option Expansion → Counts
 left_behind c k cost e = left (given_in k.opening k.bound) (turns_in k.opening k.bound k.turns) (cells_bound_at k.opening k.cells_bound - (cells_taken k.opening c + cost)) e
 
-pub left_in : (c : cell.CellStore) (k : counted.WorldCounts) → AreRunCounts c k
+pub left_in : (c : cell.CellStore) (k : counted.WorldCounts) → AreWorldCounts c k
     → counts_in c k ≡ left (given_in k.opening k.bound) (turns_in k.opening k.bound k.turns) (cells_bound_at k.opening k.cells_bound - cells_taken k.opening c) (expansion_in c.cells k.open_count k.outermost)
 left_in c k r = rw r.together refl
 
@@ -110,7 +110,7 @@ room_full_at {A} g cells inner (Some e) used cost bound t s next why p h = go (n
 abbrev pub roomed_in : cell.CellStore → counted.WorldCounts → ℕ → Counts
 roomed_in c k cost = left_behind c k cost (expansion_in c.cells k.open_count (with_cells cost k.outermost))
 
-pub room_done : {A : Type 0} (c : cell.CellStore) (k : counted.WorldCounts) (cost : ℕ) (s : State) (next : State → Outcome A) → AreRunCounts c k → s.counts ≡ counts_in c k → room_stop k c cost ≡ None
+pub room_done : {A : Type 0} (c : cell.CellStore) (k : counted.WorldCounts) (cost : ℕ) (s : State) (next : State → Outcome A) → AreWorldCounts c k → s.counts ≡ counts_in c k → room_stop k c cost ≡ None
     → room cost s next ≡ next (record s { counts = roomed_in c k cost })
 room_done {A} c k cost s next r e h =
     let taken = cells_taken k.opening c in
@@ -118,7 +118,7 @@ room_done {A} c k cost s next r e h =
     let stop : room_stop_at k.outermost None taken cost bound ≡ None = rw r.together at h in
     ap (λ q. room cost (with_counts s q) next) (e ∙ left_in c k r) ∙ room_done_at (given_in k.opening k.bound) c.cells k.open_count k.outermost taken cost bound (turns_in k.opening k.bound k.turns) s next stop
 
-pub room_full : {A : Type 0} (c : cell.CellStore) (k : counted.WorldCounts) (cost : ℕ) (s : State) (next : State → Outcome A) (why : stops.Stop) → AreRunCounts c k → s.counts ≡ counts_in c k → 0 < cost → room_stop k c cost ≡ Some why
+pub room_full : {A : Type 0} (c : cell.CellStore) (k : counted.WorldCounts) (cost : ℕ) (s : State) (next : State → Outcome A) (why : stops.Stop) → AreWorldCounts c k → s.counts ≡ counts_in c k → 0 < cost → room_stop k c cost ≡ Some why
     → StopsWith s (room cost s next) (stop_in c.cells why)
 room_full {A} c k cost s next why r e p h =
     let taken = cells_taken k.opening c in
@@ -128,7 +128,7 @@ room_full {A} c k cost s next why r e p h =
     record { state = f.state; is = ap (λ q. room cost (with_counts s q) next) (e ∙ left_in c k r) ∙ f.is; good = f.good }
 
 -- where room is counted, the cells have it
-pub room_fits : RoomIsEnough → (c : cell.CellStore) (k : counted.WorldCounts) (cost : ℕ) → AreRunCounts c k → room_stop k c cost ≡ None → has_room c cost ≡ true
+pub room_fits : RoomIsEnough → (c : cell.CellStore) (k : counted.WorldCounts) (cost : ℕ) → AreWorldCounts c k → room_stop k c cost ≡ None → has_room c cost ≡ true
 room_fits enough c k cost r h = enough k c cost r.bounds (subst (λ a. IsMakingCounted a k.outermost c.mark) (sym r.together) tt) h
 
 -- ---- turns
@@ -193,36 +193,36 @@ turn_full_at {A} g cells inner (Some x) turns bound c s next why h = go (nat_lt 
         }
 
 -- the counts of a run, and those of opening
-left_run : (c : cell.CellStore) (k : counted.WorldCounts) → AreRunCounts c k → k.opening ≡ None → counts_in c k ≡ left k.bound (k.bound - k.turns) (k.cells_bound - used_of c) (expansion_in c.cells k.open_count k.outermost)
+left_run : (c : cell.CellStore) (k : counted.WorldCounts) → AreWorldCounts c k → k.opening ≡ None → counts_in c k ≡ left k.bound (k.bound - k.turns) (k.cells_bound - used_of c) (expansion_in c.cells k.open_count k.outermost)
 left_run c k r o = rw (o, r.together) refl
 
-left_opening : (c : cell.CellStore) (k : counted.WorldCounts) (n : ℕ) → AreRunCounts c k → k.opening ≡ Some n → counts_in c k ≡ left 1000000 (1000000 - n) (65536 - length c.cells) None
+left_opening : (c : cell.CellStore) (k : counted.WorldCounts) (n : ℕ) → AreWorldCounts c k → k.opening ≡ Some n → counts_in c k ≡ left 1000000 (1000000 - n) (65536 - length c.cells) None
 left_opening c k n r o = rw (o, r.together, r.unexpanded n o) refl
 
-running_ticked_at : (c : cell.CellStore) (k : counted.WorldCounts) (o : Option ℕ) (e : Option expansion.Expansion) → AreRunCounts c k → k.opening ≡ o → BoundsAgree (counted.ticked_at o e k) c → AreRunCounts c (counted.ticked_at o e k)
+running_ticked_at : (c : cell.CellStore) (k : counted.WorldCounts) (o : Option ℕ) (e : Option expansion.Expansion) → AreWorldCounts c k → k.opening ≡ o → BoundsAgree (counted.ticked_at o e k) c → AreWorldCounts c (counted.ticked_at o e k)
 running_ticked_at c k (Some n) e r is b = record { bounds = b; together = r.together; unexpanded = λ m h. r.unexpanded n is; untaken = λ m h. r.untaken n is; few = r.few }
 running_ticked_at c k None (Some e) r is b = record { bounds = b; together = r.together; unexpanded = λ m h. absurd (let f : None ≡ Some m = sym is ∙ h in cc); untaken = r.untaken; few = r.few }
 running_ticked_at c k None None r is b = record { bounds = b; together = r.together; unexpanded = r.unexpanded; untaken = λ m h. absurd (let f : None ≡ Some m = sym is ∙ h in cc); few = r.few }
 
-pub running_ticked : AreBoundsKept → (c : cell.CellStore) (k : counted.WorldCounts) → AreRunCounts c k → AreRunCounts c (ticked k)
+pub running_ticked : AreBoundsKept → (c : cell.CellStore) (k : counted.WorldCounts) → AreWorldCounts c k → AreWorldCounts c (ticked k)
 running_ticked law c k r = running_ticked_at c k k.opening k.outermost r refl (law.ticked k c r.bounds)
 
 -- the counts after a turn, of a run and of opening
-ticked_at_in : (c : cell.CellStore) (k : counted.WorldCounts) (e : Option expansion.Expansion) → AreRunCounts c k → k.opening ≡ None → k.outermost ≡ e
+ticked_at_in : (c : cell.CellStore) (k : counted.WorldCounts) (e : Option expansion.Expansion) → AreWorldCounts c k → k.opening ≡ None → k.outermost ≡ e
     → counts_in c (counted.ticked_at None e k) ≡ left k.bound (k.bound - turns_after e k.turns) (k.cells_bound - used_of c) (expansion_in c.cells k.open_count (outer_after e))
 ticked_at_in c k None r o is = rw (o, r.together, is) refl
 ticked_at_in c k (Some x) r o is = rw (o, r.together) refl
 
-ticked_run : (c : cell.CellStore) (k : counted.WorldCounts) → AreRunCounts c k → k.opening ≡ None
+ticked_run : (c : cell.CellStore) (k : counted.WorldCounts) → AreWorldCounts c k → k.opening ≡ None
     → counts_in c (ticked k) ≡ left k.bound (k.bound - turns_after k.outermost k.turns) (k.cells_bound - used_of c) (expansion_in c.cells k.open_count (outer_after k.outermost))
 ticked_run c k r o = ap (λ o. counts_in c (counted.ticked_at o k.outermost k)) o ∙ ticked_at_in c k k.outermost r o refl
 
-ticked_opening : (c : cell.CellStore) (k : counted.WorldCounts) (n : ℕ) → AreRunCounts c k → k.opening ≡ Some n → counts_in c (ticked k) ≡ left 1000000 (1000000 - (n + 1)) (65536 - length c.cells) None
+ticked_opening : (c : cell.CellStore) (k : counted.WorldCounts) (n : ℕ) → AreWorldCounts c k → k.opening ≡ Some n → counts_in c (ticked k) ≡ left 1000000 (1000000 - (n + 1)) (65536 - length c.cells) None
 ticked_opening c k n r o =
     let after : counts_in c (counted.ticked_at (Some n) k.outermost k) ≡ left 1000000 (1000000 - (n + 1)) (65536 - length c.cells) None = rw (r.together, r.unexpanded n o) refl in
     ap (λ o. counts_in c (counted.ticked_at o k.outermost k)) o ∙ after
 
-pub turn_done : {A : Type 0} (c : cell.CellStore) (k : counted.WorldCounts) (s : State) (next : State → Outcome A) → AreRunCounts c k → s.counts ≡ counts_in c k → tick_stop k ≡ None
+pub turn_done : {A : Type 0} (c : cell.CellStore) (k : counted.WorldCounts) (s : State) (next : State → Outcome A) → AreWorldCounts c k → s.counts ≡ counts_in c k → tick_stop k ≡ None
     → turn s next ≡ next (record s { counts = counts_in c (ticked k) })
 turn_done {A} c k s next r e h = go k.opening refl
   where
@@ -236,7 +236,7 @@ turn_done {A} c k s next r e h = go k.opening refl
         ap (λ q. turn (with_counts s q) next) (e ∙ left_opening c k n r o) ∙ turn_done_at 1000000 c.cells k.open_count None n 1000000 (65536 - length c.cells) s next stop
         ∙ ap (λ q. next (with_counts s q)) (sym (ticked_opening c k n r o))
 
-pub turn_full : {A : Type 0} (c : cell.CellStore) (k : counted.WorldCounts) (s : State) (next : State → Outcome A) (why : stops.Stop) → AreRunCounts c k → s.counts ≡ counts_in c k → tick_stop k ≡ Some why
+pub turn_full : {A : Type 0} (c : cell.CellStore) (k : counted.WorldCounts) (s : State) (next : State → Outcome A) (why : stops.Stop) → AreWorldCounts c k → s.counts ≡ counts_in c k → tick_stop k ≡ Some why
     → StopsWith s (turn s next) (stop_in c.cells why)
 turn_full {A} c k s next why r e h = go k.opening refl
   where
@@ -320,7 +320,7 @@ falls_at k None (Some x) o is h =
 pub turn_falls : (w x : World) → x ≡ record w { counts = ticked w.counts } → tick_stop w.counts ≡ None → count_turns_left w.counts ≡ count_turns_left x.counts + 1
 turn_falls w x e h = falls_at w.counts w.counts.opening w.counts.outermost refl refl h ∙ ap (λ (y : World). count_turns_left y.counts + 1) (sym e)
 
-pub few_left : (c : cell.CellStore) (k : counted.WorldCounts) → AreRunCounts c k → count_turns_left k ≤ 2 ^ 59 - 1
+pub few_left : (c : cell.CellStore) (k : counted.WorldCounts) → AreWorldCounts c k → count_turns_left k ≤ 2 ^ 59 - 1
 few_left c k r = go k.opening k.outermost
   where
     go : (o : Option ℕ) (e : Option expansion.Expansion) → turns_left_at o e k.turns k.bound ≤ 2 ^ 59 - 1

@@ -178,6 +178,7 @@ module _ (w : World) (out : Outside) where
   pub record LacksBoth {B : Type 0} (why : Stop) (k : Stock) (o : Outcome B) : Type 0 where
     pub state : State
     pub is : o ≡ Stopped (stop_in k.cells.cells why) state
+    pub outside : state.outside ≡ out
 
   -- both make what is so related, or the same is wanting for both
   abbrev pub MakesAs : {A B : Type 0} → Stock → (Stock → A → B → Type 0) → Made Stock A Stop → Outcome B → Type 0
@@ -195,7 +196,7 @@ module _ (w : World) (out : Outside) where
       → MakesAs from R x o → ((a : A) (k : Stock) (b : B) (s : State) → StandsAs k s → Grown from k → R k a b → MakesAs k Q (f a k) (g b s)) → MakesAs from Q (and_then_made x f) (then_do o g)
   then_makes from R Q (Has a k) o f g h next =
       subst (λ o. MakesAs from Q (f a k) (then_do o g)) (sym h.is) (wider from k Q (f a k) (g h.value h.state) h.grows h.left (next a k h.value h.state h.stands h.grows h.related))
-  then_makes from R Q (Wants why k) o f g h next = record { state = h.state; is = ap (λ o. then_do o g) h.is }
+  then_makes from R Q (Wants why k) o f g h next = record { state = h.state; is = ap (λ o. then_do o g) h.is; outside = h.outside }
 
   -- ---- values
 
@@ -229,8 +230,8 @@ module _ (w : World) (out : Outside) where
     related = r;
   }
 
-  value_lacks : (R : Stock → Tagged → Value → Type 0) (from : Stock) (why : Stop) (s : State) (o : Outcome Value) → MeansValue s o (Err why) (stocked w from) → MakesAs from R (Wants why from) o
-  value_lacks R from why s o m = record { state = m.state; is = m.is }
+  value_lacks : (R : Stock → Tagged → Value → Type 0) (from : Stock) (why : Stop) (s : State) (o : Outcome Value) → s.outside ≡ out → MeansValue s o (Err why) (stocked w from) → MakesAs from R (Wants why from) o
+  value_lacks R from why s o outside m = record { state = m.state; is = m.is; outside = m.good.outside ∙ outside }
 
   -- a name has 1 to 255 bytes
   abbrev pub IsMadeAtom : Atom → Type 0
@@ -242,7 +243,7 @@ module _ (w : World) (out : Outside) where
 
     pair_made_at : (from : Stock) (a d : Tagged) (s : State) → StandsAs from s → is_live from.cells.cells a ≡ true → is_live from.cells.cells d ≡ true → (o : Option Stop) → room_stop from.counts from.cells 1 ≡ o
         → MakesAs from IsPairAs (and_then_made (with_room_at o 1 from) (λ _ k. Has (PairAt (length k.cells.cells)) (record k { cells = grown k.cells (PairCell a d) }))) (made_pair (value_of from.cells.cells a) (value_of from.cells.cells d) s)
-    pair_made_at from a d s h la ld (Some why) e = value_lacks IsPairAs from why s _ (pair_stops (stocked w from) (stocked w from) a d why refl h.world e s h.shows)
+    pair_made_at from a d s h la ld (Some why) e = value_lacks IsPairAs from why s _ h.outside (pair_stops (stocked w from) (stocked w from) a d why refl h.world e s h.shows)
     pair_made_at from a d s h la ld None e =
         let W = stocked w from in
         let cells = from.cells.cells in
@@ -267,7 +268,7 @@ module _ (w : World) (out : Outside) where
 
     text_made_at : (from : Stock) (bytes : List ℕ) (s : State) → StandsAs from s → (o : Option Stop) → room_stop from.counts from.cells (cost_of (StrCell bytes)) ≡ o
         → MakesAs from IsShownAs (and_then_made (with_room_at o (cost_of (StrCell bytes)) from) (λ _ k. Has (StrAt (length k.cells.cells)) (record k { cells = grown k.cells (StrCell bytes) }))) (made_string bytes s)
-    text_made_at from bytes s h (Some why) e = value_lacks IsShownAs from why s _ (string_stops (stocked w from) (stocked w from) bytes why refl h.world e s h.shows)
+    text_made_at from bytes s h (Some why) e = value_lacks IsShownAs from why s _ h.outside (string_stops (stocked w from) (stocked w from) bytes why refl h.world e s h.shows)
     text_made_at from bytes s h None e =
         let W = stocked w from in
         let cells = from.cells.cells in
@@ -281,7 +282,7 @@ module _ (w : World) (out : Outside) where
 
     name_made_at : (from : Stock) (name : Name) (s : State) → StandsAs from s → 1 ≤ length name → length name ≤ 255 → IsFree from.cells.cells from.head name → (o : Option Stop) → room_stop from.counts from.cells (id_cost name) ≡ o
         → MakesAs from IsShownAs (and_then_made (with_room_at o (id_cost name) from) (λ _ k. Has (new_id k.cells name) (record k { cells = with_id k.cells name nil_value k.head; head = Some (new_id k.cells name) }))) (interned name s)
-    name_made_at from name s h some short free (Some why) e = value_lacks IsShownAs from why s _ (interned_stops laws (stocked w from) (stocked w from) name why h.world free refl e s h.shows)
+    name_made_at from name s h some short free (Some why) e = value_lacks IsShownAs from why s _ h.outside (interned_stops laws (stocked w from) (stocked w from) name why h.world free refl e s h.shows)
     name_made_at from name s h some short free None e =
         let W = stocked w from in
         let id = new_id from.cells name in
@@ -328,7 +329,7 @@ module _ (w : World) (out : Outside) where
     turn_made_at : (from : Stock) (s : State) → StandsAs from s → (o : Option Stop) → tick_stop from.counts ≡ o → MakesAs from (λ k a b. Unit {0}) (turned_at o from) (byte_turn true s)
     turn_made_at from s h (Some why) e =
         let m : MeansDone s (byte_turn true s) (Err why) (stocked w from) = turn_stops (stocked w from) (stocked w from) why refl h.world e s h.shows in
-        record { state = m.state; is = m.is }
+        record { state = m.state; is = m.is; outside = m.good.outside ∙ h.outside }
     turn_made_at from s h None e =
         let W = stocked w from in
         let k : Stock = record from { counts = ticked from.counts } in
@@ -476,7 +477,7 @@ module _ (w : World) (out : Outside) where
 
     vector_made_at : (from : Stock) (xs : List Tagged) (s : State) → StandsAs from s → list_all (is_live from.cells.cells) xs ≡ true → (o : Option Stop) → room_stop from.counts from.cells (cost_of (VectorCell xs)) ≡ o
         → MakesAs from IsShownAs (and_then_made (with_room_at o (cost_of (VectorCell xs)) from) (λ _ k. Has (VectorAt (length k.cells.cells)) (record k { cells = grown k.cells (VectorCell xs) }))) (room (cost_of (VectorCell xs)) s (making_vector (map (value_of from.cells.cells) xs)))
-    vector_made_at from xs s h live (Some why) e = value_lacks IsShownAs from why s _ (made_stops (stocked w from) (stocked w from) (cost_of (VectorCell xs)) s _ why refl h.world (omega arith) e h.shows)
+    vector_made_at from xs s h live (Some why) e = value_lacks IsShownAs from why s _ h.outside (made_stops (stocked w from) (stocked w from) (cost_of (VectorCell xs)) s _ why refl h.world (omega arith) e h.shows)
     vector_made_at from xs s h live None e =
         let W = stocked w from in
         let cells = from.cells.cells in
@@ -513,7 +514,7 @@ module _ (w : World) (out : Outside) where
 
     abbrev pub EntersAs : Made Stock (Unit {0}) Stop → Made ReadingPlace (Unit {0}) outcome.Stop → Type 0
     EntersAs (Has u k) (Has v p) = PlacesAs k p
-    EntersAs (Wants why k) (Wants x p) = x ≡ stop_in k.cells.cells why
+    EntersAs (Wants why k) (Wants x p) = (x ≡ stop_in k.cells.cells why) × (p.state.outside ≡ out)
     EntersAs (Has u k) (Wants x p) = ⊥
     EntersAs (Wants why k) (Has v p) = ⊥
 
@@ -521,7 +522,7 @@ module _ (w : World) (out : Outside) where
     relevelled k n s h = record { world = h.world; closed = h.closed; shows = h.shows; outside = h.outside }
 
     enters : (k : Stock) (p : ReadingPlace) (n : ℕ) → StandsAs k p.state → EntersAs (entered_at n k) (entered_from p.levels (deeper 1 (Some n) p.state (λ levels. Done levels p.state)))
-    enters k p zero h = refl
+    enters k p zero h = (refl, h.outside)
     enters k p (suc n) h =
         let fits : nat_le 1 (suc n) ≡ true = le-leb 1 (suc n) (omega arith) in
         let less : suc n - 1 ≡ n = omega arith in

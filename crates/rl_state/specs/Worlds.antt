@@ -18,7 +18,7 @@ use Rattle.rl_meaning.specs.Symbols.{symbol_at, message_id}
 use Rattle.rl_meaning.specs.Variables.{Nearest, nearest}
 
 -- in opening or in a run: counts and cells agree, no compilation expands, and so no spare cells are in use, and in opening no expansion is open and no turn of the run was taken
-pub record AreRunCounts (c : CellStore) (k : WorldCounts) : Type 0 where
+pub record AreWorldCounts (c : CellStore) (k : WorldCounts) : Type 0 where
   pub bounds : BoundsAgree k c
   pub together : k.aside ≡ None
   pub unexpanded : (ticks : ℕ) → k.opening ≡ Some ticks → k.outermost ≡ None
@@ -36,7 +36,7 @@ pub record IsWorld (w : World) : Type 0 where
   pub t : HasNumber w.cells.cells t_id 1
   pub message : HasNumber w.cells.cells emsg_star_id 3
   pub texts : AreTexts w.cells.cells w.texts 14
-  pub running : AreRunCounts w.cells w.counts
+  pub running : AreWorldCounts w.cells w.counts
   pub levels : w.levels.level ≤ w.levels.bound
   -- as many identifiers were made by GENSYM as there are at most
   pub made : w.syms.made ≤ ids_before w.cells.cells (length w.cells.cells)
