@@ -19,12 +19,13 @@ use Rattle.rl_world.specs.Errors.{AreTexts}
 use Rattle.rl_world.specs.Levels.{WorldLevels}
 use Rattle.rl_world.specs.OpeningCells.{AreOpeningCells, with_strings}
 use Rattle.rl_world.specs.declared.world.World.{World}
-use Rattle.rl_meaning.specs.State.{State, Files}
+use Rattle.rl_meaning.specs.State.{State, Counts, Files}
 use Rattle.rl_meaning.specs.Run.{Limits, started}
 use Rattle.rl_state.specs.CellLaws.{AreCellLaws}
 use Rattle.rl_state.specs.ShownState.{ShowsState, counts_in}
 use Rattle.rl_state.specs.Worlds.{AreWorldCounts, HasNumber, IsWorld, WorldGrows}
 use Rattle.rl_state.proofs.Kept.{id_cell, id_inside}
+use Rattle.rl_state.proofs.Outer.{counted_as, grows_counted, shows_counted, shows_outer}
 use Rattle.rl_state.proofs.Room.{left}
 
 -- ---- strings behind the names
@@ -142,32 +143,16 @@ counts_ended c k r h =
     now ∙ ap (λ t. left k.bound t (k.cells_bound - 0) None) turns ∙ ap (λ n. left k.bound k.bound n None) cells
 
 pub ended_grows : AreBoundsKept → (w x : World) → x ≡ record w { cells = ended_cells w.cells; counts = ended_counts w.counts } → IsWorld w → w.cells.count ≡ None → WorldGrows w x
-ended_grows law w x e i h = subst (λ y. WorldGrows w y) (sym e) (record {
-  world = record {
-    table = i.table;
-    t = i.t;
-    message = i.message;
-    texts = i.texts;
-    running = running_ended law w.cells w.counts i.running h;
-    levels = i.levels;
-    made = i.made;
-    expanding = i.expanding;
-  };
-  live = λ v l. l;
-  values = λ v l. refl;
-})
+ended_grows law w x e i h = subst (λ y. WorldGrows w y) (sym e) (grows_counted w (Some 0) (ended_counts w.counts) (running_ended law w.cells w.counts i.running h) i.expanding i)
 
 pub ended_shows : (w x : World) → x ≡ record w { cells = ended_cells w.cells; counts = ended_counts w.counts } → IsWorld w → w.cells.count ≡ None
     → (s : State) (limits : Limits) (files : Files) (input : List ℕ) → limits.turns ≡ w.counts.bound → limits.cells ≡ Some w.counts.cells_bound → ShowsState w s → ShowsState x (started limits files input s)
-ended_shows w x e i h s limits files input t c shown = subst (λ y. ShowsState y (started limits files input s)) (sym e) (record {
-  store = shown.store;
-  symbols = record { many = shown.symbols.many; symbols = shown.symbols.symbols; values = shown.symbols.values };
-  counts = ap (λ n. record { given = n; turns = n; cells = limits.cells; expansion = None }) t ∙ ap (λ o. record { given = w.counts.bound; turns = w.counts.bound; cells = o; expansion = None }) c
-      ∙ sym (counts_ended w.cells w.counts i.running h);
-  gensyms = shown.gensyms;
-  column = shown.column;
-  line_length = shown.line_length;
-  taken = shown.taken;
-  free = shown.free;
-  bound = shown.bound;
-})
+ended_shows w x e i h s limits files input t c shown =
+    let k = ended_counts w.counts in
+    let code = (started limits files input s).compilation in
+    let q : Counts = record { given = limits.turns; turns = limits.turns; cells = limits.cells; expansion = None } in
+    let is : q ≡ counts_in (ended_cells w.cells) k = ap (λ n. record { given = n; turns = n; cells = limits.cells; expansion = None }) t
+        ∙ ap (λ o. record { given = w.counts.bound; turns = w.counts.bound; cells = o; expansion = None }) c ∙ sym (counts_ended w.cells w.counts i.running h) in
+    subst (λ y. ShowsState y (started limits files input s)) (sym e)
+    (shows_outer (counted_as w (Some 0) k) w.levels w.output w.notes w.input (record s { counts = q; compilation = code }) (started limits files input s).outside s.watched shown.column shown.line_length shown.taken
+    (shows_counted w (Some 0) k s q code is shown))

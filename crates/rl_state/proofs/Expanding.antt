@@ -17,28 +17,7 @@ use Rattle.rl_meaning.specs.Evaluation.{closed_expansion, opened_expansion, with
 use Rattle.rl_state.specs.ShownState.{ShowsState, cells_in, counts_in, expansion_in, given_in, number_in, turns_in}
 use Rattle.rl_state.specs.Worlds.{AreWorldCounts, IsWorld, WorldGrows}
 use Rattle.rl_state.proofs.Made.{IsExpanding, unmarked}
-
--- a world that differs in its counts alone
-shows_counted : (w x : World) (k : counted.WorldCounts) (s : State) (e : Option Expansion) → x ≡ record w { counts = k } → record s.counts { expansion = e } ≡ counts_in w.cells k → ShowsState w s
-    → ShowsState x (record s { counts = record s.counts { expansion = e } })
-shows_counted w x k s e is counts h = subst (λ (y : World). ShowsState y (record s { counts = record s.counts { expansion = e } })) (sym is) (record {
-  store = h.store;
-  symbols = record { many = h.symbols.many; symbols = h.symbols.symbols; values = h.symbols.values };
-  counts = counts;
-  gensyms = h.gensyms;
-  column = h.column;
-  line_length = h.line_length;
-  taken = h.taken;
-  free = h.free;
-  bound = h.bound;
-})
-
-grows_counted : (w x : World) (k : counted.WorldCounts) → x ≡ record w { counts = k } → AreWorldCounts w.cells k → IsExpanding w.cells.cells k.outermost → IsWorld w → WorldGrows w x
-grows_counted w x k is r e i = subst (λ (y : World). WorldGrows w y) (sym is) (record {
-  world = record { table = i.table; t = i.t; message = i.message; texts = i.texts; running = r; levels = i.levels; made = i.made; expanding = e };
-  live = λ v h. h;
-  values = λ v h. refl;
-})
+use Rattle.rl_state.proofs.Outer.{grows_counted, shows_counted}
 
 -- ---- one is begun
 
@@ -52,9 +31,10 @@ pub begun_shows : (w x : World) (name : Tagged) → x ≡ record w { counts = be
     → (s : State) → ShowsState w s → ShowsState x (with_expansion (number_in w.cells.cells name) s)
 begun_shows w x name is outer s h =
     let e = Some (opened_expansion (number_in w.cells.cells name) s.counts.expansion) in
-    shows_counted w x (begun w.counts name) s e is
+    let q : Counts = record s.counts { expansion = e } in
+    subst (λ (y : World). ShowsState y (record s { counts = q })) (sym is) (shows_counted w w.cells.count (begun w.counts name) s q s.compilation
     (ap (λ (k : Counts). record k { expansion = Some (opened_expansion (number_in w.cells.cells name) k.expansion) }) h.counts
-    ∙ ap (λ (o : Option Expansion). record (counts_in w.cells w.counts) { expansion = o }) (opened_in w.cells.cells w.counts.open_count w.counts.outermost name outer)) h
+    ∙ ap (λ (o : Option Expansion). record (counts_in w.cells w.counts) { expansion = o }) (opened_in w.cells.cells w.counts.open_count w.counts.outermost name outer)) h)
 
 expanding_begun : (cells : List Cell) (name : Tagged) (outer : Option expansion.Expansion) → is_id cells name ≡ true → IsExpanding cells outer → IsExpanding cells (outermost_with name outer)
 expanding_begun cells name None id h = λ x is. let q : record { name = name; turns = 0; cells = 0 } ≡ x = cc in subst (λ (y : expansion.Expansion). is_id cells y.name ≡ true) q id
@@ -74,7 +54,7 @@ running_begun law s k name run r = record {
 
 pub begun_grows : AreBoundsKept → (w x : World) (name : Tagged) → x ≡ record w { counts = begun w.counts name } → IsWorld w → w.counts.opening ≡ None → is_id w.cells.cells name ≡ true → WorldGrows w x
 begun_grows law w x name is i run id =
-    grows_counted w x (begun w.counts name) is (running_begun law w.cells w.counts name run i.running) (expanding_begun w.cells.cells name w.counts.outermost id i.expanding) i
+    subst (λ (y : World). WorldGrows w y) (sym is) (grows_counted w w.cells.count (begun w.counts name) (running_begun law w.cells w.counts name run i.running) (expanding_begun w.cells.cells name w.counts.outermost id i.expanding) i)
 
 -- ---- the newest one ends
 
@@ -96,9 +76,10 @@ closed_in cells n (Some e) some h = closed_at cells e n (n - 1) (n == 1) (omega 
 pub ended_shows : (w x : World) → x ≡ record w { counts = expansion_ended w.counts } → IsOpen w.counts.outermost w.counts.open_count → 0 < w.counts.open_count
     → (s : State) → ShowsState w s → ShowsState x (without_expansion s)
 ended_shows w x is outer some s h =
-    shows_counted w x (expansion_ended w.counts) s (closed_expansion s.counts.expansion) is
+    let q : Counts = record s.counts { expansion = closed_expansion s.counts.expansion } in
+    subst (λ (y : World). ShowsState y (record s { counts = q })) (sym is) (shows_counted w w.cells.count (expansion_ended w.counts) s q s.compilation
     (ap (λ (k : Counts). record k { expansion = closed_expansion k.expansion }) h.counts
-    ∙ ap (λ (o : Option Expansion). record (counts_in w.cells w.counts) { expansion = o }) (closed_in w.cells.cells w.counts.open_count w.counts.outermost some outer)) h
+    ∙ ap (λ (o : Option Expansion). record (counts_in w.cells w.counts) { expansion = o }) (closed_in w.cells.cells w.counts.open_count w.counts.outermost some outer)) h)
 
 expanding_ended : (cells : List Cell) (outer : Option expansion.Expansion) (b : Bool) → IsExpanding cells outer → IsExpanding cells (cond b None outer)
 expanding_ended cells outer true h = λ x is. absurd (cc)
@@ -119,7 +100,7 @@ running_ended law s k r = record {
 
 pub ended_grows : AreBoundsKept → (w x : World) → x ≡ record w { counts = expansion_ended w.counts } → IsWorld w → WorldGrows w x
 ended_grows law w x is i =
-    grows_counted w x (expansion_ended w.counts) is (running_ended law w.cells w.counts i.running) (expanding_ended w.cells.cells w.counts.outermost (w.counts.open_count == 1) i.expanding) i
+    subst (λ (y : World). WorldGrows w y) (sym is) (grows_counted w w.cells.count (expansion_ended w.counts) (running_ended law w.cells w.counts i.running) (expanding_ended w.cells.cells w.counts.outermost (w.counts.open_count == 1) i.expanding) i)
 
 -- ---- whether one is open
 

@@ -19,6 +19,7 @@ use Rattle.rl_syms.specs.Contents.{ids_before}
 use Rattle.rl_state.specs.ShownState.{ShowsState, counts_in, expansion_in, given_in, turns_in}
 use Rattle.rl_state.specs.Worlds.{IsWorld, AreWorldCounts, WorldGrows}
 use Rattle.rl_state.specs.Ending.{StopsWith, MeansDone, stop_in}
+use Rattle.rl_state.proofs.Outer.{grows_counted, shows_counted}
 
 -- what is left of turns and cells
 abbrev pub left : ℕ → ℕ → ℕ → Option Expansion → Counts
@@ -255,17 +256,7 @@ turn_means w x e i h s shown = subst (λ y. MeansDone s (turn s (λ t. Done tt t
   state = record s { counts = counts_in w.cells (ticked w.counts) };
   is = turn_done w.cells w.counts s (λ t. Done tt t) i.running shown.counts h;
   good = record {
-    shows = record {
-      store = shown.store;
-      symbols = record { many = shown.symbols.many; symbols = shown.symbols.symbols; values = shown.symbols.values };
-      counts = refl;
-      gensyms = shown.gensyms;
-      column = shown.column;
-      line_length = shown.line_length;
-      taken = shown.taken;
-      free = shown.free;
-      bound = shown.bound;
-    };
+    shows = shows_counted w w.cells.count (ticked w.counts) s (counts_in w.cells (ticked w.counts)) s.compilation refl shown;
     stays = record { functions = record { functions = refl; compilation = refl }; bindings = record { entries = refl; hidden = λ i b h. refl }; outside = refl };
   };
 })
@@ -277,20 +268,8 @@ expanding_ticked_at cells k None None is h = h
 expanding_ticked_at cells k None (Some e) is h = λ x same. let q : record e { turns = e.turns + 1 } ≡ x = cc in subst (λ (y : expansion.Expansion). is_id cells y.name ≡ true) q (h e is)
 
 pub turn_grows : AreBoundsKept → (w x : World) → x ≡ record w { counts = ticked w.counts } → IsWorld w → WorldGrows w x
-turn_grows law w x e i = subst (λ y. WorldGrows w y) (sym e) (record {
-  world = record {
-    table = i.table;
-    t = i.t;
-    message = i.message;
-    texts = i.texts;
-    running = running_ticked law w.cells w.counts i.running;
-    levels = i.levels;
-    made = i.made;
-    expanding = expanding_ticked_at w.cells.cells w.counts w.counts.opening w.counts.outermost refl i.expanding;
-  };
-  live = λ v h. h;
-  values = λ v h. refl;
-})
+turn_grows law w x e i = subst (λ y. WorldGrows w y) (sym e)
+    (grows_counted w w.cells.count (ticked w.counts) (running_ticked law w.cells w.counts i.running) (expanding_ticked_at w.cells.cells w.counts w.counts.opening w.counts.outermost refl i.expanding) i)
 
 pub turn_stops : (w x : World) (why : stops.Stop) → x ≡ w → IsWorld w → tick_stop w.counts ≡ Some why → (s : State) → ShowsState w s → MeansDone s (turn s (λ t. Done tt t)) (Err why) x
 turn_stops w x why e i h s shown = subst (λ y. MeansDone s (turn s (λ t. Done tt t)) (Err why) y) (sym e) (turn_full w.cells w.counts s (λ t. Done tt t) why i.running shown.counts h)
