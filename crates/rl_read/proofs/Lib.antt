@@ -32,3 +32,4 @@ pub mod ReadStands
 pub mod ReadIsDatum
 mod CellsKept
 mod WhatStands
+mod NamesFound

@@ -1,14 +1,12 @@
 -- What is made stands for its datum, and leaves what stood before.
-use Rattle.std.proofs.Common.{◌≡◌, ◌≢◌, ℕ, ◌+◌, ◌<◌, ◌≤◌, Bool, true, false, if◌then◌else◌, inl, inr, List, [], ◌∷◌, ◌++◌, length, Option, None, Some, refl, sym, ap, subst, ◌∙◌, arith}
-use Rattle.std.specs.Str.{bytes_eq}
-use Rattle.std.proofs.lemmas.Slice.Eq.{bytes_eq-Decides}
+use Rattle.std.proofs.Common.{◌≡◌, ℕ, ◌+◌, ◌<◌, ◌≤◌, ◌++◌, length, Option, None, Some, refl, sym, subst, arith}
 use Rattle.rl_tags.specs.Tagged.{Tagged, StrAt, PairAt}
 use Rattle.rl_cells.specs.Cell.{Cell, PairCell, StrCell, cost_of, placed}
 use Rattle.rl_cells.specs.Laws.{IsAdded, IsChanged}
 use Rattle.rl_syms.specs.Frame.{words_of_id}
 use Rattle.rl_syms.specs.Laws.{AreIdentifiers, IsKept, LeaveIdentifiers, NamesEnter}
 use Rattle.rl_syms.specs.Made.{id_cost, new_id, with_id}
-use Rattle.rl_syms.specs.Table.{Among, IsFree, IsNamed, ids_from, name_in_cells, nil_value}
+use Rattle.rl_syms.specs.Table.{IsFree, IsNamed, ids_from, nil_value}
 use Rattle.rl_tree.specs.Name.{Name, quote_name}
 use Rattle.rl_text.specs.Datum.{Datum, Pair, Id, nil, quoted}
 use Rattle.rl_text.specs.Maker.{Made, Has, Wants}
@@ -17,6 +15,7 @@ use Rattle.rl_world.specs.Counts.{room_stop}
 use Rattle.rl_world.specs.declared.stop.Stop.{Stop}
 use Rattle.rl_read.specs.Stock.{Stock, and_then_made, atom_made, identifier_at, identifier_made, named_among, object_made, pair_made, quote_made, with_room, with_room_at}
 use Rattle.rl_read.proofs.NameEntered.{longer_with_id}
+use Rattle.rl_read.proofs.NamesFound.{names_found}
 use Rattle.rl_read.proofs.ValueStands.{Heap, IsHeap, Stands, Keeps, keeps_refl, keeps_trans, stands_kept, stands_wider, size}
 
 -- what the crates below say of cells and names
@@ -119,26 +118,6 @@ pub record IsEntered (old : Heap) (name : Name) (v : Tagged) (new : Heap) : Type
   pub grows : Grows old new
   pub named : IsNamed new.cells new.head name v
 
-by_test : (cells : List Cell) (name : Name) (j i : ℕ) (is : List ℕ) (b : Bool) → bytes_eq name (name_in_cells cells j) ≡ b → (if b then Some j else named_among cells name is) ≡ Some i → (named_among cells name is ≡ Some i → Among i is × (name_in_cells cells i ≡ name)) → Among i (j ∷ is) × (name_in_cells cells i ≡ name)
-by_test cells name j i is true e h rest =
-    let same : j ≡ i = cc in
-    (inl (sym same), ap (name_in_cells cells) (sym same) ∙ sym ((bytes_eq-Decides name (name_in_cells cells j)).0 e))
-by_test cells name j i is false e h rest = let found = rest h in (inr found.0, found.1)
-
-named_found : (cells : List Cell) (name : Name) (is : List ℕ) (i : ℕ) → named_among cells name is ≡ Some i → Among i is × (name_in_cells cells i ≡ name)
-named_found cells name [] i e = absurd cc
-named_found cells name (j ∷ is) i e = by_test cells name j i is (bytes_eq name (name_in_cells cells j)) refl e (λ f. named_found cells name is i f)
-
-past_test : (cells : List Cell) (name : Name) (j : ℕ) (is : List ℕ) (k : ℕ) (b : Bool) → bytes_eq name (name_in_cells cells j) ≡ b → (if b then Some j else named_among cells name is) ≡ None → Among k (j ∷ is) → name_in_cells cells k ≡ name → (named_among cells name is ≡ None → Among k is → ⊥) → ⊥
-past_test cells name j is k true e h a n rest = cc
-past_test cells name j is k false e h (inr a) n rest = rest h a
-past_test cells name j is k false e h (inl i) n rest =
-    let t : bytes_eq name (name_in_cells cells j) ≡ true = (bytes_eq-Decides name (name_in_cells cells j)).1 (sym n ∙ ap (name_in_cells cells) i) in cc
-
-named_free : (cells : List Cell) (name : Name) (is : List ℕ) → named_among cells name is ≡ None → (k : ℕ) → Among k is → name_in_cells cells k ≢ name
-named_free cells name [] e k a n = a
-named_free cells name (j ∷ is) e k a n = past_test cells name j is k (bytes_eq name (name_in_cells cells j)) refl e a n (λ f b. named_free cells name is f k b n)
-
 -- with a new identifier
 abbrev named : Stock → Name → Stock
 named k name = record k { cells = with_id k.cells name nil_value k.head; head = Some (new_id k.cells name) }
@@ -169,9 +148,9 @@ new_makes laws k name h some short free =
 
 identifier_makes_at : AreLaws → (k : Stock) (name : Name) → IsHeap (heap_of k) → 1 ≤ length name → length name ≤ 255 → (o : Option ℕ) → named_among k.cells.cells name (ids_from k.cells.cells k.head) ≡ o → Makes (IsEntered (heap_of k) name) (identifier_at o name k)
 identifier_makes_at laws k name h some short (Some i) e =
-    let found = named_found k.cells.cells name (ids_from k.cells.cells k.head) i e in
+    let found = names_found.found k.cells.cells name (ids_from k.cells.cells k.head) i e in
     record { grows = grows_refl (heap_of k) h; named = record { interned = (refl, found.0); name_is = found.1 } }
-identifier_makes_at laws k name h some short None e = new_makes laws k name h some short (record { other = named_free k.cells.cells name (ids_from k.cells.cells k.head) e })
+identifier_makes_at laws k name h some short None e = new_makes laws k name h some short (record { other = names_found.free k.cells.cells name (ids_from k.cells.cells k.head) e })
 
 identifier_makes : AreLaws → (k : Stock) (name : Name) → IsHeap (heap_of k) → 1 ≤ length name → length name ≤ 255 → Makes (IsEntered (heap_of k) name) (identifier_made name k)
 identifier_makes laws k name h some short = identifier_makes_at laws k name h some short (named_among k.cells.cells name (ids_from k.cells.cells k.head)) refl

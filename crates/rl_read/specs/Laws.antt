@@ -1,9 +1,9 @@
 -- What the crates above may say of reading in a world.
-use Rattle.std.specs.Prelude.{◌≡◌, ℕ, ◌-◌, Bool, true, List, ◌++◌, length, Option, Some, None}
+use Rattle.std.specs.Prelude.{◌≡◌, ◌≢◌, ℕ, ◌-◌, Bool, true, List, ◌++◌, length, Option, Some, None}
 use Rattle.rl_tags.specs.Tagged.{Tagged, PairAt, index_of}
 use Rattle.rl_tags.specs.Ids.{nil_id}
 use Rattle.rl_cells.specs.Cell.{Cell, PairCell, is_live, is_pair, car_of, cdr_of, placed}
-use Rattle.rl_syms.specs.Table.{IsTable, IsNamed, nil_value}
+use Rattle.rl_syms.specs.Table.{Among, IsTable, IsNamed, name_in_cells, nil_value}
 use Rattle.rl_syms.specs.Contents.{ids_before, value_of, store_of}
 use Rattle.rl_syms.specs.Numbers.{numbered_name}
 use Rattle.rl_syms.specs.Laws.{IsKept, LeaveIdentifiers}
@@ -12,14 +12,14 @@ use Rattle.rl_world.specs.Bounds.{AreBoundsKept, RoomIsEnough}
 use Rattle.rl_world.specs.Counts.{counts_at_opening}
 use Rattle.rl_world.specs.declared.world.World.{World}
 use Rattle.rl_read.specs.Frames.{CanMake}
-use Rattle.rl_tree.specs.Name.{nil_name}
+use Rattle.rl_tree.specs.Name.{Name, nil_name}
 use Rattle.rl_text.specs.Datum.{Datum, Pair}
 use Rattle.rl_text.specs.Stored.{IsStored}
 use Rattle.rl_text.specs.Gap.{IsBlankText}
 use Rattle.rl_text.specs.Spelling.{IsSpelled}
 use Rattle.rl_text.specs.Refusal.{IsRefusedAt}
 use Rattle.rl_text.specs.Reader.{Read, NoneLeft, Refused, read_by}
-use Rattle.rl_read.specs.Stock.{Stock, in_stock}
+use Rattle.rl_read.specs.Stock.{Stock, in_stock, named_among}
 use Rattle.rl_read.specs.Data.{IsDatum, datum_of, KeepsData}
 
 -- whatever there is, and whether bytes take turns or not
@@ -67,3 +67,8 @@ pub record AreMakingLaws : Type 0 where
 abbrev pub OpenedWorldsMake : Type 0
 OpenedWorldsMake = (w : World) (turns bound : ℕ) → IsTable w.cells.cells w.syms.head → IsOpening w.cells bound → w.counts ≡ counts_at_opening turns bound
     → CanMake (record w { cells = record w.cells { count = Some 0 }; counts = record w.counts { opening = None } })
+
+-- the first of several identifiers that has a name is one of them and has it, and where there is none no one has
+pub record NamesAreFound : Type 0 where
+  pub found : (cells : List Cell) (name : Name) (is : List ℕ) (i : ℕ) → named_among cells name is ≡ Some i → Among i is × (name_in_cells cells i ≡ name)
+  pub free : (cells : List Cell) (name : Name) (is : List ℕ) → named_among cells name is ≡ None → (k : ℕ) → Among k is → name_in_cells cells k ≢ name

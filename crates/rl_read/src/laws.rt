@@ -1,6 +1,6 @@
 //! Laws of reading in a world. A law is the contract of a function that does nothing.
 ghost use Rattle.rl_read.specs.ReadingKeepsCells.{ReadingKeepsCells};
-ghost use Rattle.rl_read.specs.Laws.{AreMakingLaws, MeansDatum, OpenedWorldsMake, PairsAreData, ReadsData, ReadsText};
+ghost use Rattle.rl_read.specs.Laws.{AreMakingLaws, MeansDatum, NamesAreFound, OpenedWorldsMake, PairsAreData, ReadsData, ReadsText};
 
 use rl_cells::laws::{objects_are_added, objects_are_changed};
 use rl_syms::laws::{
@@ -83,3 +83,8 @@ pub fn reading_keeps_cells()
 {
     related_makers_end_related::<Brand>();
 }
+
+/// The name that reading looks for among identifiers is found where one has it, and only there.
+pub fn names_are_found()
+    ensures { NamesAreFound }
+{}

@@ -1,7 +1,6 @@
 -- Expansions are begun and ended in the counts of a world as in those of the definition.
 use Rattle.std.proofs.Common.{◌≡◌, ◌↔◌, ℕ, zero, suc, ◌+◌, ◌-◌, ◌==◌, ◌<◌, Bool, true, false, cond, List, length, Option, Some, None, refl, sym, ap, subst, ◌∙◌, arith}
 use Rattle.std.specs.Prelude.{IsTrue, is_some}
-use Rattle.std.specs.Option.{ForSome}
 use Rattle.std.proofs.lemmas.Bool.{eqb-true}
 use Rattle.rl_tags.specs.Tagged.{Tagged}
 use Rattle.rl_syms.specs.Table.{is_id}
@@ -14,7 +13,7 @@ use Rattle.rl_world.specs.declared.counts.Expansion as expansion
 use Rattle.rl_world.specs.declared.world.World.{World}
 use Rattle.rl_meaning.specs.State.{State, Counts, Expansion}
 use Rattle.rl_meaning.specs.Evaluation.{closed_expansion, opened_expansion, with_expansion, without_expansion}
-use Rattle.rl_state.specs.ShownState.{ShowsState, cells_in, counts_in, expansion_in, given_in, number_in, turns_in}
+use Rattle.rl_state.specs.ShownState.{ShowsState, counts_in, expansion_in, number_in}
 use Rattle.rl_state.specs.Worlds.{AreWorldCounts, IsWorld, WorldGrows}
 use Rattle.rl_state.proofs.Made.{IsExpanding, unmarked}
 use Rattle.rl_state.proofs.Outer.{grows_counted, shows_counted}

@@ -1,9 +1,7 @@
 -- What reading makes in a stock is what the definition makes in a state that the world of the stock shows, operation by operation.
-use Rattle.std.proofs.Common.{◌≡◌, ◌≢◌, ℕ, ◌%◌, ◌≤◌, Bool, true, false, nat_le, cond, if◌then◌else◌, inl, inr, List, [], ◌∷◌, length, Option, Some, None, Ok, Err, refl, sym, ap, subst, ◌∙◌, arith, zero, suc, ◌+◌, ◌-◌, ◌/◌, ◌^◌, ◌<◌, map, ◌++◌}
+use Rattle.std.proofs.Common.{◌≡◌, ◌≢◌, ℕ, ◌%◌, ◌≤◌, Bool, true, false, nat_le, cond, if◌then◌else◌, List, [], ◌∷◌, length, Option, Some, None, Ok, Err, refl, sym, ap, subst, ◌∙◌, arith, zero, suc, ◌+◌, ◌-◌, ◌/◌, ◌^◌, ◌<◌, map, ◌++◌}
 use Rattle.std.specs.Prelude.{slice_index, unwrap_or}
 use Rattle.std.specs.List.{list_all}
-use Rattle.std.specs.Str.{bytes_eq}
-use Rattle.std.proofs.lemmas.Slice.Eq.{bytes_eq-Decides}
 use Rattle.rl_tags.specs.Tagged.{Tagged, Number, IdAt, StrAt, PairAt, VectorAt, BigAt, FunAt, tagged_of, index_of, tag_of}
 use Rattle.rl_tags.specs.declared.Tag.TheVariants as tag
 use Rattle.rl_tree.specs.Value.{Value, Int, Id, Ref, Str, Fun, Pair, Object, new_value, vector_store}
@@ -15,7 +13,7 @@ use Rattle.rl_syms.specs.Laws.{AreIdentifiers}
 use Rattle.rl_syms.specs.Made.{id_cost, new_id, new_words, with_id}
 use Rattle.rl_syms.specs.Opened.{IsBlank}
 use Rattle.rl_syms.specs.declared.table.Syms.{Syms}
-use Rattle.rl_syms.specs.Table.{Among, IsFree, IsLink, IsName, IsNamed, IsTable, held_in, ids_from, name_in_cells, nil_value, symbol_in_cells}
+use Rattle.rl_syms.specs.Table.{IsFree, IsLink, IsName, IsNamed, IsTable, held_in, ids_from, name_in_cells, nil_value, symbol_in_cells}
 use Rattle.rl_text.specs.Maker.{Made, Has, Wants}
 use Rattle.rl_text.specs.Word.{Atom, Integer, Identifier, String}
 use Rattle.rl_world.specs.Counts.{room_stop, roomed, tick_stop, ticked}
@@ -133,28 +131,6 @@ closed_entered laws s name link after t closed =
 
     blank : IsBlank (symbol_in_cells new place)
     blank = laws.naming.blank s name link
-
--- ---- names that are found
-
-by_test : (cells : List Cell) (name : Name) (j i : ℕ) (is : List ℕ) (b : Bool) → bytes_eq name (name_in_cells cells j) ≡ b → (if b then Some j else named_among cells name is) ≡ Some i → (named_among cells name is ≡ Some i → Among i is × (name_in_cells cells i ≡ name)) → Among i (j ∷ is) × (name_in_cells cells i ≡ name)
-by_test cells name j i is true e h rest =
-    let same : j ≡ i = cc in
-    (inl (sym same), ap (name_in_cells cells) (sym same) ∙ sym ((bytes_eq-Decides name (name_in_cells cells j)).0 e))
-by_test cells name j i is false e h rest = let found = rest h in (inr found.0, found.1)
-
-named_found : (cells : List Cell) (name : Name) (is : List ℕ) (i : ℕ) → named_among cells name is ≡ Some i → Among i is × (name_in_cells cells i ≡ name)
-named_found cells name [] i e = absurd cc
-named_found cells name (j ∷ is) i e = by_test cells name j i is (bytes_eq name (name_in_cells cells j)) refl e (λ f. named_found cells name is i f)
-
-past_test : (cells : List Cell) (name : Name) (j : ℕ) (is : List ℕ) (k : ℕ) (b : Bool) → bytes_eq name (name_in_cells cells j) ≡ b → (if b then Some j else named_among cells name is) ≡ None → Among k (j ∷ is) → name_in_cells cells k ≡ name → (named_among cells name is ≡ None → Among k is → ⊥) → ⊥
-past_test cells name j is k true e h a n rest = cc
-past_test cells name j is k false e h (inr a) n rest = rest h a
-past_test cells name j is k false e h (inl i) n rest =
-    let t : bytes_eq name (name_in_cells cells j) ≡ true = (bytes_eq-Decides name (name_in_cells cells j)).1 (sym n ∙ ap (name_in_cells cells) i) in cc
-
-named_free : (cells : List Cell) (name : Name) (is : List ℕ) → named_among cells name is ≡ None → (k : ℕ) → Among k is → name_in_cells cells k ≢ name
-named_free cells name [] e k a n = a
-named_free cells name (j ∷ is) e k a n = past_test cells name j is k (bytes_eq name (name_in_cells cells j)) refl e a n (λ f b. named_free cells name is f k b n)
 
 -- ---- what is made
 
@@ -301,12 +277,12 @@ module _ (w : World) (out : Outside) where
     name_makes_at : (from : Stock) (name : Name) (s : State) → StandsAs from s → 1 ≤ length name → length name ≤ 255 → (o : Option ℕ) → named_among from.cells.cells name (ids_from from.cells.cells from.head) ≡ o → MakesAs from IsShownAs (identifier_at o name from) (interned name s)
     name_makes_at from name s h some short (Some i) e =
         let cells = from.cells.cells in
-        let found = named_found cells name (ids_from cells from.head) i e in
+        let found = laws.found.found cells name (ids_from cells from.head) i e in
         let named : IsNamed cells from.head name (IdAt i) = record { interned = (refl, found.0); name_is = found.1 } in
         value_has IsShownAs from from (IdAt i) s _ h (found_means laws.numbered ids (stocked w from) name (IdAt i) h.world.table named s h.shows) (grows_refl _ _ refl h.world) h.closed refl
         (id_live cells (IdAt i) (ids cells from.head name (IdAt i) h.world.table named), refl)
     name_makes_at from name s h some short None e =
-        name_made_at from name s h some short (record { other = named_free from.cells.cells name (ids_from from.cells.cells from.head) e }) (room_stop from.counts from.cells (id_cost name)) refl
+        name_made_at from name s h some short (record { other = laws.found.free from.cells.cells name (ids_from from.cells.cells from.head) e }) (room_stop from.counts from.cells (id_cost name)) refl
 
     pub name_makes : (from : Stock) (name : Name) (s : State) → StandsAs from s → 1 ≤ length name → length name ≤ 255 → MakesAs from IsShownAs (identifier_made name from) (interned name s)
     name_makes from name s h some short = name_makes_at from name s h some short (named_among from.cells.cells name (ids_from from.cells.cells from.head)) refl

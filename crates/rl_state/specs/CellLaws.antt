@@ -3,6 +3,7 @@ use Rattle.rl_cells.specs.Laws.{IsAdded}
 use Rattle.rl_syms.specs.Laws.{ChangesMeaning, IsKept, IsRead, LeaveIdentifiers, MakesMeaning, NamesEnter}
 use Rattle.rl_syms.specs.Readings.{NamingMeans}
 use Rattle.rl_syms.specs.Numbers.{IdentifiersAreNumbered}
+use Rattle.rl_read.specs.Laws.{NamesAreFound}
 use Rattle.rl_world.specs.Bounds.{AreBoundsKept, RoomIsEnough}
 
 pub record AreCellLaws : Type 0 where
@@ -17,3 +18,4 @@ pub record AreCellLaws : Type 0 where
   pub added : IsAdded
   pub bounds : AreBoundsKept
   pub enough : RoomIsEnough
+  pub found : NamesAreFound

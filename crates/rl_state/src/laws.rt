@@ -8,6 +8,7 @@ ghost use Rattle.rl_state.specs.TiesLaws.{OutputGrows, RunsAreTied, TakingsCompo
 ghost use Rattle.rl_state.specs.CellLaws.{AreCellLaws};
 
 use rl_cells::laws::objects_are_added;
+use rl_read::laws::names_are_found;
 use rl_syms::laws::{
     identifiers_are_numbered, meaning_of_change, meaning_of_making, meaning_of_naming,
     meaning_of_reading, names_enter, others_leave_identifiers, table_is_kept,
@@ -30,6 +31,7 @@ pub(crate) fn cells_are_known()
     objects_are_added();
     bounds_are_kept();
     room_is_enough();
+    names_are_found();
 }
 
 /// A world determines a state but for what is beside it.
