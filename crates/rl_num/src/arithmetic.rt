@@ -129,6 +129,43 @@ pub fn remainder(c: &mut Cells, a: Val, b: Val) -> Result<Val, NumFault>
     make_exact(c, value(c, a).wrapping_rem(divisor))
 }
 
+/// `base` to the power `exponent`, or None exactly where that is outside 128 bits. A power with an exponent from 128 on is
+/// outside, or its base is 0, 1 or -1 and only whether the exponent is odd tells, so a lower exponent serves as well.
+fn raised(base: i128, exponent: i128) -> Option<i128>
+    requires { pos 0 ≤ℤ exponent }
+    ensures { SomeIff result (FitsSigned w128 (integer_power base exponent)) (integer_power base exponent) }
+{
+    let exponent = exponent.unsigned_abs();
+    if exponent < 128 {
+        base.checked_pow(exponent as u32)
+    } else {
+        base.checked_pow(128 + (exponent % 2) as u32)
+    }
+}
+
+/// `a` to the power `b`, where 0 to the power 0 is 1. `BadExponent` exactly where `b` is negative, and else the answers of
+/// `plus`.
+pub fn power(c: &mut Cells, a: Val, b: Val) -> Result<Val, NumFault>
+    requires left { IsTrue (is_integer_value c.old.cells a) }
+    requires right { IsTrue (is_integer_value c.old.cells b) }
+    ensures ok { IfOk result (λ v. IsMadeInteger c.old c.new (integer_power (integer_of c.old.cells a) (integer_of c.old.cells b)) v) }
+    ensures possible { OnOk result (power_fault c.old (integer_of c.old.cells a) (integer_of c.old.cells b) ≡ None) }
+    ensures fault { IfErr result (λ f. power_fault c.old (integer_of c.old.cells a) (integer_of c.old.cells b) ≡ Some f) }
+    ensures err { OnErr result (c.new ≡ c.old) }
+    ensures integer { IfOk result (λ v. IsTrue (is_integer_value c.new.cells v)) }
+    ensures value { IfOk result (λ v. integer_of c.new.cells v ≡ integer_power (integer_of c.old.cells a) (integer_of c.old.cells b)) }
+    ensures live { IfOk result (λ v. IsTrue (is_live c.new.cells v)) }
+{
+    let exponent = value(c, b);
+    if exponent < 0 {
+        return Err(NumFault::BadExponent);
+    }
+    match raised(value(c, a), exponent) {
+        Some(n) => make_exact(c, n),
+        None => Err(NumFault::Overflow),
+    }
+}
+
 /// Whether the first is less than the second.
 pub fn less(c: &Cells, a: Val, b: Val) -> bool
     requires left { IsTrue (is_integer_value c.now.cells a) }

@@ -4,5 +4,5 @@
 mod arithmetic;
 mod number;
 
-pub use arithmetic::{less, minus, plus, quotient, remainder, times};
+pub use arithmetic::{less, minus, plus, power, quotient, remainder, times};
 pub use number::{NumFault, decimal, make, value};
