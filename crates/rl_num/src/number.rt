@@ -1,4 +1,4 @@
-//! Integers of 128 bits: a small one is a word of its own, and one outside 60 bits stands in a cell.
+//! Integers as values: a small one is a word of its own, and one outside 60 bits stands in a cell.
 ghost use Rattle.std.specs.Prelude.{◌≡◌, ◌≤◌, ℕ, IsTrue, IfOk, IfErr, OnErr, take, slice_index};
 ghost use Rattle.std.specs.Fmt.{signed_decimal};
 ghost use Rattle.rl_cells.specs.Cell.{is_live};
@@ -18,7 +18,7 @@ const SMALLEST: i128 = -576_460_752_303_423_488;
 /// Why an operation gives no integer.
 #[derive(Clone, Copy, Debug, PartialEq, Eq)]
 pub enum NumFault {
-    /// The true result is out of the range of 128 bits.
+    /// The exact result is out of range.
     Overflow,
     /// The divisor is 0.
     ZeroDivisor,
