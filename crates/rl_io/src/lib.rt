@@ -10,8 +10,6 @@ mod real;
 mod sinks;
 mod sources;
 mod store;
-#[cfg(test)]
-mod tests;
 mod traits;
 
 pub use errors::{Failed, OutOfMemory};

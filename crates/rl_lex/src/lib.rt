@@ -8,8 +8,6 @@ mod mark;
 mod nest;
 mod next;
 mod spelling;
-#[cfg(test)]
-mod tests;
 mod word;
 
 pub use gap::gap_end;

@@ -181,9 +181,6 @@ pub use names::native_of;
 pub use names::opening_id;
 pub use names::opening_name;
 
-#[cfg(test)]
-mod tests;
-
 /// The kinds of values, numbered 0 to 6 in the low four bits of a word.
 #[derive(Clone, Copy, Debug, PartialEq, Eq)]
 pub enum Tag {

@@ -9,6 +9,3 @@ mod trees;
 pub use held::{HeldTree, Kept, Kind, Names, VarKind};
 pub use nodes::{Node, Text};
 pub use trees::{Tree, TreeBuilder};
-
-#[cfg(test)]
-mod tests;

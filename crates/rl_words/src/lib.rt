@@ -7,9 +7,6 @@ use rl_io::OutOfMemory;
 use std::alloc::Global;
 use std::marker::Model;
 
-#[cfg(test)]
-mod tests;
-
 /// Words of memory, at most 2^40 of them. A contract sees their list.
 #[derive(Drop)]
 pub struct Words {

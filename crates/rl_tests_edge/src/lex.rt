@@ -1,5 +1,5 @@
 //! Whole texts as their tokens: tables of texts and of what is said of them.
-use crate::{
+use rl_lex::{
     KindWord, ModeWord, Nest, Next, Operator, Separator, Token, TokenKind, Way, Worded, next_token,
 };
 use std::test::Fail;

@@ -1,6 +1,7 @@
+//! Tagged words and the identifiers of opening.
 ghost use Rattle.std.specs.Prelude.{◌≡◌, ◌↔◌, IsTrue};
 
-use crate::{
+use rl_tags::{
     CADDR, CDDDDR, COND, CONS, DOLLAR_B, EMSG_STAR, EVAL, GENSYM, LINELENGTH, NIL, OPENING_NAMES,
     PUTV, QUOTE, T, Tag, Val, native_of, opening_id, opening_name,
 };

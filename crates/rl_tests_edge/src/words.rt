@@ -1,4 +1,6 @@
-use crate::Words;
+//! A fixed number of words.
+
+use rl_words::Words;
 use std::test::Fail;
 
 #[test]

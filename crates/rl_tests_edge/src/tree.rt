@@ -1,6 +1,8 @@
-use crate::{HeldTree, Kept, Kind, Names, Node, Text, TreeBuilder, VarKind};
+//! Owned trees: built, refused and copied.
+
 use rl_io::OutOfMemory;
 use rl_tags::{Tag, Val};
+use rl_tree::{HeldTree, Kept, Kind, Names, Node, Text, TreeBuilder, VarKind};
 use std::alloc::Global;
 use std::test::Fail;
 

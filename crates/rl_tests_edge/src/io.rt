@@ -1,5 +1,5 @@
 //! Each object once on its happy path, with calls that are told to fail and with a room that is passed.
-use crate::{
+use rl_io::{
     DirFiles, Failed, FileRead, Files, Io, MemFiles, MemSink, MemSource, NullSink, OutOfMemory,
     Sink, Source, StdSink, StdSource, SureSource,
 };

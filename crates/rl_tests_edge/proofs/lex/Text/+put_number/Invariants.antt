@@ -1,4 +1,4 @@
-use Rattle.rl_lex.proofs.tests.Text.+put_number.Given as goal
+use Rattle.rl_tests_edge.proofs.lex.Text.+put_number.Given as goal
 
 abbrev pub decreases-put_number : goal.decreases-put_number
 decreases-put_number l = l.n
