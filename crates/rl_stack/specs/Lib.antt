@@ -1,0 +1,4 @@
+pub mod StackState
+pub mod StackLayout
+pub mod ShowsStack
+pub mod StackLaws

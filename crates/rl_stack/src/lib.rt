@@ -1,0 +1,9 @@
+//! The stack of a run: frames, bindings and registers.
+#![tactic(auto)]
+
+pub mod laws;
+mod saved;
+mod stack;
+mod steps;
+
+pub use stack::Stack;
