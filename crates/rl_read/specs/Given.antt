@@ -1,5 +1,5 @@
 -- What a text gives, and the turns that its bytes take.
-use Rattle.std.specs.Prelude.{◌≡◌, ℕ, ◌-◌, ◌==◌, Bool, true, false, List, [], ◌∷◌, length, drop, Option, Some, None}
+use Rattle.std.specs.Prelude.{◌≡◌, ℕ, ◌-◌, ◌==◌, Bool, true, false, List, [], ◌∷◌, ◌++◌, length, drop, Option, Some, None}
 use Rattle.rl_world.specs.Counts.{tick_stop, ticked}
 use Rattle.rl_world.specs.Input.{with_back}
 use Rattle.rl_world.specs.declared.world.World.{World}
@@ -59,3 +59,7 @@ WantsTurn false before now old new s = ⊥
 abbrev pub HasGiven : (ℕ → Type 0) → Option ℕ → Type 0
 HasGiven may None = Unit {0}
 HasGiven may (Some b) = may b
+
+-- a front of it is left
+abbrev pub FrontIsLeft : List ℕ → List ℕ → Type 0
+FrontIsLeft before now = (lost : List ℕ) × (before ≡ now ++ lost)

@@ -7,7 +7,7 @@ ghost use Rattle.rl_world.specs.Input.{Gives, Input, with_back};
 ghost use Rattle.rl_world.specs.Counts.{tick_stop, ticked};
 ghost use Rattle.rl_world.specs.declared.stop.Stop.{Stop};
 ghost use Rattle.rl_world.specs.declared.stop.Stop.TheVariants as stop;
-ghost use Rattle.rl_read.specs.Given.{HasGiven, IsGiven, WantsTurn, is_fault, unread_slice};
+ghost use Rattle.rl_read.specs.Given.{FrontIsLeft, HasGiven, IsGiven, WantsTurn, is_fault, unread_slice};
 ghost use Rattle.rl_read.specs.Taken.{TakesBytes, Unread};
 
 use rl_io::{Files, Io, Sink, Source};
@@ -46,7 +46,7 @@ pub trait Bytes {
     /// This byte may be put back.
     ghost may_put: { Self → Input → ℕ → Type 0 };
 
-    /// The next byte; None exactly where none is left. It takes a turn, where bytes take turns. After a stop the counts are as before.
+    /// The next byte; None exactly where none is left. It takes a turn, where bytes take turns. After a stop the counts are as before, and after a failed write a front of what is printed is left.
     fn next(&mut self, w: &mut World) -> Result<Option<u8>, Stop>
         ensures gives { IfOk result (λ b. TakesBytes (unread self.old w.old.input) (unread self.new w.new.input) (λ before now. Gives before now b)) }
         ensures turn { IfOk result (λ b. IsGiven (takes_turns self.old) w.old w.new b) }
@@ -54,6 +54,7 @@ pub trait Bytes {
         ensures lower { IfOk result (λ b. IsSome b → takes_turns self.old ≡ false → number self.new w.new.input < number self.old w.old.input) }
         ensures put { IfOk result (λ b. HasGiven (may_put self.new w.new.input) b) }
         ensures printed { result ≢ Err stop.Write → WhereTold (printed self.old w.old.output.waiting) (printed self.new w.new.output.waiting) (λ before now. now ≡ before) }
+        ensures cut { result ≡ Err stop.Write → WhereTold (printed self.old w.old.output.waiting) (printed self.new w.new.output.waiting) FrontIsLeft }
         ensures read_failed { result ≡ Err stop.Read → Rose (reads self.old) (reads self.new) }
         ensures write_failed { result ≡ Err stop.Write → Rose (writes self.old) (writes self.new) }
         ensures steady_reads { result ≢ Err stop.Read → reads self.new ≡ reads self.old }

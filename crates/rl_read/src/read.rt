@@ -8,7 +8,7 @@ ghost use Rattle.rl_text.specs.Reader.{NoneLeft, Read, Refused, Stopped, read_by
 ghost use Rattle.rl_world.specs.declared.stop.Stop.{Stop};
 ghost use Rattle.rl_world.specs.declared.stop.Stop.TheVariants as stop;
 ghost use Rattle.rl_read.specs.Taken.{TakesBytes};
-ghost use Rattle.rl_read.specs.Given.{is_counted, is_fault};
+ghost use Rattle.rl_read.specs.Given.{FrontIsLeft, is_counted, is_fault};
 ghost use Rattle.rl_read.specs.Stock.{Stock, in_stock, stock_of};
 ghost use Rattle.rl_read.specs.Frames.{CanMake, IsReading, IsReadyToRead, frames_in};
 ghost use Rattle.rl_read.specs.Steps.{IsMode, may_end, mode_of, word_atom};
@@ -54,6 +54,7 @@ pub fn read_form<T: Bytes>(w: &mut World, text: &mut T) -> Result<Val, ReadFault
     ensures stop { (s : Stop) → result ≡ Err (fault.Stop s) → is_fault s ≡ false → TakesBytes (T.unread text.old w.old.input) (T.unread text.new w.new.input) (λ before now. IsStoppedText (T.takes_turns text.old) w.old w.new before now s) }
     ensures counted { (s : Stop) → result ≡ Err (fault.Stop s) → is_fault s ≡ false → is_counted s ≡ true }
     ensures printed { result ≢ Err (fault.Stop stop.Write) → WhereTold (T.printed text.old w.old.output.waiting) (T.printed text.new w.new.output.waiting) (λ before now. now ≡ before) }
+    ensures cut { result ≡ Err (fault.Stop stop.Write) → WhereTold (T.printed text.old w.old.output.waiting) (T.printed text.new w.new.output.waiting) FrontIsLeft }
     ensures read_failed { result ≡ Err (fault.Stop stop.Read) → Rose (T.reads text.old) (T.reads text.new) }
     ensures write_failed { result ≡ Err (fault.Stop stop.Write) → Rose (T.writes text.old) (T.writes text.new) }
     ensures steady_reads { result ≢ Err (fault.Stop stop.Read) → T.reads text.new ≡ T.reads text.old }

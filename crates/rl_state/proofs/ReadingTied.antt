@@ -1,5 +1,5 @@
 -- The world behind a form that was read shows the state with the input behind it.
-use Rattle.std.proofs.Common.{◌≡◌, ◌≢◌, ℕ, ◌+◌, ◌-◌, ◌^◌, ◌<◌, ◌≤◌, true, false, List, [], ◌∷◌, ◌++◌, length, min, Option, Some, None, refl, sym, ap, subst, ◌∙◌, arith}
+use Rattle.std.proofs.Common.{◌≡◌, ◌≢◌, ℕ, ◌+◌, ◌-◌, ◌^◌, ◌<◌, ◌≤◌, true, false, List, [], ◌∷◌, ◌++◌, length, min, Option, Some, None, refl, sym, ap, subst, ◌∙◌, arith, append_assoc, append-nil}
 use Rattle.std.proofs.lemmas.List.{length-append, length-drop}
 use Rattle.std.specs.Prelude.{option_map, Result, Err}
 use Rattle.rl_io.specs.Told.{WhereTold}
@@ -18,7 +18,7 @@ use Rattle.rl_meaning.specs.Input.{End, Form, Unreadable, with_input}
 use Rattle.rl_meaning.specs.Outcome as outcome
 use Rattle.rl_meaning.specs.State.{Outside, State}
 use Rattle.rl_read.specs.Stock.{Stock, in_stock, stock_of}
-use Rattle.rl_read.specs.Given.{is_fault}
+use Rattle.rl_read.specs.Given.{FrontIsLeft, is_fault}
 use Rattle.rl_read.specs.declared.read.ReadFault.{ReadFault}
 use Rattle.rl_read.specs.declared.read.ReadFault.TheVariants as fault
 use Rattle.rl_read.specs.Reads.{IsRefusedText, IsStoppedText}
@@ -26,14 +26,14 @@ use Rattle.rl_read.specs.Frames.{CanMake}
 use Rattle.rl_world.specs.Bounds.{IsMakingCounted}
 use Rattle.rl_read.specs.Taken.{TakesBytes, Unread, came_of}
 use Rattle.rl_state.specs.ShownState.{ShowsState}
-use Rattle.rl_state.specs.Ties.{IsPrintedBefore, TakesInput, Ties, ToldAtStart, and_told}
+use Rattle.rl_state.specs.Ties.{IsPrintedBefore, IsPrintedInPart, LeavesFronts, TakesInput, Ties, ToldAtStart, and_told}
 use Rattle.rl_state.specs.CellLaws.{AreCellLaws}
 use Rattle.rl_state.specs.Descents.{levels_shown}
 use Rattle.rl_state.specs.Ending.{stop_in}
 use Rattle.rl_state.specs.ReadsAs.{ReadsNone, ReadsTo, ReadsUntil}
 use Rattle.rl_state.specs.Worlds.{IsWorld}
 use Rattle.rl_state.proofs.ReadingEnds.{form_read, none_read, refused_read, stop_read}
-use Rattle.rl_state.proofs.ToldOn.{told_through}
+use Rattle.rl_state.proofs.ToldOn.{out_kept_cut, told_mapped, told_through}
 use Rattle.rl_state.proofs.Outer.{shows_outer}
 use Rattle.rl_state.proofs.StockShown.{stocked}
 
@@ -255,3 +255,32 @@ not_written r why e counted f =
     let same : why ≡ stop.Write = cc in
     let clash : true ≡ false = subst (λ (s : stops.Stop). is_fault s ≡ false) same counted in
     cc
+
+-- ---- a read or a write failed
+
+all_left : (a b : Option (List ℕ)) → WhereTold a b (λ before now. now ≡ before) → WhereTold a b FrontIsLeft
+all_left a b h = told_mapped a b (λ before now. now ≡ before) FrontIsLeft (λ x y e. ([], sym e ∙ sym (append-nil y))) h
+
+-- a front of what was printed is left, whichever it was
+pub fault_leaves : (a b : Option (List ℕ)) (r : Result Tagged ReadFault) (why : stops.Stop) → r ≡ Err (fault.Stop why) → (r ≢ Err (fault.Stop stop.Write) → WhereTold a b (λ before now. now ≡ before)) → (r ≡ Err (fault.Stop stop.Write) → WhereTold a b FrontIsLeft) → WhereTold a b FrontIsLeft
+fault_leaves a b r stop.Write e printed cut = cut e
+fault_leaves a b r stop.Read e printed cut = all_left a b (printed (λ f. cc))
+fault_leaves a b r stop.Turns e printed cut = all_left a b (printed (λ f. cc))
+fault_leaves a b r stop.Cells e printed cut = all_left a b (printed (λ f. cc))
+fault_leaves a b r stop.Depth e printed cut = all_left a b (printed (λ f. cc))
+fault_leaves a b r (stop.Expansion name) e printed cut = all_left a b (printed (λ f. cc))
+fault_leaves a b r stop.Files e printed cut = all_left a b (printed (λ f. cc))
+fault_leaves a b r stop.Missing e printed cut = all_left a b (printed (λ f. cc))
+
+front_in_part : (start o p : Option (List ℕ)) (waited waiting output : List ℕ) → IsPrintedBefore start o waited output → WhereTold (option_map (λ b. b ++ waited) o) (option_map (λ b. b ++ waiting) p) FrontIsLeft → IsPrintedInPart start p output
+front_in_part None o p waited waiting output h f = tt
+front_in_part (Some a) None p waited waiting output h f = absurd h
+front_in_part (Some a) (Some b) None waited waiting output h f = absurd f
+front_in_part (Some a) (Some b) (Some c) waited waiting output h f = (waiting ++ f.0, h ∙ f.1 ∙ append_assoc c waiting f.0)
+
+pub fault_cuts : (at : ToldAtStart) (w x : World) (o p n q i j : Option (List ℕ)) (coming : List ℕ) (s : State) → q ≡ n → WhereTold (option_map (λ b. b ++ w.output.waiting) o) (option_map (λ b. b ++ x.output.waiting) p) FrontIsLeft
+    → Ties at (and_told w o n i) coming s → LeavesFronts at (and_told x p q j) s
+fault_cuts at w x o p n q i j coming s same left h = record {
+  output = front_in_part at.out o p w.output.waiting x.output.waiting s.outside.output h.output left;
+  notes = out_kept_cut at.notes n q w.notes s.outside.notes same h.notes;
+}

@@ -1,5 +1,5 @@
 //! Reading, in the words of the definition.
-ghost use Rattle.std.specs.Prelude.{[], ◌≡◌, ◌≢◌, ℕ, Err, IfOk, IsTrue, false};
+ghost use Rattle.std.specs.Prelude.{[], ◌≡◌, ◌≢◌, ℕ, Err, IfOk, IsTrue, List, false, true};
 ghost use Rattle.rl_io.specs.Faults.{Rose};
 ghost use Rattle.rl_cells.specs.Cell.{is_live};
 ghost use Rattle.rl_syms.specs.Contents.{value_of};
@@ -14,7 +14,8 @@ ghost use Rattle.rl_read.specs.declared.read.ReadFault.TheVariants as fault;
 ghost use Rattle.rl_state.specs.Descents.{levels_shown};
 ghost use Rattle.rl_state.specs.Ending.{stop_in};
 ghost use Rattle.rl_state.specs.ReadsAs.{KeepsNotesAndFiles, ReadsNone, ReadsTo, ReadsUntil};
-ghost use Rattle.rl_state.specs.Ties.{TakesInput, told_in};
+ghost use Rattle.rl_meaning.specs.State.{State};
+ghost use Rattle.rl_state.specs.Ties.{LeavesFronts, TakesInput, Ties, ToldAtStart, told_in};
 ghost use Rattle.rl_state.specs.Worlds.{IsWorld, WorldGrows};
 
 use crate::laws::cells_are_known;
@@ -38,6 +39,7 @@ pub fn read<I: Source, O: Sink, N: Sink, F: Files>(
     ensures end { result ≡ Err fault.End → TakesInput (told_in O.contents N.contents I.left w.old io.old) (told_in O.contents N.contents I.left w.new io.new) (λ at rest s. ReadsTo (levels_shown w.old) End [] (told_in O.contents N.contents I.left w.new io.new) at rest s) }
     ensures syntax { (k : ℕ) → result ≡ Err (fault.Syntax k) → TakesInput (told_in O.contents N.contents I.left w.old io.old) (told_in O.contents N.contents I.left w.new io.new) (λ at rest s. ReadsNone (levels_shown w.old) k (with_back w.new.input.back rest) (told_in O.contents N.contents I.left w.new io.new) at rest s) }
     ensures stop { (why : Stop) → result ≡ Err (fault.Stop why) → is_fault why ≡ false → TakesInput (told_in O.contents N.contents I.left w.old io.old) (told_in O.contents N.contents I.left w.new io.new) (λ at rest s. ReadsUntil (levels_shown w.old) (stop_in w.new.cells.cells why) (told_in O.contents N.contents I.left w.new io.new) at s) }
+    ensures cut { (why : Stop) → result ≡ Err (fault.Stop why) → is_fault why ≡ true → (at : ToldAtStart) (coming : List ℕ) (s : State) → Ties at (told_in O.contents N.contents I.left w.old io.old) coming s → LeavesFronts at (told_in O.contents N.contents I.left w.new io.new) s }
     ensures read_failed { result ≡ Err (fault.Stop stop.Read) → Rose (I.faults io.old.input.now) (I.faults io.new.input.now) }
     ensures write_failed { result ≡ Err (fault.Stop stop.Write) → Rose (O.faults io.old.out.now) (O.faults io.new.out.now) }
     ensures steady_input { result ≢ Err (fault.Stop stop.Read) → I.faults io.new.input.now ≡ I.faults io.old.input.now }

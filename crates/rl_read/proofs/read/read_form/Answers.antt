@@ -13,7 +13,7 @@ use Rattle.rl_read.specs.Steps.{IsStep, step_of, mode_of}
 use Rattle.rl_read.specs.Reads.{IsRefusedText, IsStoppedText}
 use Rattle.rl_read.specs.ReadingKeepsCells.{LeavesWhatStood}
 use Rattle.rl_read.proofs.MakingStays.{steady_refl, steady_trans}
-use Rattle.rl_read.proofs.ToldByCalls.{told_first, told_same, told_waits}
+use Rattle.rl_read.proofs.ToldByCalls.{told_first, told_same, told_same_cut, told_waits}
 use Rattle.rl_read.proofs.ReadingKeeps.{keeps_refl, keeps_trans, keeps_given, keeps_back, keeps_levels, keeps_read, levels_back, steady_as, read_input, read_waiting, left_input, left_waiting}
 use Rattle.rl_read.proofs.MakingTakesNoTurn.{goes_left, measure_falls, turns_fall}
 use Rattle.rl_read.proofs.ByteByByte.{going_first, kept_first, ready_first, passed_able, passed_levels, passed_ready, passed_same, told_on, told_done, told_before, told_refused, told_halted, told_whole, told_none, told_end_refused, told_end_stopped, told_wants, wanted_is_counted, not_a_read, not_a_write, stop_same}
@@ -228,3 +228,9 @@ loop-b-preserved g c = let is = subst (λ x. IsStep c.walk_len-base.result c.rea
       keeps = (keeps_trans c.args.w.now c.next.new.w c.read_byte.new.w (keeps_trans c.args.w.now c.loop-b.w c.next.new.w c.loop-b.invariant.keeps (keeps_given c.loop-b.w c.next.new.w c.next.ensures.world)) (keeps_read c.walk_len-base.result c.next.new.w c.read_byte.new.w c.read_byte.ensures.reading));
       steady = (steady_trans c.walk_len-base.result c.args.w.now.levels c.next.new.w.levels c.read_byte.new.w.levels (steady_as c.walk_len-base.result c.args.w.now.levels c.loop-b.w c.next.new.w (sym (passed_levels c.loop-b.w c.next.new.w c.next.ensures.world)) c.loop-b.invariant.steady) c.read_byte.ensures.reading.steady);
     }
+
+pub returns-in-Err-clause-cut : goal.returns-in-Err-clause-cut
+returns-in-Err-clause-cut g c = λ failed. told_same_cut (g.T.Bytes.printed c.args.text.now c.args.w.now.output.waiting) (g.T.Bytes.printed c.loop-b.text c.loop-b.w.output.waiting) (g.T.Bytes.printed c.next.new.self c.next.new.w.output.waiting) c.loop-b.invariant.printed (c.in-Err.ensures.cut (cc))
+
+pub returns-in-Ok-None-clause-cut : goal.returns-in-Ok-None-clause-cut
+returns-in-Ok-None-clause-cut g c = λ failed. absurd (not_a_write stop.Write (c.at_end.ensures.counted stop.Write failed) refl)

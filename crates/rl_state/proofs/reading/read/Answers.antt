@@ -1,6 +1,6 @@
 use Rattle.std.proofs.Common.{ap}
 use Rattle.rl_state.proofs.ReadingGrows.{reading_grows}
-use Rattle.rl_state.proofs.ReadingTied.{can_make, end_takes, form_takes, not_written, refused_takes, stop_takes}
+use Rattle.rl_state.proofs.ReadingTied.{can_make, end_takes, fault_cuts, fault_leaves, form_takes, not_written, refused_takes, stop_takes}
 use Rattle.rl_state.proofs.reading.read.Goals as goal
 
 pub read_form-form-requires : goal.read_form-form-requires
@@ -41,3 +41,7 @@ returns-in-Ok-clause-grows g c = reading_grows c.cells_are_known.ensures c.args.
 
 pub returns-in-Err-clause-grows : goal.returns-in-Err-clause-grows
 returns-in-Err-clause-grows g c = reading_grows c.cells_are_known.ensures c.args.w.now c.read_form-form.new.w c.requires.world c.read_form-form.ensures.keeps c.read_form-form.ensures.able c.read_form-form.ensures.stands c.level.ensures.levels.within
+
+pub returns-in-Err-clause-cut : goal.returns-in-Err-clause-cut
+returns-in-Err-clause-cut g c why e fault at coming s ties =
+    fault_cuts at c.args.w.now c.read_form-form.new.w _ _ _ _ _ _ coming s (ap (λ k. g.N.Sink.contents k.2.now) c.in-Err.ensures.kept) (fault_leaves _ _ _ why e c.in-Err.ensures.printed c.in-Err.ensures.cut) ties

@@ -4,6 +4,7 @@ use Rattle.rl_world.specs.declared.world.World.{World}
 use Rattle.rl_world.specs.Counts.{WorldCounts, tick_stop}
 use Rattle.rl_read.specs.Taken.{TakesBytes}
 use Rattle.rl_read.proofs.InputTakes.{input_takes, takes_some, unread_input}
+use Rattle.rl_read.proofs.ToldByCalls.{told_cut}
 use Rattle.rl_read.proofs.bytes.IoBytes.next.Goals as goal
 use Rattle.rl_read.proofs.bytes.IoBytes.next.Goals.{then-is_some+in_default, else-is_some}
 
@@ -35,3 +36,6 @@ returns-in-Err-clause-err g c = ap (λ (x : World). x.counts) c.input_byte.ensur
 
 pub returns-in-Err-tick-clause-err : goal.returns-in-Err-tick-clause-err
 returns-in-Err-tick-clause-err g c = ap (λ (x : World). x.counts) c.in-Err-tick.ensures.err ∙ ap (λ (x : World). x.counts) c.input_byte.ensures.world
+
+pub returns-in-Err-clause-cut : goal.returns-in-Err-clause-cut
+returns-in-Err-clause-cut g c failed = told_cut (g.O.Sink.contents c.args.self.now.out.now) (g.O.Sink.contents c.input_byte.new.io.out.now) c.args.w.now.output.waiting c.input_byte.new.self.output.waiting (ap (λ (x : World). x.output.waiting) c.input_byte.ensures.world) c.input_byte.ensures.printed_front
