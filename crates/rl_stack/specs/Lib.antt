@@ -2,3 +2,4 @@ pub mod StackState
 pub mod StackLayout
 pub mod ShowsStack
 pub mod StackLaws
+pub mod Saving

@@ -1,6 +1,7 @@
 //! The stack of a run: frames, bindings and registers.
 #![tactic(auto)]
 
+mod bindings;
 pub mod laws;
 mod saved;
 mod stack;
