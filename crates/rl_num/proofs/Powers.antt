@@ -10,7 +10,7 @@ use Rattle.rl_num.specs.Arithmetic.{integer_power, is_representable, range_bits}
 zero_power : (n : ℕ) → 0 ^ suc n ≡ 0
 zero_power n = omega (arith, pow-suc 0 n)
 
-one_power : (n : ℕ) → 1 ^ n ≡ 1
+pub one_power : (n : ℕ) → 1 ^ n ≡ 1
 one_power zero = pow-zero 1
 one_power (suc n) = omega (arith, pow-suc 1 n, one_power n)
 
@@ -23,9 +23,9 @@ small_power (suc b) (suc n) small some =
     subst (λ x. x ≡ x ^ suc n) (sym one) (sym (one_power (suc n)))
 
 -- the size of a power
-sizes : (u : ℤ) (n : ℕ) → unsigned_abs (int_pow u n) ≡ unsigned_abs u ^ n
-sizes (pos a) n = refl
-sizes (negsuc a) n = by (n % 2 == 0) (suc a ^ n)
+pub size_of_power : (u : ℤ) (n : ℕ) → unsigned_abs (int_pow u n) ≡ unsigned_abs u ^ n
+size_of_power (pos a) n = refl
+size_of_power (negsuc a) n = by (n % 2 == 0) (suc a ^ n)
   where
     by : (t : Bool) (m : ℕ) → unsigned_abs (cond t (pos m) (neg_ℤ (pos m))) ≡ m
     by true m = refl
@@ -61,14 +61,14 @@ large_power_is_out : (u : ℤ) (n : ℕ) → 2 ≤ unsigned_abs u → 128 ≤ n 
 large_power_is_out u n large many f =
     let below = power_of_two_below u n large in
     let rises : 2 ^ 128 ≤ 2 ^ n = pow-le-pow_right (omega arith) many in
-    omega (arith, below, rises, sizes u n, size_within (int_pow u n) f)
+    omega (arith, below, rises, size_of_power u n, size_within (int_pow u n) f)
 
 -- and with an exponent above the bits of an integer it is out of range
 pub power_is_out_of_range : (u : ℤ) (n : ℕ) → 2 ≤ unsigned_abs u → range_bits < n → is_representable (int_pow u n) ≡ false
 power_is_out_of_range u n large many =
     let below = power_of_two_below u n large in
     let rises : 2 ^ suc range_bits ≤ 2 ^ n = pow-le-pow_right (omega arith) {i = suc range_bits} {j = n} (omega arith) in
-    out_by_size (int_pow u n) (unsigned_abs u ^ n) (sizes u n) (omega (arith, below, rises))
+    out_by_size (int_pow u n) (unsigned_abs u ^ n) (size_of_power u n) (omega (arith, below, rises))
 
 by_lower : (u : ℤ) (n k : ℕ) (r : Option ℤ) → 2 ≤ unsigned_abs u → 128 ≤ n → 128 ≤ k → SomeIff r (FitsSigned w128 (int_pow u k)) (int_pow u k) → SomeIff r (FitsSigned w128 (int_pow u n)) (int_pow u n)
 by_lower u n k None large many_n many_k is = large_power_is_out u n large many_n

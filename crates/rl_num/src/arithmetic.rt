@@ -52,7 +52,7 @@ pub fn plus(c: &mut Cells, a: Val, b: Val) -> Result<Val, NumFault>
     }
 }
 
-/// Their difference, with the answers of `plus`.
+/// The integer `a` less `b`. The faults are those of `plus`.
 pub fn minus(c: &mut Cells, a: Val, b: Val) -> Result<Val, NumFault>
     requires left { IsTrue (is_integer_value c.old.cells a) }
     requires right { IsTrue (is_integer_value c.old.cells b) }
@@ -70,7 +70,7 @@ pub fn minus(c: &mut Cells, a: Val, b: Val) -> Result<Val, NumFault>
     }
 }
 
-/// Their product, with the answers of `plus`.
+/// The product of two integers. The faults are those of `plus`.
 pub fn times(c: &mut Cells, a: Val, b: Val) -> Result<Val, NumFault>
     requires left { IsTrue (is_integer_value c.old.cells a) }
     requires right { IsTrue (is_integer_value c.old.cells b) }
@@ -88,7 +88,7 @@ pub fn times(c: &mut Cells, a: Val, b: Val) -> Result<Val, NumFault>
     }
 }
 
-/// Their quotient, toward 0. `ZeroDivisor` exactly where the divisor `b` is 0, and else the answers of `plus`.
+/// The quotient of `a` by `b`, taken toward 0. `ZeroDivisor` exactly where `b` is 0, and else the faults of `plus`.
 pub fn quotient(c: &mut Cells, a: Val, b: Val) -> Result<Val, NumFault>
     requires left { IsTrue (is_integer_value c.old.cells a) }
     requires right { IsTrue (is_integer_value c.old.cells b) }
@@ -110,7 +110,7 @@ pub fn quotient(c: &mut Cells, a: Val, b: Val) -> Result<Val, NumFault>
     }
 }
 
-/// What the quotient leaves of `a`: 0, or of the sign of `a`. The answers are those of `quotient`.
+/// What the quotient of `a` by `b` leaves: 0, or an integer of the sign of `a`. The faults are those of `quotient`.
 pub fn remainder(c: &mut Cells, a: Val, b: Val) -> Result<Val, NumFault>
     requires left { IsTrue (is_integer_value c.old.cells a) }
     requires right { IsTrue (is_integer_value c.old.cells b) }
@@ -143,7 +143,7 @@ fn raised(base: i128, exponent: i128) -> Option<i128>
     }
 }
 
-/// `a` to the power `b`, where 0 to the power 0 is 1. `BadExponent` exactly where `b` is negative, and else the answers of
+/// `a` to the power `b`, where 0 to the power 0 is 1. `BadExponent` exactly where `b` is negative, and else the faults of
 /// `plus`.
 pub fn power(c: &mut Cells, a: Val, b: Val) -> Result<Val, NumFault>
     requires left { IsTrue (is_integer_value c.old.cells a) }
@@ -166,7 +166,7 @@ pub fn power(c: &mut Cells, a: Val, b: Val) -> Result<Val, NumFault>
     }
 }
 
-/// Whether the first is less than the second.
+/// Whether the integer `a` is less than `b`.
 pub fn less(c: &Cells, a: Val, b: Val) -> bool
     requires left { IsTrue (is_integer_value c.now.cells a) }
     requires right { IsTrue (is_integer_value c.now.cells b) }
