@@ -30,31 +30,71 @@ fn a_sink_fails_at_its_first_write_and_past_its_room(rt: HostRuntime) -> Result<
     Ok(())
 }
 
+/// A call on a folder, and what it comes to.
+enum Call {
+    Put(&'static [u8], &'static [u8], bool),
+    Get(&'static [u8], Option<&'static [u8]>),
+    /// A read from an offset on into four bytes, which are 0, and these bytes then.
+    Read(&'static [u8], u64, Result<FileRead, Failed>, &'static [u8]),
+    Write(&'static [u8], &'static [u8], Result<(), Failed>),
+}
+
+/// Calls on a folder of 48 bytes whose third read or write fails.
+const CALLS: [Call; 16] = [
+    Call::Put(b"one", b"first", true),
+    Call::Put(b"two", b"", true),
+    Call::Put(b"one", b"0123456789", true),
+    Call::Put(b"one", b"01234567890", false),
+    Call::Put(b"three", b"", false),
+    Call::Get(b"one", Some(b"0123456789")),
+    Call::Get(b"two", Some(b"")),
+    Call::Get(b"three", None),
+    Call::Read(b"one", 8, Ok(FileRead::Piece(2)), b"89\0\0"),
+    Call::Write(b"two", b"abcd", Err(Failed)),
+    Call::Write(b"two", b"", Err(Failed)),
+    Call::Write(b"one", b"ab", Ok(())),
+    Call::Write(b"two", b"abcd", Ok(())),
+    Call::Read(b"one", 2, Ok(FileRead::End), b"\0\0\0\0"),
+    Call::Read(b"three", 0, Ok(FileRead::Missing), b"\0\0\0\0"),
+    Call::Get(b"two", Some(b"abcd")),
+];
+
+/// Whether a folder has this file, or none of that name.
+fn has(folder: &MemFiles, name: &[u8], want: Option<&[u8]>) -> bool {
+    match (folder.get(name), want) {
+        (Some(file), Some(bytes)) => file == bytes,
+        (None, None) => true,
+        _ => false,
+    }
+}
+
+fn comes_to(folder: &mut MemFiles, call: &Call) -> bool {
+    match call {
+        Call::Put(name, bytes, want) => folder.put(name, bytes) == *want,
+        Call::Get(name, want) => has(folder, name, *want),
+        Call::Read(name, offset, want, bytes) => {
+            let mut buf = [0u8; 4];
+            let answer = folder.read_at(name, *offset, &mut buf);
+            answer == *want && buf.as_slice() == *bytes
+        }
+        Call::Write(name, bytes, want) => folder.write(name, bytes) == *want,
+    }
+}
+
+/// The first call that comes to something else.
+fn first_wrong(folder: &mut MemFiles) -> Option<usize> {
+    for (i, call) in CALLS.iter().enumerate() {
+        if !comes_to(folder, call) {
+            return Some(i);
+        }
+    }
+    None
+}
+
 #[test]
 fn a_folder_keeps_the_last_file_of_each_name(rt: HostRuntime) -> Result<(), Fail> {
     let mut folder = MemFiles::new(rt.alloc(), 48, &[3])?;
-    assert!(rt; folder.put(b"one", b"first"));
-    assert!(rt; folder.put(b"two", b""));
-    assert!(rt; folder.put(b"one", b"0123456789"));
-    assert!(rt; !folder.put(b"one", b"01234567890"));
-    assert!(rt; !folder.put(b"three", b""));
-    assert_eq!(rt; folder.get(b"one").ok_or("one")?, b"0123456789".as_slice());
-    assert_eq!(rt; folder.get(b"two").ok_or("two")?.len(), 0);
-    assert!(rt; folder.get(b"three").is_none());
-
-    let mut buf = [0u8; 4];
-    assert_eq!(rt; folder.read_at(b"one", 8, &mut buf), Ok(FileRead::Piece(2)));
-    assert_eq!(rt; &buf[..2], b"89".as_slice());
-    assert_eq!(rt; folder.write(b"two", b"abcd"), Err(Failed));
-    assert_eq!(rt; folder.write(b"two", b""), Err(Failed));
-    assert_eq!(rt; folder.write(b"one", b"ab"), Ok(()));
-    assert_eq!(rt; folder.write(b"two", b"abcd"), Ok(()));
-    assert_eq!(rt; folder.read_at(b"one", 2, &mut buf), Ok(FileRead::End));
-    assert_eq!(rt;
-        folder.read_at(b"three", 0, &mut buf),
-        Ok(FileRead::Missing)
-    );
-    assert_eq!(rt; folder.get(b"two").ok_or("two")?, b"abcd".as_slice());
+    assert_eq!(rt; first_wrong(&mut folder), None);
     Ok(())
 }
 

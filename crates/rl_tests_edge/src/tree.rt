@@ -2,7 +2,7 @@
 
 use rl_io::OutOfMemory;
 use rl_tags::{Tag, Val};
-use rl_tree::{HeldTree, Kept, Kind, Names, Node, Text, TreeBuilder, VarKind};
+use rl_tree::{HeldTree, Kept, Kind, Names, Node, Text, Tree, TreeBuilder, VarKind};
 use std::alloc::Global;
 use std::test::Fail;
 
@@ -14,6 +14,40 @@ fn begun(alloc: Global) -> Result<TreeBuilder, OutOfMemory> {
     builder.push(Node::Vector(2))?;
     builder.push(Node::Id(Val::at(Tag::Id, 7)))?;
     Ok(builder)
+}
+
+/// `(1 . [x "ab"])`.
+fn whole(alloc: Global) -> Result<Tree, Fail> {
+    let mut builder = begun(alloc)?;
+    builder.push(Node::Str(Text::from_bytes(alloc, b"ab")?))?;
+    Ok(builder.finish().ok_or("no tree")?)
+}
+
+fn one_name(alloc: Global, id: Val) -> Result<Names, OutOfMemory> {
+    let mut names = Names::new(alloc);
+    names.push(id)?;
+    Ok(names)
+}
+
+fn one_fluid(alloc: Global, id: Val) -> Result<Kept, OutOfMemory> {
+    let mut kept = Kept::new(alloc);
+    kept.push(id, VarKind::Fluid)?;
+    Ok(kept)
+}
+
+/// A held form with one parameter, which is fluid.
+fn held(alloc: Global, id: Val) -> Result<HeldTree, Fail> {
+    let params = one_name(alloc, id)?;
+    let kept = one_fluid(alloc, id)?;
+    let body = whole(alloc)?;
+    Ok(HeldTree {
+        holder: Val::at(Tag::Fun, 9),
+        base: 4,
+        kind: Kind::Fexpr,
+        params,
+        body,
+        kept,
+    })
 }
 
 fn is_text(node: &Node, bytes: &[u8]) -> bool {
@@ -33,9 +67,7 @@ fn elements(node: &Node) -> u32 {
 
 #[test]
 fn builds_whole_tree(rt: HostRuntime) -> Result<(), Fail> {
-    let mut builder = begun(rt.alloc())?;
-    builder.push(Node::Str(Text::from_bytes(rt.alloc(), b"ab")?))?;
-    let tree = builder.finish().ok_or("no tree")?;
+    let tree = whole(rt.alloc())?;
     assert_eq!(rt; tree.nodes().len(), 5);
     assert_eq!(rt; elements(&tree.nodes()[2]), 2);
     assert!(rt; is_text(&tree.nodes()[4], b"ab"));
@@ -59,22 +91,8 @@ fn refuses_other_lists(rt: HostRuntime) -> Result<(), Fail> {
 #[test]
 fn copies_held_tree(rt: HostRuntime) -> Result<(), Fail> {
     let x = Val::at(Tag::Id, 7);
-    let mut params = Names::new(rt.alloc());
-    params.push(x)?;
-    let mut kept = Kept::new(rt.alloc());
-    kept.push(x, VarKind::Fluid)?;
-    let mut builder = begun(rt.alloc())?;
-    builder.push(Node::Str(Text::from_bytes(rt.alloc(), b"ab")?))?;
-    let held = HeldTree {
-        holder: Val::at(Tag::Fun, 9),
-        base: 4,
-        kind: Kind::Fexpr,
-        params,
-        body: builder.finish().ok_or("no tree")?,
-        kept,
-    };
-    let copy = held.copy(rt.alloc())?;
-    assert_eq!(rt; copy.holder, held.holder);
+    let copy = held(rt.alloc(), x)?.copy(rt.alloc())?;
+    assert_eq!(rt; copy.holder, Val::at(Tag::Fun, 9));
     assert_eq!(rt; copy.base, 4);
     assert_eq!(rt; copy.kind, Kind::Fexpr);
     assert_eq!(rt; copy.params.items(), [x].as_slice());
