@@ -152,7 +152,7 @@ ended_shows w x e i h s limits files input t c shown =
     let code = (started limits files input s).compilation in
     let q : Counts = record { given = limits.turns; turns = limits.turns; cells = limits.cells; expansion = None } in
     let is : q ≡ counts_in (ended_cells w.cells) k = ap (λ n. record { given = n; turns = n; cells = limits.cells; expansion = None }) t
-        ∙ ap (λ o. record { given = w.counts.bound; turns = w.counts.bound; cells = o; expansion = None }) c ∙ sym (counts_ended w.cells w.counts i.running h) in
+    ∙ ap (λ o. record { given = w.counts.bound; turns = w.counts.bound; cells = o; expansion = None }) c ∙ sym (counts_ended w.cells w.counts i.running h) in
     subst (λ y. ShowsState y (started limits files input s)) (sym e)
     (shows_outer (counted_as w (Some 0) k) w.levels w.output w.notes w.input (record s { counts = q; compilation = code }) (started limits files input s).outside s.watched shown.column shown.line_length shown.taken
     (shows_counted w (Some 0) k s q code is shown))
