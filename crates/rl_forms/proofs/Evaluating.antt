@@ -16,7 +16,7 @@ use Rattle.rl_world.specs.declared.world.World.{World}
 use Rattle.rl_print.specs.Laws.{PiecesGoOn}
 use Rattle.rl_forms.specs.BuiltForms.{line_length, prin1_name, prin2_name, Valued, is_built, evaluated, printed_on_page, with_end_of_line}
 use Rattle.rl_forms.specs.KnownData.{IsKnown, IsRunning, KeepsKnown, datum_in}
-use Rattle.rl_forms.specs.Pages.{page_in, Told, PrintsOnPage, IsFrontOfPage, HaltsPage, CutsPage, KeepsObjects}
+use Rattle.rl_forms.specs.Pages.{page_in, PageOfText, PrintsOnPage, IsFrontOfPage, HaltsPage, CutsPage, KeepsObjects}
 use Rattle.rl_forms.specs.Tasks.{Step, Evaluate, Cons, Print, EndLine, page_finished, Stacks, step_in, steps_of, page_at_end, KnowsTask, AreKnown, IsNewest, with_task, stacks_with_value}
 use Rattle.rl_forms.specs.declared.evaluator.Task.{Task}
 use Rattle.rl_forms.specs.declared.evaluator.Task.TheVariants as task
@@ -115,7 +115,7 @@ nothing_follows None waited waiting e = tt
 nothing_follows (Some now) waited waiting e = (0, sym (append-nil now), e ∙ sym (append-nil waited))
 
 -- nothing is printed
-pub quiet : (told : Option (List ℕ)) (waited waiting : List ℕ) (old new : Told) → waiting ≡ waited → ((text : List ℕ) → old text ≡ new text) → PrintsOnPage told told waited waiting old new
+pub quiet : (told : Option (List ℕ)) (waited waiting : List ℕ) (old new : PageOfText) → waiting ≡ waited → ((text : List ℕ) → old text ≡ new text) → PrintsOnPage told told waited waiting old new
 quiet told waited waiting old new e same = record {
   bytes = [];
   follows = nothing_follows told waited waiting e;
@@ -135,26 +135,26 @@ quiet_halts told w k waiting e = record { bytes = []; follows = nothing_follows 
 
 -- ---- one after another
 
-pub prints_trans : PiecesGoOn → (a b c : Option (List ℕ)) (x y z : List ℕ) (one two three : Told) → PrintsOnPage a b x y one two → PrintsOnPage b c y z two three → PrintsOnPage a c x z one three
+pub prints_trans : PiecesGoOn → (a b c : Option (List ℕ)) (x y z : List ℕ) (one two three : PageOfText) → PrintsOnPage a b x y one two → PrintsOnPage b c y z two three → PrintsOnPage a c x z one three
 prints_trans law a b c x y z one two three p q = record {
   bytes = p.bytes ++ q.bytes;
   follows = law.follows a b c x y z p.bytes q.bytes p.follows q.follows;
   means = λ text. p.means text ∙ (q.means (text ++ p.bytes) ∙ ap three (append_assoc text p.bytes q.bytes));
 }
 
-front_behind : (one two : Told) (first bytes : List ℕ) → ((text : List ℕ) → one text ≡ two (text ++ first)) → IsFrontOfPage two bytes → IsFrontOfPage one (first ++ bytes)
+front_behind : (one two : PageOfText) (first bytes : List ℕ) → ((text : List ℕ) → one text ≡ two (text ++ first)) → IsFrontOfPage two bytes → IsFrontOfPage one (first ++ bytes)
 front_behind one two first bytes same h = record {
   more = λ text. rw (same text, ← append_assoc text first bytes) (h.more (text ++ first));
 }
 
-pub halts_behind : PiecesGoOn → (a b c : Option (List ℕ)) (x y z : List ℕ) (one two : Told) → PrintsOnPage a b x y one two → HaltsPage b c y z two → HaltsPage a c x z one
+pub halts_behind : PiecesGoOn → (a b c : Option (List ℕ)) (x y z : List ℕ) (one two : PageOfText) → PrintsOnPage a b x y one two → HaltsPage b c y z two → HaltsPage a c x z one
 halts_behind law a b c x y z one two p h = record {
   bytes = p.bytes ++ h.bytes;
   follows = law.follows a b c x y z p.bytes h.bytes p.follows h.follows;
   front = front_behind one two p.bytes h.bytes p.means h.front;
 }
 
-pub cut_behind : PiecesGoOn → (a b c : Option (List ℕ)) (x y : List ℕ) (one two : Told) → PrintsOnPage a b x y one two → CutsPage b c y two → CutsPage a c x one
+pub cut_behind : PiecesGoOn → (a b c : Option (List ℕ)) (x y : List ℕ) (one two : PageOfText) → PrintsOnPage a b x y one two → CutsPage b c y two → CutsPage a c x one
 cut_behind law a b c x y one two p h = record {
   bytes = p.bytes ++ h.bytes;
   cut = law.cut a b c x y p.bytes h.bytes p.follows h.cut;

@@ -18,7 +18,7 @@ use Rattle.rl_forms.specs.KnownData.{IsKnown, IsRunning, KeepsKnown, StandsForDa
 use Rattle.rl_forms.specs.SeenForms.{IsConstant, call, cons_call, terpri_call, printer_name, pairs_of_datum, are_built}
 use Rattle.rl_forms.specs.declared.forms.Printer.{Printer}
 use Rattle.rl_forms.specs.declared.forms.Printer.TheVariants as printer
-use Rattle.rl_forms.specs.Pages.{page_in, Told, PrintsOnPage, HaltsPage, CutsPage, KeepsObjects}
+use Rattle.rl_forms.specs.Pages.{page_in, PageOfText, PrintsOnPage, HaltsPage, CutsPage, KeepsObjects}
 use Rattle.rl_forms.specs.Tasks.{Step, Evaluate, Cons, EndLine, page_finished, Stacks, steps_of, page_at_end, AreKnown, tasks_weight, IsFurther, IsNewest, IsStuck, with_task, stacks_with_value, with_print, page_of_forms, tasks_begun}
 use Rattle.rl_forms.specs.declared.evaluator.Task.TheVariants as task
 use Rattle.rl_forms.proofs.Evaluating.{quiet, quiet_halts, prints_trans, halts_behind, cut_behind, then_prints, then_front, finished_adds, known_task, known_value, without_task, without_value, newest_task, kept_known, kept_steps, kept_values, objects_keep}
@@ -250,20 +250,20 @@ newest_of items k e = rw (← reverse-reverse items) (go (reverse items) e)
 
 -- ---- from the first form to the last
 
-pub all_done : (a b : Option (List ℕ)) (x y : List ℕ) (one : Told) (w : World) (k : Stacks) → PrintsOnPage a b x y one (page_at_end w k) → k.tasks ≡ [] → PrintsOnPage a b x y one (λ text. Some (page_in w text))
+pub all_done : (a b : Option (List ℕ)) (x y : List ℕ) (one : PageOfText) (w : World) (k : Stacks) → PrintsOnPage a b x y one (page_at_end w k) → k.tasks ≡ [] → PrintsOnPage a b x y one (λ text. Some (page_in w text))
 all_done a b x y one w k p e = record {
   bytes = p.bytes;
   follows = p.follows;
   means = λ text. p.means text ∙ ap (λ tasks. page_finished (steps_of w (record { tasks = tasks; values = k.values })) (map (datum_in w) k.values) (page_in w (text ++ p.bytes))) e;
 }
 
-pub further_prints : PiecesGoOn → (a b c : Option (List ℕ)) (x : List ℕ) (one : Told) (w v : World) (k l m : Stacks) → k ≡ l → PrintsOnPage a b x w.output.waiting one (page_at_end w k) → IsFurther b c w l v m → PrintsOnPage a c x v.output.waiting one (page_at_end v m)
+pub further_prints : PiecesGoOn → (a b c : Option (List ℕ)) (x : List ℕ) (one : PageOfText) (w v : World) (k l m : Stacks) → k ≡ l → PrintsOnPage a b x w.output.waiting one (page_at_end w k) → IsFurther b c w l v m → PrintsOnPage a c x v.output.waiting one (page_at_end v m)
 further_prints law a b c x one w v k l m e p q = prints_trans law a b c x w.output.waiting v.output.waiting one (page_at_end w k) (page_at_end v m) p (rw e q.prints)
 
-pub further_halts : PiecesGoOn → (a b c : Option (List ℕ)) (x z : List ℕ) (one : Told) (w : World) (k l : Stacks) → k ≡ l → PrintsOnPage a b x w.output.waiting one (page_at_end w k) → HaltsPage b c w.output.waiting z (page_at_end w l) → HaltsPage a c x z one
+pub further_halts : PiecesGoOn → (a b c : Option (List ℕ)) (x z : List ℕ) (one : PageOfText) (w : World) (k l : Stacks) → k ≡ l → PrintsOnPage a b x w.output.waiting one (page_at_end w k) → HaltsPage b c w.output.waiting z (page_at_end w l) → HaltsPage a c x z one
 further_halts law a b c x z one w k l e p h = halts_behind law a b c x w.output.waiting z one (page_at_end w k) p (rw e h)
 
-pub further_cut : PiecesGoOn → (a b c : Option (List ℕ)) (x : List ℕ) (one : Told) (w : World) (k l : Stacks) → k ≡ l → PrintsOnPage a b x w.output.waiting one (page_at_end w k) → CutsPage b c w.output.waiting (page_at_end w l) → CutsPage a c x one
+pub further_cut : PiecesGoOn → (a b c : Option (List ℕ)) (x : List ℕ) (one : PageOfText) (w : World) (k l : Stacks) → k ≡ l → PrintsOnPage a b x w.output.waiting one (page_at_end w k) → CutsPage b c w.output.waiting (page_at_end w l) → CutsPage a c x one
 further_cut law a b c x one w k l e p h = cut_behind law a b c x w.output.waiting one (page_at_end w k) p (rw e h)
 
 pub begins : (told : Option (List ℕ)) (w : World) (vs : List Tagged) (k : Stacks) → are_built w vs ≡ true → k ≡ tasks_begun vs → PrintsOnPage told told w.output.waiting w.output.waiting (page_of_forms w vs) (page_at_end w k)

@@ -9,27 +9,27 @@ abbrev pub page_in : World → List ℕ → Page
 page_in w text = record { text = text; column = w.output.column }
 
 -- a page that comes of what was printed before, or None
-abbrev pub Told : Type 0
-Told = List ℕ → Option Page
+abbrev pub PageOfText : Type 0
+PageOfText = List ℕ → Option Page
 
 -- some bytes were printed, and behind them comes what came of all before
-pub record PrintsOnPage (before now : Option (List ℕ)) (waited waiting : List ℕ) (old new : Told) : Type 0 where
+pub record PrintsOnPage (before now : Option (List ℕ)) (waited waiting : List ℕ) (old new : PageOfText) : Type 0 where
   pub bytes : List ℕ
   pub follows : GoesOut before waited now waiting bytes
   pub means : (text : List ℕ) → old text ≡ new (text ++ bytes)
 
 -- the bytes are a front of what is printed
-pub record IsFrontOfPage (whole : Told) (bytes : List ℕ) : Type 0 where
+pub record IsFrontOfPage (whole : PageOfText) (bytes : List ℕ) : Type 0 where
   pub more : (text : List ℕ) → IfSome (whole text) (λ page. (rest : List ℕ) × (page.text ≡ (text ++ bytes) ++ rest))
 
 -- a front of what is printed follows what waited
-pub record HaltsPage (before now : Option (List ℕ)) (waited waiting : List ℕ) (whole : Told) : Type 0 where
+pub record HaltsPage (before now : Option (List ℕ)) (waited waiting : List ℕ) (whole : PageOfText) : Type 0 where
   pub bytes : List ℕ
   pub follows : GoesOut before waited now waiting bytes
   pub front : IsFrontOfPage whole bytes
 
 -- a front of what waited and of what is printed came to the sink
-pub record CutsPage (before now : Option (List ℕ)) (waited : List ℕ) (whole : Told) : Type 0 where
+pub record CutsPage (before now : Option (List ℕ)) (waited : List ℕ) (whole : PageOfText) : Type 0 where
   pub bytes : List ℕ
   pub cut : FrontGoesOut before now (waited ++ bytes)
   pub front : IsFrontOfPage whole bytes

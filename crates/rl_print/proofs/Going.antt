@@ -12,7 +12,7 @@ use Rattle.rl_world.specs.Waiting.{GoesOut}
 use Rattle.rl_world.specs.declared.stop.Stop.{Stop}
 use Rattle.rl_world.specs.declared.world.World.{World}
 use Rattle.rl_print.specs.Counted.{IsStop, IsTicked, last_count_stop, ticks}
-use Rattle.rl_print.specs.Walk.{Advances, BeginsPrinting, CutsPrinting, EndsPrinting, Fails, Goes, HaltsPrinting, IsNext, IsPrinted, IsPrinting, IsReadyToPrint, WalkPlace, PrintsOn, Rest, Places, Shows, ShowsFront, all_printed, closed_walk, continued, walk_meaning, levels_left, walk_place_in, place_printed, progress_in_world, setting_in_world, shown, stopped, waiting_places, whole_printer, whole_printed}
+use Rattle.rl_print.specs.Walk.{Advances, BeginsPrinting, CutsPrinting, EndsPrinting, FailsToBegin, GoesOnPrinting, HaltsPrinting, IsNext, IsPrinted, IsPrinting, IsReadyToPrint, WalkPlace, PrintsOn, Rest, Places, Shows, ShowsFront, all_printed, closed_walk, continued, walk_meaning, levels_left, walk_place_in, place_printed, progress_in_world, setting_in_world, shown, stopped, waiting_places, whole_printer, whole_printed}
 use Rattle.rl_print.specs.declared.walk.Piece.{Piece}
 use Rattle.rl_print.specs.declared.walk.State.{State}
 use Rattle.rl_print.specs.declared.walk.State.TheVariants as state
@@ -70,7 +70,7 @@ nothing_follows (Some now) waited waiting e = (0, sym (append-nil now), e ∙ sy
 
 -- ---- a step
 
-pub goes_of : (before now : Option (List ℕ)) (base : ℕ) (style : atoms.Style) (old mid new : World) (at next : Option State) (p : Piece) → mid.output ≡ old.output → Advances base old mid at p next → Writes mid new → Shows before now style mid new p → Goes before now base style old new (walk_meaning style old base at) next
+pub goes_of : (before now : Option (List ℕ)) (base : ℕ) (style : atoms.Style) (old mid new : World) (at next : Option State) (p : Piece) → mid.output ≡ old.output → Advances base old mid at p next → Writes mid new → Shows before now style mid new p → GoesOnPrinting before now base style old new (walk_meaning style old base at) next
 goes_of before now base style old mid new at next p same a e s = record {
   prints = record {
     bytes = s.bytes;
@@ -105,7 +105,7 @@ halts_of told base style old new at s same e = record {
 
 -- ---- the first step
 
-pub goes_first : (before now : Option (List ℕ)) (base : ℕ) (style : atoms.Style) (old mid new : World) (v : Tagged) (next : Option State) (p : Piece) → mid.output ≡ old.output → BeginsPrinting base old mid v p next → Writes mid new → Shows before now style mid new p → Goes before now base style old new (whole_printed style old v) next
+pub goes_first : (before now : Option (List ℕ)) (base : ℕ) (style : atoms.Style) (old mid new : World) (v : Tagged) (next : Option State) (p : Piece) → mid.output ≡ old.output → BeginsPrinting base old mid v p next → Writes mid new → Shows before now style mid new p → GoesOnPrinting before now base style old new (whole_printed style old v) next
 goes_first before now base style old mid new v next p same a e s = record {
   prints = record {
     bytes = s.bytes;
@@ -127,7 +127,7 @@ cut_first before now base style old mid v next p same a s = record {
       (r.0 ++ after.more, ap (λ (p : Progress). p.page.text) (a.means style text) ∙ (after.text ∙ (ap (λ t. t ++ after.more) r.1 ∙ append_assoc (text ++ s.bytes) r.0 after.more)));
 }
 
-pub halts_first : (told : Option (List ℕ)) (style : atoms.Style) (old new : World) (v : Tagged) (s : Stop) → new.output ≡ old.output → Fails old new v s → HaltsPrinting told told old new (whole_printed style old v) s
+pub halts_first : (told : Option (List ℕ)) (style : atoms.Style) (old new : World) (v : Tagged) (s : Stop) → new.output ≡ old.output → FailsToBegin old new v s → HaltsPrinting told told old new (whole_printed style old v) s
 halts_first told style old new v s same e = record {
   ending = e.ending;
   is_stop = e.is_stop;
@@ -199,7 +199,7 @@ stop_before old mid Whole s same h = absurd h
 stop_before old mid NoTurn s same h = h ∙ same
 stop_before old mid TooDeep s same h = h
 
-pub halts_more : (a b c : Option (List ℕ)) (base : ℕ) (style : atoms.Style) (old mid new : World) (start : List ℕ → Progress) (at : Option State) (now : State) (s : Stop) → at ≡ Some now → IsPrinting base old mid → Goes a b base style old mid start at → HaltsPrinting b c mid new (walk_meaning style mid base (Some now)) s → HaltsPrinting a c old new start s
+pub halts_more : (a b c : Option (List ℕ)) (base : ℕ) (style : atoms.Style) (old mid new : World) (start : List ℕ → Progress) (at : Option State) (now : State) (s : Stop) → at ≡ Some now → IsPrinting base old mid → GoesOnPrinting a b base style old mid start at → HaltsPrinting b c mid new (walk_meaning style mid base (Some now)) s → HaltsPrinting a c old new start s
 halts_more a b c base style old mid new start at now s e w g h =
     let p : PrintsOn a b old.output.waiting mid.output.waiting start (walk_meaning style mid base (Some now)) = rw (sym e) g.prints in
     record {
@@ -208,12 +208,12 @@ halts_more a b c base style old mid new start at now s e w g h =
       prints = prints_more a b c old.output.waiting mid.output.waiting new.output.waiting start (walk_meaning style mid base (Some now)) (stopped new h.ending) p h.prints;
     }
 
-pub cuts_later : (a b c : Option (List ℕ)) (base : ℕ) (style : atoms.Style) (old mid : World) (start : List ℕ → Progress) (at : Option State) (now : State) → at ≡ Some now → Goes a b base style old mid start at → CutsPrinting b c mid.output.waiting (walk_meaning style mid base (Some now)) → CutsPrinting a c old.output.waiting start
+pub cuts_later : (a b c : Option (List ℕ)) (base : ℕ) (style : atoms.Style) (old mid : World) (start : List ℕ → Progress) (at : Option State) (now : State) → at ≡ Some now → GoesOnPrinting a b base style old mid start at → CutsPrinting b c mid.output.waiting (walk_meaning style mid base (Some now)) → CutsPrinting a c old.output.waiting start
 cuts_later a b c base style old mid start at now e g h =
     let p : PrintsOn a b old.output.waiting mid.output.waiting start (walk_meaning style mid base (Some now)) = rw (sym e) g.prints in
     cuts_more a b c old.output.waiting mid.output.waiting start (walk_meaning style mid base (Some now)) p h
 
-pub goes_more : (a b c : Option (List ℕ)) (base : ℕ) (style : atoms.Style) (old mid new : World) (start : List ℕ → Progress) (at : Option State) (now : State) (next : Option State) → at ≡ Some now → Goes a b base style old mid start at → Goes b c base style mid new (walk_meaning style mid base (Some now)) next → Goes a c base style old new start next
+pub goes_more : (a b c : Option (List ℕ)) (base : ℕ) (style : atoms.Style) (old mid new : World) (start : List ℕ → Progress) (at : Option State) (now : State) (next : Option State) → at ≡ Some now → GoesOnPrinting a b base style old mid start at → GoesOnPrinting b c base style mid new (walk_meaning style mid base (Some now)) next → GoesOnPrinting a c base style old new start next
 goes_more a b c base style old mid new start at now next e g q =
     let p : PrintsOn a b old.output.waiting mid.output.waiting start (walk_meaning style mid base (Some now)) = rw (sym e) g.prints in
     record {
@@ -222,7 +222,7 @@ goes_more a b c base style old mid new start at now next e g q =
       next_is = q.next_is;
     }
 
-pub printed_of : (before now : Option (List ℕ)) (style : atoms.Style) (base : ℕ) (old new : World) (v : Tagged) (at : Option State) → at ≡ None → base ≡ length old.levels.walk → IsPrinting base old new → Goes before now base style old new (whole_printed style old v) at → IsPrinted before now style old new v
+pub printed_of : (before now : Option (List ℕ)) (style : atoms.Style) (base : ℕ) (old new : World) (v : Tagged) (at : Option State) → at ≡ None → base ≡ length old.levels.walk → IsPrinting base old new → GoesOnPrinting before now base style old new (whole_printed style old v) at → IsPrinted before now style old new v
 printed_of before now style base old new v None e eb w g = record {
   prints = g.prints;
   levels = levels_back base old.levels new.levels (sym eb) g.next_is w.steady;

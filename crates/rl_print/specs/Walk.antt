@@ -198,7 +198,7 @@ pub record BeginsPrinting (base : ℕ) (old new : World) (v : Tagged) (piece : P
   pub next_is : IsNext new base next
   pub piece_is : IsPiece new.cells.cells piece
 
-pub record Fails (old new : World) (v : Tagged) (s : Stop) : Type 0 where
+pub record FailsToBegin (old new : World) (v : Tagged) (s : Stop) : Type 0 where
   pub ending : Ending
   pub is_stop : IsStop old.counts ending s
   pub means : (style : atoms.Style) (text : List ℕ) → whole_printed style old v text ≡ stopped new ending text
@@ -212,7 +212,7 @@ pub record IsPrinting (base : ℕ) (old new : World) : Type 0 where
   pub steady : IsSteady base old.levels new.levels
 
 -- a step printed something, and it goes on with the next state
-pub record Goes (before now : Option (List ℕ)) (base : ℕ) (style : atoms.Style) (old new : World) (start : List ℕ → Progress) (next : Option State) : Type 0 where
+pub record GoesOnPrinting (before now : Option (List ℕ)) (base : ℕ) (style : atoms.Style) (old new : World) (start : List ℕ → Progress) (next : Option State) : Type 0 where
   pub prints : PrintsOn before now old.output.waiting new.output.waiting start (walk_meaning style new base next)
   pub ready : IsReadyToPrint new base
   pub next_is : IsNext new base next

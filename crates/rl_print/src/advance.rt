@@ -7,7 +7,7 @@ ghost use Rattle.rl_tree.specs.Printing.{Ending, NoTurn, Progress, TooDeep};
 ghost use Rattle.rl_world.specs.Counts.{ticked};
 ghost use Rattle.rl_print.specs.AtomText.{is_atom, style_of};
 ghost use Rattle.rl_print.specs.Counted.{IsStop, IsTicked};
-ghost use Rattle.rl_print.specs.Walk.{IsCursor, IsKeptByPrinting, IsNext, IsPiece, IsReadyToPrint, IsState, all_printed, continued, kept_place, levels_left, walk_meaning, walk_place_in, progress_in_world, setting_in_world, shown, state_weight, stopped, waiting_places, Advances, BeginsPrinting, EndsPrinting, Fails, IsWorldOf};
+ghost use Rattle.rl_print.specs.Walk.{IsCursor, IsKeptByPrinting, IsNext, IsPiece, IsReadyToPrint, IsState, all_printed, continued, kept_place, levels_left, walk_meaning, walk_place_in, progress_in_world, setting_in_world, shown, state_weight, stopped, waiting_places, Advances, BeginsPrinting, EndsPrinting, FailsToBegin, IsWorldOf};
 ghost use Rattle.rl_world.specs.declared.stop.Stop.TheVariants as stop;
 ghost use Rattle.rl_print.specs.declared.walk.Cursor.TheVariants as cursor;
 ghost use Rattle.rl_print.specs.declared.walk.State.TheVariants as state;
@@ -264,7 +264,7 @@ pub(crate) fn begin(w: &mut World, v: Val) -> Result<Step, Stop>
     requires table { IsTable w.old.cells.cells w.old.syms.head }
     requires live { IsTrue (is_live w.old.cells.cells v) }
     ensures ok { IfOk result (λ r. BeginsPrinting (length w.old.levels.walk) w.old w.new v r.0 r.1) }
-    ensures err { IfErr result (λ s. Fails w.old w.new v s) }
+    ensures err { IfErr result (λ s. FailsToBegin w.old w.new v s) }
     ensures world { IsWorldOf (length w.old.levels.walk) w.old w.new }
 {
     meaning_of_reading();
@@ -283,7 +283,7 @@ fn begin_pair(w: &mut World, v: Val) -> Result<Step, Stop>
     requires table { IsTable w.old.cells.cells w.old.syms.head }
     requires pair { IsTrue (is_pair w.old.cells.cells v) }
     ensures ok { IfOk result (λ r. BeginsPrinting (length w.old.levels.walk) w.old w.new v r.0 r.1) }
-    ensures err { IfErr result (λ s. Fails w.old w.new v s) }
+    ensures err { IfErr result (λ s. FailsToBegin w.old w.new v s) }
     ensures world { IsWorldOf (length w.old.levels.walk) w.old w.new }
 {
     meaning_of_reading();

@@ -6,7 +6,7 @@ ghost use Rattle.rl_tree.specs.Atoms.{Prin1, Prin2};
 ghost use Rattle.rl_world.specs.Writing.{ChangesOutObject, WriteFaults};
 ghost use Rattle.rl_world.specs.declared.stop.Stop.TheVariants as stop;
 ghost use Rattle.rl_print.specs.AtomText.{style_of};
-ghost use Rattle.rl_print.specs.Walk.{CutsPrinting, Goes, HaltsPrinting, IsPrinted, IsPrinting, IsReadyToPrint, IsState, walk_meaning, walk_weight, whole_printed};
+ghost use Rattle.rl_print.specs.Walk.{CutsPrinting, GoesOnPrinting, HaltsPrinting, IsPrinted, IsPrinting, IsReadyToPrint, IsState, walk_meaning, walk_weight, whole_printed};
 
 use crate::advance::{advance, begin};
 use crate::atom::Style;
@@ -73,7 +73,7 @@ fn step<I: Source, O: Sink, N: Sink, F: Files>(
 ) -> Result<Option<State>, Stop>
     requires ready { IsReadyToPrint w.old base }
     requires state { IsState w.old.cells.cells at }
-    ensures ok { IfOk result (λ next. Goes (O.contents io.old.out.now) (O.contents io.new.out.now) base (style_of style) w.old w.new (walk_meaning (style_of style) w.old base (Some at)) next) }
+    ensures ok { IfOk result (λ next. GoesOnPrinting (O.contents io.old.out.now) (O.contents io.new.out.now) base (style_of style) w.old w.new (walk_meaning (style_of style) w.old base (Some at)) next) }
     ensures less { IfOk result (λ next. walk_weight w.new next < walk_weight w.old (Some at)) }
     ensures halts { IfErr result (λ s. s ≢ stop.Write → HaltsPrinting (O.contents io.old.out.now) (O.contents io.new.out.now) w.old w.new (walk_meaning (style_of style) w.old base (Some at)) s) }
     ensures cut { IfErr result (λ s. s ≡ stop.Write → CutsPrinting (O.contents io.old.out.now) (O.contents io.new.out.now) w.old.output.waiting (walk_meaning (style_of style) w.old base (Some at))) }
@@ -100,7 +100,7 @@ fn start<I: Source, O: Sink, N: Sink, F: Files>(
 ) -> Result<Option<State>, Stop>
     requires table { IsTable w.old.cells.cells w.old.syms.head }
     requires live { IsTrue (is_live w.old.cells.cells v) }
-    ensures ok { IfOk result (λ next. Goes (O.contents io.old.out.now) (O.contents io.new.out.now) (length w.old.levels.walk) (style_of style) w.old w.new (whole_printed (style_of style) w.old v) next) }
+    ensures ok { IfOk result (λ next. GoesOnPrinting (O.contents io.old.out.now) (O.contents io.new.out.now) (length w.old.levels.walk) (style_of style) w.old w.new (whole_printed (style_of style) w.old v) next) }
     ensures halts { IfErr result (λ s. s ≢ stop.Write → HaltsPrinting (O.contents io.old.out.now) (O.contents io.new.out.now) w.old w.new (whole_printed (style_of style) w.old v) s) }
     ensures cut { IfErr result (λ s. s ≡ stop.Write → CutsPrinting (O.contents io.old.out.now) (O.contents io.new.out.now) w.old.output.waiting (whole_printed (style_of style) w.old v)) }
     ensures faults { WriteFaults result (O.faults io.old.out.now) (O.faults io.new.out.now) w.new.output.waiting }
