@@ -47,18 +47,25 @@ fn read_refuses_unused_tags(rt: HostRuntime) {
     }
 }
 
+/// Whether opening makes this identifier, with this name, at this place.
+fn is_opening(place: usize, id: Val, name: &[u8]) -> bool {
+    place < OPENING_NAMES && opening_id(place) == id && opening_name(place) == name
+}
+
 #[test]
 fn identifiers_of_opening_have_fixed_places(rt: HostRuntime) {
+    let rows = [
+        (0, NIL, b"NIL".as_slice()),
+        (1, T, b"T"),
+        (2, QUOTE, b"QUOTE"),
+        (3, EMSG_STAR, b"EMSG*"),
+        (166, DOLLAR_B, b"$B"),
+    ];
+    for (place, id, name) in rows {
+        assert!(rt; is_opening(place, id, name));
+    }
     assert_eq!(rt; NIL, Val::at(Tag::Id, 2));
-    assert_eq!(rt; opening_id(0), NIL);
-    assert_eq!(rt; opening_name(0), b"NIL".as_slice());
-    assert_eq!(rt; opening_id(1), T);
-    assert_eq!(rt; opening_id(2), QUOTE);
-    assert_eq!(rt; opening_name(3), b"EMSG*".as_slice());
-    assert_eq!(rt; opening_id(3), EMSG_STAR);
     assert_eq!(rt; OPENING_NAMES, 167);
-    assert_eq!(rt; opening_id(166), DOLLAR_B);
-    assert_eq!(rt; opening_name(166), b"$B".as_slice());
     assert_eq!(rt; DOLLAR_B.index(), 832);
 }
 

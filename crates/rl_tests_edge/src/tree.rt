@@ -68,9 +68,7 @@ fn elements(node: &Node) -> u32 {
 #[test]
 fn builds_whole_tree(rt: HostRuntime) -> Result<(), Fail> {
     let tree = whole(rt.alloc())?;
-    assert_eq!(rt; tree.nodes().len(), 5);
-    assert_eq!(rt; elements(&tree.nodes()[2]), 2);
-    assert!(rt; is_text(&tree.nodes()[4], b"ab"));
+    assert!(rt; is_whole(tree.nodes()));
     Ok(())
 }
 
@@ -88,17 +86,27 @@ fn refuses_other_lists(rt: HostRuntime) -> Result<(), Fail> {
     Ok(())
 }
 
+fn is_held(held: &HeldTree, id: Val) -> bool {
+    held.holder == Val::at(Tag::Fun, 9)
+        && held.base == 4
+        && held.kind == Kind::Fexpr
+        && held.params.items() == [id].as_slice()
+}
+
+fn is_one_fluid(kept: &[(Val, VarKind)], id: Val) -> bool {
+    kept.len() == 1 && kept[0].0 == id && kept[0].1 == VarKind::Fluid
+}
+
+fn is_whole(nodes: &[Node]) -> bool {
+    nodes.len() == 5 && elements(&nodes[2]) == 2 && is_text(&nodes[4], b"ab")
+}
+
 #[test]
 fn copies_held_tree(rt: HostRuntime) -> Result<(), Fail> {
     let x = Val::at(Tag::Id, 7);
     let copy = held(rt.alloc(), x)?.copy(rt.alloc())?;
-    assert_eq!(rt; copy.holder, Val::at(Tag::Fun, 9));
-    assert_eq!(rt; copy.base, 4);
-    assert_eq!(rt; copy.kind, Kind::Fexpr);
-    assert_eq!(rt; copy.params.items(), [x].as_slice());
-    assert_eq!(rt; copy.kept.items().len(), 1);
-    assert_eq!(rt; copy.kept.items()[0].1, VarKind::Fluid);
-    assert_eq!(rt; copy.body.nodes().len(), 5);
-    assert!(rt; is_text(&copy.body.nodes()[4], b"ab"));
+    assert!(rt; is_held(&copy, x));
+    assert!(rt; is_one_fluid(copy.kept.items(), x));
+    assert!(rt; is_whole(copy.body.nodes()));
     Ok(())
 }
