@@ -6,3 +6,4 @@ pub mod Determined
 pub mod Seen
 pub mod Bound
 pub mod Undone
+pub mod TopValues

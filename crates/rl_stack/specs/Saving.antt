@@ -1,5 +1,5 @@
 -- What bindings and marks do to a stack.
-use Rattle.std.specs.Prelude.{◌≡◌, ◌≢◌, ℕ, zero, suc, ◌-◌, List, [], ◌∷◌, take, drop, Option}
+use Rattle.std.specs.Prelude.{◌≡◌, ◌≢◌, ℕ, zero, suc, ◌-◌, List, [], ◌∷◌, length, take, drop, Option}
 use Rattle.rl_tags.specs.Tagged.{Tagged}
 use Rattle.rl_world.specs.declared.world.World.{World}
 use Rattle.rl_meaning.specs.State.{State}
@@ -52,3 +52,9 @@ with_hid k hid [] = []
 with_hid zero hid (saved.Mark f ∷ saves) = saved.Mark f ∷ saves
 with_hid zero hid (saved.Binding id local old levels ∷ saves) = saved.Binding id local hid levels ∷ saves
 with_hid (suc k) hid (x ∷ saves) = x ∷ with_hid k hid saves
+
+-- no more than what one binding hides is another
+pub record SetsHidden (old new : StackState) : Type 0 where
+  pub rest : new ≡ record old { saved = new.saved }
+  pub long : length new.saved ≡ length old.saved
+  pub levels : (n : ℕ) → levels_of_saved (take n new.saved) ≡ levels_of_saved (take n old.saved)

@@ -1,17 +1,16 @@
 //! Bindings of variables: the value cell has the newest value, the stack what that hid.
-ghost use Rattle.std.specs.Prelude.{◌≡◌, ◌≢◌, ◌↔◌, ◌+◌, ◌-◌, ◌*◌, ◌<◌, ◌≤◌, drop, take, length, true, IsTrue, None, Some, MatchOption, slice_get};
+ghost use Rattle.std.specs.Prelude.{◌≡◌, ◌≢◌, ◌↔◌, ◌+◌, ◌-◌, ◌*◌, ◌<◌, ◌≤◌, drop, take, length, true, IsTrue, None, Some, MatchOption};
 ghost use Rattle.std.specs.Option.{ForSome};
 ghost use Rattle.rl_tree.specs.Value.{Id};
 ghost use Rattle.rl_cells.specs.Cell.{is_live};
 ghost use Rattle.rl_syms.specs.Table.{is_id};
 ghost use Rattle.rl_syms.specs.Contents.{value_of};
 ghost use Rattle.rl_meaning.specs.State.{State};
-ghost use Rattle.rl_meaning.specs.Symbols.{symbol_at, with_top};
 ghost use Rattle.rl_meaning.specs.Variables.{nearest, variable, with_binding, with_mark, with_oldest, with_value};
 ghost use Rattle.rl_meaning.specs.Errors.{fail, unbound};
-ghost use Rattle.rl_state.specs.ShownState.{number_in, option_value_in};
+ghost use Rattle.rl_state.specs.ShownState.{number_in};
 ghost use Rattle.rl_state.specs.Worlds.{IsWorld, ObjectsAlone, WorldGrows};
-ghost use Rattle.rl_stack.specs.Saving.{BindsIt, HidesFrom, IsOldestOf, NoneBinds, SavesOne, UndoesNewest};
+ghost use Rattle.rl_stack.specs.Saving.{SavesOne, UndoesNewest};
 ghost use Rattle.rl_stack.specs.ShowsStack.{GivesVariable, IsStackLive, IsVariable, ShowsStack, StandsIn, mark_shown, scope_kept, scope_saved};
 ghost use Rattle.rl_stack.specs.StackState.{levels_of_frames, levels_of_saved};
 

@@ -6,5 +6,6 @@ pub mod laws;
 mod saved;
 mod stack;
 mod steps;
+mod tops;
 
 pub use stack::Stack;

@@ -2,6 +2,7 @@
 ghost use Rattle.std.specs.Prelude.{◌≡◌, ℕ, ◌+◌, ◌-◌, ◌*◌, ◌<◌, ◌≤◌, ◌++◌, [], ◌∷◌, Some, IfOk, length, drop, replicate, slice_get, slice_set, vec_len, vec_capacity, MatchOption};
 ghost use Rattle.rl_tags.specs.Ids.{nil_id};
 ghost use Rattle.rl_stack.specs.StackState.{HasFrame, MayWait, NewestFits, OnNewest, levels_of_frames, waiting_of, with_newest, with_place, with_slot, with_waiting};
+ghost use Rattle.rl_stack.specs.Saving.{with_hid};
 ghost use Rattle.rl_stack.specs.declared.saved.Saved.TheVariants as saved;
 
 use crate::saved::Saved;
@@ -232,6 +233,28 @@ impl Stack {
         ensures { self.new ≡ record self.old { saved = saved.Mark f ∷ self.old.saved } }
     {
         self.saved.push_reserved(Saved::Mark(f));
+    }
+
+    /// The binding or mark `k`, counted from the newest.
+    pub(crate) fn saved_at(&self, k: u64) -> Saved
+        requires { k < length self.now.saved }
+        ensures { slice_get self.now.saved k ≡ Some result }
+    {
+        self.saved[self.saved.len() - 1 - k as usize]
+    }
+
+    /// Says what the binding `k`, counted from the newest, hid.
+    pub(crate) fn set_hid(&mut self, k: u64, hid: Option<Val>)
+        requires { k < length self.old.saved }
+        ensures { self.new ≡ record self.old { saved = with_hid k hid self.old.saved } }
+    {
+        let at = self.saved.len() - 1 - k as usize;
+        match self.saved[at] {
+            Saved::Binding(id, local, _old, levels) => {
+                self.saved[at] = Saved::Binding(id, local, hid, levels);
+            }
+            Saved::Mark(_f) => {}
+        }
     }
 
     /// The newest binding or mark is no longer there.
