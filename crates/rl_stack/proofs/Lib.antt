@@ -7,3 +7,4 @@ pub mod Seen
 pub mod Bound
 pub mod Undone
 pub mod TopValues
+pub mod Stacked

@@ -32,7 +32,7 @@ levels_shown_on w x l old new e f shows s h = record {
   entries = subst (λ (z : World). ShowsEntries z.cells.cells (tops_of s) new.saved s.bindings) (sym e) (subst (λ (z : StackState). ShowsEntries w.cells.cells (tops_of s) z.saved s.bindings) (sym f) h.entries);
 }
 
-nils_live : (cells : List Cell) (n : ℕ) → is_live cells nil_id ≡ true → AreLive cells (replicate n nil_id)
+pub nils_live : (cells : List Cell) (n : ℕ) → is_live cells nil_id ≡ true → AreLive cells (replicate n nil_id)
 nils_live cells zero h = tt
 nils_live cells (suc n) h = (h, nils_live cells n h)
 

@@ -1,6 +1,7 @@
 -- The stack of a run, as contracts see it: frames, bindings and registers. All that is stacked stands the newest first.
-use Rattle.std.specs.Prelude.{◌≤◌, ℕ, ◌+◌, ◌*◌, List, [], ◌∷◌, length, slice_set}
+use Rattle.std.specs.Prelude.{◌≤◌, ℕ, ◌+◌, ◌*◌, List, [], ◌∷◌, length, replicate, slice_set}
 use Rattle.rl_tags.specs.Tagged.{Tagged}
+use Rattle.rl_tags.specs.Ids.{nil_id}
 use Rattle.rl_stack.specs.declared.saved.Saved as stacked
 use Rattle.rl_stack.specs.declared.saved.Saved.TheVariants as saved
 
@@ -19,6 +20,10 @@ pub record StackState : Type 0 where
   pub unframed : List Tagged
   pub saved : List stacked.Saved
   pub registers : List Tagged
+
+-- with no frames and no bindings, and registers NIL
+abbrev pub opened_stack : ℕ → StackState
+opened_stack nest = record { nest = nest; frames = []; unframed = []; saved = []; registers = replicate 15 nil_id }
 
 -- ---- the newest frame
 

@@ -1,5 +1,5 @@
 //! Laws of what a world and a stack show. A law is the contract of a function that does nothing.
-ghost use Rattle.rl_stack.specs.StackLaws.{EmptyStackShows, StackDetermines, StackStays, WatchedIsHidden};
+ghost use Rattle.rl_stack.specs.StackLaws.{EmptyStackShows, StackDetermines, StackStays, StackedStays, WatchedIsHidden};
 
 use rl_state::laws::{a_world_determines_a_state, a_world_shows_a_state};
 use rl_syms::laws::identifiers_are_numbered;
@@ -27,4 +27,9 @@ pub fn a_stack_stays()
 /// What is watched, held forms and their code are no part of what is shown.
 pub fn what_is_watched_is_hidden()
     ensures { WatchedIsHidden }
+{}
+
+/// Values that wait, places, slots and registers leave what is shown, and are live with what they hold.
+pub fn what_is_stacked_stays()
+    ensures { StackedStays }
 {}

@@ -1,7 +1,7 @@
 //! Frames, registers, and the memory of the stack.
 ghost use Rattle.std.specs.Prelude.{◌≡◌, ℕ, ◌+◌, ◌-◌, ◌*◌, ◌<◌, ◌≤◌, ◌++◌, [], ◌∷◌, Some, IfOk, length, drop, replicate, slice_get, slice_set, vec_len, vec_capacity, MatchOption};
 ghost use Rattle.rl_tags.specs.Ids.{nil_id};
-ghost use Rattle.rl_stack.specs.StackState.{HasFrame, MayWait, NewestFits, OnNewest, levels_of_frames, waiting_of, with_newest, with_place, with_slot, with_waiting};
+ghost use Rattle.rl_stack.specs.StackState.{HasFrame, MayWait, NewestFits, OnNewest, levels_of_frames, opened_stack, waiting_of, with_newest, with_place, with_slot, with_waiting};
 ghost use Rattle.rl_stack.specs.Saving.{with_hid};
 ghost use Rattle.rl_stack.specs.declared.saved.Saved.TheVariants as saved;
 
@@ -63,7 +63,7 @@ impl Stack {
     /// A stack for a world whose bound on nesting is at most `nest`, which is at most 500,000.
     pub fn open(alloc: Global, nest: u32) -> Result<Stack, OutOfMemory>
         requires { nest ≤ 500000 }
-        ensures { IfOk result (λ s. s ≡ record { nest = nest; frames = []; unframed = []; saved = []; registers = replicate 15 nil_id }) }
+        ensures { IfOk result (λ s. s ≡ opened_stack nest) }
     {
         let levels = nest as usize;
         let heads = Vec::with_capacity(alloc, levels)?;
