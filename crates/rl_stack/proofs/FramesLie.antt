@@ -9,7 +9,7 @@ use Rattle.rl_tags.specs.Tagged.{Tagged}
 use Rattle.rl_tags.specs.Ids.{nil_id}
 use Rattle.rl_stack.specs.declared.saved.Saved as stacked
 use Rattle.rl_stack.specs.declared.stack.FrameHead as heads
-use Rattle.rl_stack.specs.StackState.{HasFrame, MayWait, NewestFits, OnNewest, StackState, levels_of_frames, waiting_of, with_newest, with_place, with_slot, with_waiting}
+use Rattle.rl_stack.specs.StackState.{HasFrame, MayWait, NewestFits, OnNewest, StackState, levels_of_frames, waiting_of, with_newest, with_place, with_slot_value, with_waiting}
 use Rattle.rl_stack.specs.StackLayout.{LieApart, frames_laid, levels_laid, unframed_laid}
 use Rattle.rl_stack.proofs.Reversed.{drop-both, reverse-cut, reverse-filled, reverse-pushed, reverse-set}
 
@@ -95,7 +95,7 @@ slot_within more w [] words i a l = absurd l
 slot_within more w (h ∷ hs) words i a l = omega (arith, slots_long more w h hs words a, l, a.1)
 
 pub state_slot : (nest more w : ℕ) (hs : List heads.FrameHead) (words : List Tagged) (saves : List stacked.Saved) (registers : List Tagged) (i : ℕ) (v : Tagged) → LieApart more w hs (length words) → OnNewest (frames_laid w hs words) (λ f. i < length f.slots)
-    → state_laid nest w hs (set words (w + i) v) saves registers ≡ record (state_laid nest w hs words saves registers) { frames = with_newest (with_slot i v) (frames_laid w hs words) }
+    → state_laid nest w hs (set words (w + i) v) saves registers ≡ record (state_laid nest w hs words saves registers) { frames = with_newest (with_slot_value i v) (frames_laid w hs words) }
 state_slot nest more w [] words saves registers i v a l = absurd l
 state_slot nest more w (h ∷ hs) words saves registers i v a l =
     let k : i < h.slots = omega (arith, slots_long more w h hs words a, l) in
@@ -154,13 +154,13 @@ slot_shown nest w frames words saves registers now i k v e a l at is =
 
 pub slot_set : (nest w : ℕ) (frames : Vec heads.FrameHead) (words : Vec Tagged) (saves : List stacked.Saved) (registers : List Tagged) (now : StackState) (i k : ℕ) (v : Tagged) → state_laid nest w (reverse frames.items) (reverse words.items) saves registers ≡ now
     → LieApart 16 w (reverse frames.items) (length words.items) → OnNewest now.frames (λ f. i < length f.slots) → k ≡ length words.items - 1 - (w + i)
-    → state_laid nest w (reverse frames.items) (reverse (set words.items k v)) saves registers ≡ record now { frames = with_newest (with_slot i v) now.frames }
+    → state_laid nest w (reverse frames.items) (reverse (set words.items k v)) saves registers ≡ record now { frames = with_newest (with_slot_value i v) now.frames }
 slot_set nest w frames words saves registers now i k v e a l at =
     let inside = slots_within nest w frames words saves registers now i e a l in
     let there : reverse (set words.items k v) ≡ set (reverse words.items) (w + i) v = ap (λ n. reverse (set words.items n v)) at ∙ reverse-set words.items (w + i) v inside in
     ap (λ ws. state_laid nest w (reverse frames.items) ws saves registers) there
     ∙ state_slot nest 16 w (reverse frames.items) (reverse words.items) saves registers i v (laid_long w frames words a) (subst (λ (s : StackState). OnNewest s.frames (λ f. i < length f.slots)) (sym e) l)
-    ∙ ap (λ (s : StackState). record s { frames = with_newest (with_slot i v) s.frames }) e
+    ∙ ap (λ (s : StackState). record s { frames = with_newest (with_slot_value i v) s.frames }) e
 
 abbrev head_at : ℕ → heads.FrameHead → heads.FrameHead
 head_at p h = record { levels = h.levels; slots = h.slots; owner = h.owner; place = p; below = h.below }

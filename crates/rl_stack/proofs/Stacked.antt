@@ -7,7 +7,7 @@ use Rattle.rl_world.specs.declared.world.World.{World}
 use Rattle.rl_meaning.specs.State.{State}
 use Rattle.rl_stack.specs.ShowsStack.{AreFramesLive, AreLive, IsStackLive, ShowsEntries, ShowsStack, StandsIn, tops_of}
 use Rattle.rl_stack.specs.StackLaws.{KeepsSaved, StackedStays}
-use Rattle.rl_stack.specs.StackState.{OnNewest, StackFrame, StackState, levels_of_frames, levels_of_saved, with_newest, with_place, with_slot, with_waiting}
+use Rattle.rl_stack.specs.StackState.{OnNewest, StackFrame, StackState, levels_of_frames, levels_of_saved, with_newest, with_place, with_slot_value, with_waiting}
 use Rattle.rl_stack.specs.declared.saved.Saved as stacked
 use Rattle.rl_stack.proofs.StackKept.{nils_live}
 
@@ -57,7 +57,7 @@ placed_live : (cells : List Cell) (fs : List StackFrame) (p : ℕ) → AreFrames
 placed_live cells [] p l = tt
 placed_live cells (f ∷ fs) p l = l
 
-slotted_live : (cells : List Cell) (fs : List StackFrame) (i : ℕ) (v : Tagged) → is_live cells v ≡ true → AreFramesLive cells fs → AreFramesLive cells (with_newest (with_slot i v) fs)
+slotted_live : (cells : List Cell) (fs : List StackFrame) (i : ℕ) (v : Tagged) → is_live cells v ≡ true → AreFramesLive cells fs → AreFramesLive cells (with_newest (with_slot_value i v) fs)
 slotted_live cells [] i v h l = tt
 slotted_live cells (f ∷ fs) i v h l = (set_live cells f.slots i v h l.0, l.1, l.2)
 
@@ -72,7 +72,7 @@ stacked_stays = record {
   stands = saved_stands;
   waiting = λ stack v. keeps_waiting stack.nest stack.frames stack.unframed stack.saved stack.registers v;
   placed = λ stack p. keeps stack (with_place p) (λ f. refl);
-  slotted = λ stack i v. keeps stack (with_slot i v) (λ f. refl);
+  slotted = λ stack i v. keeps stack (with_slot_value i v) (λ f. refl);
   live_waiting = λ cells stack v h l. waiting_live cells stack.nest stack.frames stack.unframed stack.saved stack.registers v h l;
   live_popped = λ cells stack v l. popped_live cells stack.nest stack.frames stack.unframed stack.saved stack.registers v l;
   live_placed = λ cells stack p l. record { frames = placed_live cells stack.frames p l.frames; unframed = l.unframed; saved = l.saved; registers = l.registers };

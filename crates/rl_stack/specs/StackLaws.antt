@@ -9,7 +9,7 @@ use Rattle.rl_state.specs.ShownState.{ShowsState}
 use Rattle.rl_state.specs.StateOfWorld.{state_in}
 use Rattle.rl_state.specs.Worlds.{IsWorld, WorldGrows}
 use Rattle.rl_stack.specs.ShowsStack.{IsStackLive, ShowsStack, StandsIn}
-use Rattle.rl_stack.specs.StackState.{OnNewest, StackState, levels_of_frames, opened_stack, with_newest, with_place, with_slot, with_waiting}
+use Rattle.rl_stack.specs.StackState.{OnNewest, StackState, levels_of_frames, opened_stack, with_newest, with_place, with_slot_value, with_waiting}
 
 -- what neither a world nor a stack determines
 pub record SameBesideStack (s t : State) : Type 0 where
@@ -52,11 +52,11 @@ pub record StackedStays : Type 0 where
   pub stands : (w : World) (old new : StackState) → KeepsSaved old new → StandsIn w old → StandsIn w new
   pub waiting : (stack : StackState) (v : Tagged) → KeepsSaved stack (with_waiting v stack)
   pub placed : (stack : StackState) (p : ℕ) → KeepsSaved stack (record stack { frames = with_newest (with_place p) stack.frames })
-  pub slotted : (stack : StackState) (i : ℕ) (v : Tagged) → KeepsSaved stack (record stack { frames = with_newest (with_slot i v) stack.frames })
+  pub slotted : (stack : StackState) (i : ℕ) (v : Tagged) → KeepsSaved stack (record stack { frames = with_newest (with_slot_value i v) stack.frames })
   pub live_waiting : (cells : List Cell) (stack : StackState) (v : Tagged) → is_live cells v ≡ true → IsStackLive cells stack → IsStackLive cells (with_waiting v stack)
   pub live_popped : (cells : List Cell) (stack : StackState) (v : Tagged) → IsStackLive cells (with_waiting v stack) → (is_live cells v ≡ true) × IsStackLive cells stack
   pub live_placed : (cells : List Cell) (stack : StackState) (p : ℕ) → IsStackLive cells stack → IsStackLive cells (record stack { frames = with_newest (with_place p) stack.frames })
-  pub live_slotted : (cells : List Cell) (stack : StackState) (i : ℕ) (v : Tagged) → is_live cells v ≡ true → IsStackLive cells stack → IsStackLive cells (record stack { frames = with_newest (with_slot i v) stack.frames })
+  pub live_slotted : (cells : List Cell) (stack : StackState) (i : ℕ) (v : Tagged) → is_live cells v ≡ true → IsStackLive cells stack → IsStackLive cells (record stack { frames = with_newest (with_slot_value i v) stack.frames })
   pub live_slot : (cells : List Cell) (stack : StackState) (i : ℕ) (v : Tagged) → OnNewest stack.frames (λ f. slice_get f.slots i ≡ Some v) → IsStackLive cells stack → is_live cells v ≡ true
   pub live_registered : (cells : List Cell) (stack : StackState) (i : ℕ) (v : Tagged) → is_live cells v ≡ true → IsStackLive cells stack → IsStackLive cells (record stack { registers = slice_set stack.registers i v })
   pub live_register : (cells : List Cell) (stack : StackState) (i : ℕ) (v : Tagged) → slice_get stack.registers i ≡ Some v → IsStackLive cells stack → is_live cells v ≡ true

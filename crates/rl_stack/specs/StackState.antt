@@ -43,8 +43,8 @@ with_newest g (f ∷ fs) = g f ∷ fs
 abbrev pub with_place : ℕ → StackFrame → StackFrame
 with_place p f = record f { place = p }
 
-abbrev pub with_slot : ℕ → Tagged → StackFrame → StackFrame
-with_slot i v f = record f { slots = slice_set f.slots i v }
+abbrev pub with_slot_value : ℕ → Tagged → StackFrame → StackFrame
+with_slot_value i v f = record f { slots = slice_set f.slots i v }
 
 -- the values that wait on the newest frame, or on none
 abbrev pub waiting_of : List StackFrame → List Tagged → List Tagged

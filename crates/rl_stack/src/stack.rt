@@ -1,7 +1,7 @@
 //! Frames, registers, and the memory of the stack.
 ghost use Rattle.std.specs.Prelude.{◌≡◌, ℕ, ◌+◌, ◌-◌, ◌*◌, ◌<◌, ◌≤◌, ◌++◌, [], ◌∷◌, Some, IfOk, length, drop, replicate, slice_get, slice_set, vec_len, vec_capacity, MatchOption};
 ghost use Rattle.rl_tags.specs.Ids.{nil_id};
-ghost use Rattle.rl_stack.specs.StackState.{HasFrame, MayWait, NewestFits, OnNewest, levels_of_frames, opened_stack, waiting_of, with_newest, with_place, with_slot, with_waiting};
+ghost use Rattle.rl_stack.specs.StackState.{HasFrame, MayWait, NewestFits, OnNewest, levels_of_frames, opened_stack, waiting_of, with_newest, with_place, with_slot_value, with_waiting};
 ghost use Rattle.rl_stack.specs.Saving.{with_hid};
 ghost use Rattle.rl_stack.specs.declared.saved.Saved.TheVariants as saved;
 
@@ -122,7 +122,7 @@ impl Stack {
     /// Gives slot `i` of the newest frame another value.
     pub fn set_slot(&mut self, i: u32, v: Val)
         requires { OnNewest self.old.frames (λ f. i < length f.slots) }
-        ensures { self.new ≡ record self.old { frames = with_newest (with_slot i v) self.old.frames } }
+        ensures { self.new ≡ record self.old { frames = with_newest (with_slot_value i v) self.old.frames } }
     {
         let at = self.words.len() - 1 - (self.waiting as usize + i as usize);
         self.words[at] = v;
