@@ -51,10 +51,12 @@ pub stand_added : (old cells : List Cell) (c : Cell) → words_of_function c ≡
 stand_added old cells c none h = record {
   longer = omega (arith, h.longer, length-append cells (placed c));
   stands = λ k l. get_or_append_left cells (placed c) More k (omega (arith, l, h.longer)) ∙ h.stands k l;
-  functions = record { words = λ k. elim (cases_lt k (length cells)) [
-    | inl l ↦ ap words_of_function (get_or_append_left cells (placed c) More k l) ∙ h.functions.words k
-    | inr l ↦ ap words_of_function (get_or-append_right cells (placed c) k More l) ∙ none_placed c none (cost_of c - 1) (k - length cells) ∙ sym (none_past old k (omega (arith, l, h.longer)))
-  ] };
+  functions = record {
+    words = λ k. elim (cases_lt k (length cells)) [
+      | inl l ↦ ap words_of_function (get_or_append_left cells (placed c) More k l) ∙ h.functions.words k
+      | inr l ↦ ap words_of_function (get_or-append_right cells (placed c) k More l) ∙ none_placed c none (cost_of c - 1) (k - length cells) ∙ sym (none_past old k (omega (arith, l, h.longer)))
+    ];
+  };
 }
 
 pub stand_changed : (old cells : List Cell) (i : ℕ) (c : Cell) → words_of_function c ≡ None → length old ≤ i → CellsStay old cells → CellsStay old (changed_at cells (PairAt i) c)
@@ -63,10 +65,12 @@ stand_changed old cells i c none behind h =
     record {
       longer = omega (arith, h.longer, length-set cells i c);
       stands = λ k l. others k l ∙ h.stands k l;
-      functions = record { words = λ k. elim (cases_lt k (length old)) [
-        | inl l ↦ ap words_of_function (others k l) ∙ h.functions.words k
-        | inr l ↦ let past = none_past old k l in none_set cells i k c none (h.functions.words k ∙ past) ∙ sym past
-      ] };
+      functions = record {
+        words = λ k. elim (cases_lt k (length old)) [
+          | inl l ↦ ap words_of_function (others k l) ∙ h.functions.words k
+          | inr l ↦ let past = none_past old k l in none_set cells i k c none (h.functions.words k ∙ past) ∙ sym past
+        ];
+      };
     }
 
 -- ---- what is made

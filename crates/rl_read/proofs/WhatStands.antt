@@ -2,7 +2,7 @@
 use Rattle.std.proofs.Common.{◌≡◌, ◌∙◌, sym, ℕ, zero, suc, ◌+◌, ◌-◌, ◌*◌, ◌^◌, ◌≤◌, ◌==◌, nat_le, Bool, true, false, if◌then◌else◌, List, [], ◌∷◌, ◌++◌, length, Option, Some, None, refl, ap, subst}
 use Rattle.std.specs.Prelude.{nat_lt, Result, Ok, Err, IfOk}
 use Rattle.rl_tags.specs.Tagged.{Tagged, PairAt, StrAt, VectorAt}
-use Rattle.rl_cells.specs.Cell.{Cell, PairCell, StrCell, VectorCell, car_of, cost_of, placed}
+use Rattle.rl_cells.specs.Cell.{Cell, PairCell, StrCell, VectorCell, car_of, cost_of}
 use Rattle.rl_tree.specs.Bytes.{is_digit, is_name_byte, raised}
 use Rattle.rl_tree.specs.Name.{Name, quote_name}
 use Rattle.rl_text.specs.Byte.{Mark, Open, Close, Dot, Quote, OpenVector, CloseVector, Class, Blank, Percent, Marks, Text, Escape, Letter, Digit, Sign, Special, Nothing, class_of}
