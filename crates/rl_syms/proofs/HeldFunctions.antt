@@ -1,13 +1,14 @@
 -- Held functions stay where other objects are made and changed.
-use Rattle.std.proofs.Common.{◌≡◌, ℕ, ◌%◌, ◌/◌, ◌^◌, ◌<◌, ◌≤◌, true, List, ◌++◌, length, set, Option, Some, None, refl, sym, ap, ◌∙◌, arith, inl, inr}
+use Rattle.std.proofs.Common.{◌≡◌, ℕ, ◌+◌, ◌-◌, ◌%◌, ◌/◌, ◌^◌, ◌<◌, ◌≤◌, true, false, List, ◌++◌, length, set, Option, Some, None, refl, sym, ap, ◌∙◌, arith, inl, inr}
 use Rattle.std.specs.Prelude.{is_some}
 use Rattle.std.proofs.lemmas.Bool.{cases_eq}
-use Rattle.std.proofs.lemmas.List.{get_or_past, get_or-set_same, get_or-set_other}
+use Rattle.std.proofs.lemmas.List.{get_or_past, get_or-set_same, get_or-set_other, length-append, length-replicate}
 use Rattle.rl_tags.specs.declared.Tag.TheVariants as tag
 use Rattle.rl_tags.specs.Tagged.{Tagged, StrAt, PairAt, VectorAt, FunAt, index_of}
 use Rattle.rl_tree.specs.Value.{Fun}
-use Rattle.rl_cells.specs.Cell.{Cell, CellStore, PairCell, StrCell, VectorCell, BigCell, BlockCell, More, block_with, cell_at, changed_at, placed, is_fun_cell, is_id_cell, is_pair, is_pair_cell, is_vector, is_vector_cell, words_in, words_of}
+use Rattle.rl_cells.specs.Cell.{Cell, CellStore, PairCell, StrCell, VectorCell, BigCell, BlockCell, More, block_with, cell_at, cost_of, changed_at, placed, is_fun_cell, is_id_cell, is_pair, is_pair_cell, is_vector, is_vector_cell, words_in, words_of}
 use Rattle.rl_cells.specs.Laws.{IsAdded}
+use Rattle.rl_syms.specs.Contents.{funs_before}
 use Rattle.rl_syms.specs.Frame.{Sets}
 use Rattle.rl_syms.specs.Functions.{ChangesFunction, FunctionsStand, GainsFunction, KeepsHeldFunctions, is_held_function, words_of_function}
 use Rattle.rl_syms.specs.Made.{new_words, with_id}
@@ -16,7 +17,7 @@ use Rattle.rl_syms.proofs.Changed.{part_stays}
 use Rattle.rl_syms.proofs.Field.{is_at_id}
 use Rattle.rl_syms.proofs.Meant.{function_named, new_cell}
 use Rattle.rl_syms.proofs.New.{where_is, before, here, after, tested_inside}
-use Rattle.rl_syms.proofs.Numbers.{funs_numbered}
+use Rattle.rl_syms.proofs.Numbers.{funs_numbered, none_between}
 
 -- ---- cells
 
@@ -78,6 +79,17 @@ naming_keeps law s name plist next =
     let block = BlockCell tag.Id (new_words (StrAt (length s.cells)) plist next) in
     both_keep s.cells text (text ++ placed block) (added_keeps law s.cells (StrCell name) refl) (added_keeps law text block refl)
 
+-- a new function is one more
+more_many : IsAdded → (cells : List Cell) (c : Cell) → is_fun_cell c ≡ true → funs_before (cells ++ placed c) (length (cells ++ placed c)) ≡ funs_before cells (length cells) + 1
+more_many law cells c is =
+    let new = cells ++ placed c in
+    let behind = cost_of c - 1 in
+    let long : length new ≡ length cells + 1 + behind = omega (arith, length-append cells (placed c), length-replicate behind More) in
+    ap (funs_before new) long
+    ∙ none_between funs_numbered new (length cells + 1) behind (λ k l m h. absurd (let clash : false ≡ true = sym (ap is_fun_cell (law.past cells c k (omega (arith, l)))) ∙ h in cc))
+    ∙ funs_numbered.here new (length cells) (ap is_fun_cell (new_cell cells c) ∙ is)
+    ∙ ap (λ n. n + 1) (funs_numbered.stays cells (placed c) (length cells) (omega arith))
+
 function_gained : IsAdded → (cells : List Cell) (words : List ℕ) → length cells < 2 ^ 32 → GainsFunction cells (cells ++ placed (BlockCell tag.Fun words)) words (FunAt (length cells))
 function_gained law cells words l =
     let c = BlockCell tag.Fun words in
@@ -86,6 +98,7 @@ function_gained law cells words l =
       stands = ap is_fun_cell (new_cell cells c);
       words_are = ap words_in (new_cell cells c);
       means = function_named cells (placed c) l;
+      many = more_many law cells c refl;
       others = λ k ne. elim (where_is law cells c k) [
         | before l e ↦ ap words_of_function e
         | here e f ↦ absurd (ne e)
@@ -111,6 +124,12 @@ setting_keeps old new id y h sets = record {
   ];
 }
 
+-- where each place passes as it passed, as many functions begin
+tested_many : (old new : List Cell) → ((k : ℕ) → is_fun_cell (cell_at new k) ≡ is_fun_cell (cell_at old k)) → funs_before new (length new) ≡ funs_before old (length old)
+tested_many old new same =
+    let past = length old + length new in
+    sym (funs_numbered.past new past (omega arith)) ∙ funs_numbered.same old new past (λ j l. same j) ∙ funs_numbered.past old past (omega arith)
+
 with_word : (c : Cell) (i w : ℕ) → is_fun_cell c ≡ true → (is_fun_cell (block_with c i w) ≡ true) × (words_in (block_with c i w) ≡ set (words_in c) i w)
 with_word (BlockCell tag.Fun words) i w h = (refl, refl)
 with_word c i w h = absurd (cc)
@@ -123,6 +142,7 @@ word_changed cells (FunAt k) i w h =
     record {
       stands = ap is_fun_cell there ∙ is.0;
       words_are = ap words_in there ∙ is.1;
+      many = tested_many cells (set cells k c) (λ j. part_stays is_fun_cell cells k c j (is.0 ∙ sym h));
       others = λ j ne. ap words_of_function (get_or-set_other cells k j c More ne);
     }
 word_changed cells f i w h = absurd (cc)
@@ -149,5 +169,6 @@ functions_kept law = record {
   word = word_changed;
   live = λ old new k h. tests_kept old new (k % 2 ^ 32) h;
   values = λ old new k h. ap (λ n. Fun n (k / 2 ^ 32)) (funs_numbered.same old new (k % 2 ^ 32) (λ j l. tests_kept old new j h));
+  many = λ old new h. tested_many old new (λ k. tests_kept old new k h);
   words = words_kept;
 }

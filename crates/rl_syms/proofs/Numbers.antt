@@ -1,7 +1,7 @@
 -- What begins at cells that pass a test is numbered by its making.
 use Rattle.std.proofs.Common.{◌≡◌, ℕ, zero, suc, ◌+◌, ◌-◌, ◌<◌, ◌≤◌, ◌⊎◌, Bool, true, false, List, [], length, take, add-one, refl, sym, ap, ◌∙◌, arith, inl, inr}
 use Rattle.std.specs.List.{count_by}
-use Rattle.std.proofs.lemmas.Bool.{cases_lt, cases_order}
+use Rattle.std.proofs.lemmas.Bool.{cases_Bool, cases_lt, cases_order}
 use Rattle.std.proofs.lemmas.List.{get_or_past, take-append-le, take_all}
 use Rattle.std.proofs.lemmas.List.Sums.{count_by_more_yes, count_by_more_no}
 use Rattle.std.proofs.Math.Seq.{take-length}
@@ -104,6 +104,17 @@ ids_numbered = numbered is_id_cell refl
 pub funs_numbered : FunctionsAreNumbered
 unfolding funs_before
 funs_numbered = numbered is_fun_cell refl
+
+-- places where none begins are not counted
+pub none_between : {passes : Cell → Bool} {number : List Cell → ℕ → ℕ} → NumbersByMaking passes number → (cells : List Cell) (j m : ℕ) → ((k : ℕ) → j ≤ k → k < j + m → passes (cell_at cells k) ≡ true → ⊥) → number cells (j + m) ≡ number cells j
+none_between {passes} {number} law cells j zero none = let e : j + 0 ≡ j = omega arith in ap (number cells) e
+none_between {passes} {number} law cells j (suc m) none =
+    let up : j + suc m ≡ j + m + 1 = omega arith in
+    let here : passes (cell_at cells (j + m)) ≡ false = elim (cases_Bool (passes (cell_at cells (j + m)))) [
+      | inl is ↦ absurd (none (j + m) (omega arith) (omega arith) is)
+      | inr isnt ↦ isnt
+    ] in
+    ap (number cells) up ∙ law.elsewhere cells (j + m) here ∙ none_between law cells j m (λ k l n. none k l (omega (arith, n)))
 
 -- where none begins before a place, none was made before it
 pub none_before : (cells : List Cell) (k : ℕ) → ((j : ℕ) → j < k → is_id_cell (cell_at cells j) ≡ false) → ids_before cells k ≡ 0

@@ -1,5 +1,5 @@
 -- Held functions as blocks of words, and that calls leave them as they were.
-use Rattle.std.specs.Prelude.{◌≡◌, ◌≢◌, ℕ, ◌^◌, ◌<◌, Bool, true, false, List, ◌++◌, length, slice_set, Option, Some, None}
+use Rattle.std.specs.Prelude.{◌≡◌, ◌≢◌, ℕ, ◌+◌, ◌^◌, ◌<◌, Bool, true, false, List, ◌++◌, length, slice_set, Option, Some, None}
 use Rattle.rl_tags.specs.Tagged.{Tagged, FunAt, index_of}
 use Rattle.rl_tags.specs.declared.Tag.TheVariants as tag
 use Rattle.rl_tree.specs.Value.{Fun}
@@ -29,15 +29,17 @@ pub record GainsFunction (old new : List Cell) (words : List ℕ) (f : Tagged) :
   pub stands : is_held_function new f ≡ true
   pub words_are : words_of new f ≡ words
   pub means : value_of new f ≡ Fun (funs_before old (length old)) 0
+  pub many : funs_before new (length new) ≡ funs_before old (length old) + 1
   pub others : (k : ℕ) → k ≢ length old → words_of_function (cell_at new k) ≡ words_of_function (cell_at old k)
 
 -- one word of one held function is this; all others are as they were
 pub record ChangesFunction (old new : List Cell) (f : Tagged) (i word : ℕ) : Type 0 where
   pub stands : is_held_function new f ≡ true
   pub words_are : words_of new f ≡ slice_set (words_of old f) i word
+  pub many : funs_before new (length new) ≡ funs_before old (length old)
   pub others : (k : ℕ) → k ≢ index_of f → words_of_function (cell_at new k) ≡ words_of_function (cell_at old k)
 
--- what makes or changes another object leaves held functions, and so do several such calls; a new function, and a new word of one, leave all others; those that are left live and mean what they did, and have the same words
+-- what makes or changes another object leaves held functions, and so do several such calls; a new function, and a new word of one, leave all others; those that are left live and mean what they did, are as many, and have the same words
 pub record FunctionsStand : Type 0 where
   pub none : (cells : List Cell) → KeepsHeldFunctions cells cells
   pub both : (a b c : List Cell) → KeepsHeldFunctions a b → KeepsHeldFunctions b c → KeepsHeldFunctions a c
@@ -50,4 +52,5 @@ pub record FunctionsStand : Type 0 where
   pub word : (cells : List Cell) (f : Tagged) (i w : ℕ) → is_held_function cells f ≡ true → ChangesFunction cells (changed_at cells f (block_with (cell_at cells (index_of f)) i w)) f i w
   pub live : (old new : List Cell) (k : ℕ) → KeepsHeldFunctions old new → is_live new (FunAt k) ≡ is_live old (FunAt k)
   pub values : (old new : List Cell) (k : ℕ) → KeepsHeldFunctions old new → value_of new (FunAt k) ≡ value_of old (FunAt k)
+  pub many : (old new : List Cell) → KeepsHeldFunctions old new → funs_before new (length new) ≡ funs_before old (length old)
   pub words : (old new : List Cell) (f : Tagged) → KeepsHeldFunctions old new → is_held_function old f ≡ true → words_of new f ≡ words_of old f
