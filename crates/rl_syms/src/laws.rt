@@ -1,6 +1,6 @@
 //! Laws of the table, and of what cells mean. A law is the contract of a function that does nothing.
 ghost use Rattle.rl_syms.specs.Functions.{FunctionsStand};
-ghost use Rattle.rl_syms.specs.Numbers.{FunctionsAreNumbered, IdentifiersAreNumbered, NamesAreNumbered};
+ghost use Rattle.rl_syms.specs.Numbers.{FunctionsAreNumbered, IdentifiersAreNumbered, NamesAreNumbered, ObjectsAreNumbered};
 ghost use Rattle.rl_syms.specs.Readings.{MeantByAnyReading, NamingMeans};
 ghost use Rattle.rl_syms.specs.Laws.{AreIdentifiers, ChangesMeaning, IsDistinct, IsKept, MakesMeaning, IsRead, KeepNames, LeaveIdentifiers, NamesEnter, ReleaseKeepsTable};
 
@@ -89,6 +89,11 @@ pub fn identifiers_are_numbered()
 /// Held functions are numbered by their making likewise.
 pub fn functions_are_numbered()
     ensures { FunctionsAreNumbered }
+{}
+
+/// Pairs and vectors are numbered by their making likewise, both together: so equal references are one object.
+pub fn objects_are_numbered()
+    ensures { ObjectsAreNumbered }
 {}
 
 /// An identifier has the name of its number.
