@@ -1,8 +1,12 @@
 -- Reading makes objects and changes only pairs that it made itself: each operation leaves the cells that stood at first.
-use Rattle.std.proofs.Common.{◌≡◌, ℕ, zero, suc, ◌≤◌, ◌^◌, Bool, true, false, nat_le, if◌then◌else◌, List, ◌++◌, length, Option, None, Some, refl, subst, ◌∙◌, arith}
-use Rattle.std.proofs.lemmas.List.{get_or_append_left, get_or-set_other, length-append, length-set}
+use Rattle.std.proofs.Common.{◌≡◌, ℕ, zero, suc, ◌-◌, ◌<◌, ◌≤◌, ◌^◌, Bool, true, false, nat_le, if◌then◌else◌, List, [], ◌∷◌, ◌++◌, length, set, Option, None, Some, refl, sym, ap, subst, ◌∙◌, arith, inl, inr}
+use Rattle.std.specs.Prelude.{replicate}
+use Rattle.std.proofs.Math.Seq.{get_or-append_right}
+use Rattle.std.proofs.lemmas.Bool.{cases_lt}
+use Rattle.std.proofs.lemmas.List.{get_or_append_left, get_or_past, get_or-set_other, length-append, length-set}
 use Rattle.rl_tags.specs.Tagged.{Tagged, StrAt, PairAt, VectorAt}
-use Rattle.rl_cells.specs.Cell.{Cell, PairCell, StrCell, VectorCell, More, car_of, changed_at, cost_of, placed}
+use Rattle.rl_cells.specs.Cell.{Cell, PairCell, StrCell, VectorCell, More, car_of, cell_at, changed_at, cost_of, placed}
+use Rattle.rl_syms.specs.Functions.{words_of_function}
 use Rattle.rl_syms.specs.Made.{id_cost}
 use Rattle.rl_syms.specs.Table.{ids_from, nil_value}
 use Rattle.rl_tree.specs.Name.{Name, quote_name}
@@ -20,20 +24,54 @@ use Rattle.rl_read.specs.Stock.{Stock, PairChain, and_then_made, atom_made, chai
 
 -- ---- cells
 
+-- no held function begins among the cells of another object
+none_placed : (c : Cell) → words_of_function c ≡ None → (n k : ℕ) → words_of_function (cell_at (c ∷ replicate n More) k) ≡ None
+none_placed c none n zero = none
+none_placed c none n (suc k) = none_behind n k
+  where
+    none_behind : (n k : ℕ) → words_of_function (cell_at (replicate n More) k) ≡ None
+    none_behind zero k = refl
+    none_behind (suc n) zero = refl
+    none_behind (suc n) (suc k) = none_behind n k
+
+none_set : (cells : List Cell) (i k : ℕ) (c : Cell) → words_of_function c ≡ None → words_of_function (cell_at cells k) ≡ None → words_of_function (cell_at (set cells i c) k) ≡ None
+none_set [] i k c none h = refl
+none_set (x ∷ cells) zero zero c none h = none
+none_set (x ∷ cells) zero (suc k) c none h = h
+none_set (x ∷ cells) (suc i) zero c none h = h
+none_set (x ∷ cells) (suc i) (suc k) c none h = none_set cells i k c none h
+
+none_past : (cells : List Cell) (k : ℕ) → length cells ≤ k → words_of_function (cell_at cells k) ≡ None
+none_past cells k l = ap words_of_function (get_or_past cells k More l)
+
 pub stand_refl : (cells : List Cell) → CellsStay cells cells
-stand_refl cells = record { longer = omega arith; stands = λ k l. refl }
+stand_refl cells = record { longer = omega arith; stands = λ k l. refl; functions = record { words = λ k. refl } }
 
-pub stand_added : (old cells more : List Cell) → CellsStay old cells → CellsStay old (cells ++ more)
-stand_added old cells more h = record {
-  longer = omega (arith, h.longer, length-append cells more);
-  stands = λ k l. get_or_append_left cells more More k (omega (arith, l, h.longer)) ∙ h.stands k l;
+pub stand_added : (old cells : List Cell) (c : Cell) → words_of_function c ≡ None → CellsStay old cells → CellsStay old (cells ++ placed c)
+stand_added old cells c none h = record {
+  longer = omega (arith, h.longer, length-append cells (placed c));
+  stands = λ k l. get_or_append_left cells (placed c) More k (omega (arith, l, h.longer)) ∙ h.stands k l;
+  functions = record {
+    words = λ k. elim (cases_lt k (length cells)) [
+      | inl l ↦ ap words_of_function (get_or_append_left cells (placed c) More k l) ∙ h.functions.words k
+      | inr l ↦ ap words_of_function (get_or-append_right cells (placed c) k More l) ∙ none_placed c none (cost_of c - 1) (k - length cells) ∙ sym (none_past old k (omega (arith, l, h.longer)))
+    ];
+  };
 }
 
-pub stand_changed : (old cells : List Cell) (i : ℕ) (c : Cell) → length old ≤ i → CellsStay old cells → CellsStay old (changed_at cells (PairAt i) c)
-stand_changed old cells i c behind h = record {
-  longer = omega (arith, h.longer, length-set cells i c);
-  stands = λ k l. get_or-set_other cells i k c More (λ same. absurd (omega (arith, same, l, behind))) ∙ h.stands k l;
-}
+pub stand_changed : (old cells : List Cell) (i : ℕ) (c : Cell) → words_of_function c ≡ None → length old ≤ i → CellsStay old cells → CellsStay old (changed_at cells (PairAt i) c)
+stand_changed old cells i c none behind h =
+    let others : (k : ℕ) → k < length old → cell_at (set cells i c) k ≡ cell_at cells k = λ k l. get_or-set_other cells i k c More (λ same. absurd (omega (arith, same, l, behind))) in
+    record {
+      longer = omega (arith, h.longer, length-set cells i c);
+      stands = λ k l. others k l ∙ h.stands k l;
+      functions = record {
+        words = λ k. elim (cases_lt k (length old)) [
+          | inl l ↦ ap words_of_function (others k l) ∙ h.functions.words k
+          | inr l ↦ let past = none_past old k l in none_set cells i k c none (h.functions.words k ∙ past) ∙ sym past
+        ];
+      };
+    }
 
 -- ---- what is made
 
@@ -86,28 +124,28 @@ module _ (old : List Cell) where
   room_makes : (cost : ℕ) (k : Stock) → CellsStay old k.cells.cells → Makes Anything (with_room cost k)
   room_makes cost k h = room_makes_at (room_stop k.counts k.cells cost) cost k h
 
-  object_makes : (P : Tagged → Type 0) (at : ℕ → Tagged) (c : Cell) (k : Stock) → ((n : ℕ) → length old ≤ n → P (at n)) → CellsStay old k.cells.cells → Makes P (object_made at c k)
-  object_makes P at c k f h = then_makes Anything P (with_room (cost_of c) k) _ (room_makes (cost_of c) k h) (λ u k h t. (stand_added old k.cells.cells (placed c) h, f (length k.cells.cells) h.longer))
+  object_makes : (P : Tagged → Type 0) (at : ℕ → Tagged) (c : Cell) (k : Stock) → words_of_function c ≡ None → ((n : ℕ) → length old ≤ n → P (at n)) → CellsStay old k.cells.cells → Makes P (object_made at c k)
+  object_makes P at c k none f h = then_makes Anything P (with_room (cost_of c) k) _ (room_makes (cost_of c) k h) (λ u k h t. (stand_added old k.cells.cells c none h, f (length k.cells.cells) h.longer))
 
   pair_makes : (a d : Tagged) (k : Stock) → CellsStay old k.cells.cells → Makes IsBehind (pair_made a d k)
-  pair_makes a d k h = object_makes IsBehind (λ n. PairAt n) (PairCell a d) k (λ n l. (n, l, refl)) h
+  pair_makes a d k h = object_makes IsBehind (λ n. PairAt n) (PairCell a d) k refl (λ n l. (n, l, refl)) h
 
   identifier_makes : (name : Name) (k : Stock) → CellsStay old k.cells.cells → Makes Anything (identifier_made name k)
   identifier_makes name k h = at (named_among k.cells.cells name (ids_from k.cells.cells k.head))
     where
       at : (o : Option ℕ) → Makes Anything (identifier_at o name k)
       at (Some i) = (h, tt)
-      at None = then_makes Anything Anything (with_room (id_cost name) k) _ (room_makes (id_cost name) k h) (λ u k h t. (stand_added old _ _ (stand_added old k.cells.cells (placed (StrCell name)) h), tt))
+      at None = then_makes Anything Anything (with_room (id_cost name) k) _ (room_makes (id_cost name) k h) (λ u k h t. (stand_added old _ _ refl (stand_added old k.cells.cells (StrCell name) refl h), tt))
 
   atom_makes : (a : Atom) (k : Stock) → CellsStay old k.cells.cells → Makes Anything (atom_made a k)
   atom_makes (Integer z) k h = (h, tt)
   atom_makes (Identifier name) k h = identifier_makes name k h
-  atom_makes (String bytes) k h = object_makes Anything (λ n. StrAt n) (StrCell bytes) k (λ n l. tt) h
+  atom_makes (String bytes) k h = object_makes Anything (λ n. StrAt n) (StrCell bytes) k refl (λ n l. tt) h
 
   -- ---- lists
 
   cdr_stands : (p v : Tagged) (k : Stock) → IsBehind p → CellsStay old k.cells.cells → CellsStay old (stock_with_cdr p v k).cells.cells
-  cdr_stands p v k b h = rw b.2 (stand_changed old k.cells.cells b.0 (PairCell (car_of k.cells.cells (PairAt b.0)) v) b.1 h)
+  cdr_stands p v k b h = rw b.2 (stand_changed old k.cells.cells b.0 (PairCell (car_of k.cells.cells (PairAt b.0)) v) refl b.1 h)
 
   hung_makes : (c : PairChain) (p : Tagged) (k : Stock) → IsChainBehind c → IsBehind p → CellsStay old k.cells.cells → Makes IsChainBehind (chain_hung c p k)
   hung_makes None p k b e h = (h, e)
@@ -124,7 +162,7 @@ module _ (old : List Cell) where
   vector_makes c k h = let xs = elements_of k.cells.cells c in at xs (nat_le (length xs) (2 ^ 31))
     where
       at : (xs : List Tagged) (b : Bool) → Makes Anything (if b then object_made (λ n. VectorAt n) (VectorCell xs) k else Wants stop.Cells k)
-      at xs true = object_makes Anything (λ n. VectorAt n) (VectorCell xs) k (λ n l. tt) h
+      at xs true = object_makes Anything (λ n. VectorAt n) (VectorCell xs) k refl (λ n l. tt) h
       at xs false = h
 
   quote_makes : (v : Tagged) (k : Stock) → CellsStay old k.cells.cells → Makes Anything (quote_made v k)

@@ -2,7 +2,7 @@
 use Rattle.std.proofs.Common.{◌≡◌, ◌∙◌, sym, ℕ, zero, suc, ◌+◌, ◌-◌, ◌*◌, ◌^◌, ◌≤◌, ◌==◌, nat_le, Bool, true, false, if◌then◌else◌, List, [], ◌∷◌, ◌++◌, length, Option, Some, None, refl, ap, subst}
 use Rattle.std.specs.Prelude.{nat_lt, Result, Ok, Err, IfOk}
 use Rattle.rl_tags.specs.Tagged.{Tagged, PairAt, StrAt, VectorAt}
-use Rattle.rl_cells.specs.Cell.{Cell, PairCell, StrCell, VectorCell, car_of, cost_of, placed}
+use Rattle.rl_cells.specs.Cell.{Cell, PairCell, StrCell, VectorCell, car_of, cost_of}
 use Rattle.rl_tree.specs.Bytes.{is_digit, is_name_byte, raised}
 use Rattle.rl_tree.specs.Name.{Name, quote_name}
 use Rattle.rl_text.specs.Byte.{Mark, Open, Close, Dot, Quote, OpenVector, CloseVector, Class, Blank, Percent, Marks, Text, Escape, Letter, Digit, Sign, Special, Nothing, class_of}
@@ -12,6 +12,7 @@ use Rattle.rl_text.specs.Reader.{Begun, Going, Dotted, Shut, ReaderFrame, Listin
 use Rattle.rl_world.specs.Counts.{CountsAreTaken, WorldCounts, room_stop, roomed, ticked}
 use Rattle.rl_world.specs.declared.stop.Stop.{Stop}
 use Rattle.rl_world.specs.declared.stop.Stop.TheVariants as stop
+use Rattle.rl_syms.specs.Functions.{words_of_function}
 use Rattle.rl_syms.specs.Made.{id_cost}
 use Rattle.rl_syms.specs.Table.{ids_from, nil_value}
 use Rattle.rl_world.specs.declared.world.World.{World}
@@ -77,26 +78,26 @@ module _ (law : CountsAreTaken) (start : Stock) where
   room_makes : (cost : ℕ) (k : Stock) → Stood k → Makes Anything (with_room cost k)
   room_makes cost k h = room_makes_at (room_stop k.counts k.cells cost) cost k h
 
-  object_makes : (P : Tagged → Type 0) (at : ℕ → Tagged) (c : Cell) (k : Stock) → ((n : ℕ) → length start.cells.cells ≤ n → P (at n)) → Stood k → Makes P (object_made at c k)
-  object_makes P at c k f h = then_makes Anything P (with_room (cost_of c) k) _ (room_makes (cost_of c) k h) (λ u k h t. (record { cells = stand_added start.cells.cells k.cells.cells (placed c) h.cells; counts = h.counts }, f (length k.cells.cells) h.cells.longer))
+  object_makes : (P : Tagged → Type 0) (at : ℕ → Tagged) (c : Cell) (k : Stock) → words_of_function c ≡ None → ((n : ℕ) → length start.cells.cells ≤ n → P (at n)) → Stood k → Makes P (object_made at c k)
+  object_makes P at c k none f h = then_makes Anything P (with_room (cost_of c) k) _ (room_makes (cost_of c) k h) (λ u k h t. (record { cells = stand_added start.cells.cells k.cells.cells c none h.cells; counts = h.counts }, f (length k.cells.cells) h.cells.longer))
 
   pair_makes : (a d : Tagged) (k : Stock) → Stood k → Makes (IsBehind start) (pair_made a d k)
-  pair_makes a d k h = object_makes (IsBehind start) (λ n. PairAt n) (PairCell a d) k (λ n l. (n, l, refl)) h
+  pair_makes a d k h = object_makes (IsBehind start) (λ n. PairAt n) (PairCell a d) k refl (λ n l. (n, l, refl)) h
 
   identifier_makes : (name : Name) (k : Stock) → Stood k → Makes Anything (identifier_made name k)
   identifier_makes name k h = at (named_among k.cells.cells name (ids_from k.cells.cells k.head))
     where
       at : (o : Option ℕ) → Makes Anything (identifier_at o name k)
       at (Some i) = (h, tt)
-      at None = then_makes Anything Anything (with_room (id_cost name) k) _ (room_makes (id_cost name) k h) (λ u k h t. (record { cells = stand_added start.cells.cells _ _ (stand_added start.cells.cells k.cells.cells (placed (StrCell name)) h.cells); counts = h.counts }, tt))
+      at None = then_makes Anything Anything (with_room (id_cost name) k) _ (room_makes (id_cost name) k h) (λ u k h t. (record { cells = stand_added start.cells.cells _ _ refl (stand_added start.cells.cells k.cells.cells (StrCell name) refl h.cells); counts = h.counts }, tt))
 
   atom_makes : (a : Atom) (k : Stock) → Stood k → Makes Anything (atom_made a k)
   atom_makes (Integer z) k h = (h, tt)
   atom_makes (Identifier name) k h = identifier_makes name k h
-  atom_makes (String bytes) k h = object_makes Anything (λ n. StrAt n) (StrCell bytes) k (λ n l. tt) h
+  atom_makes (String bytes) k h = object_makes Anything (λ n. StrAt n) (StrCell bytes) k refl (λ n l. tt) h
 
   cdr_stands : (p v : Tagged) (k : Stock) → (IsBehind start) p → Stood k → Stood (stock_with_cdr p v k)
-  cdr_stands p v k b h = record { cells = rw b.2 (stand_changed start.cells.cells k.cells.cells b.0 (PairCell (car_of k.cells.cells (PairAt b.0)) v) b.1 h.cells); counts = h.counts }
+  cdr_stands p v k b h = record { cells = rw b.2 (stand_changed start.cells.cells k.cells.cells b.0 (PairCell (car_of k.cells.cells (PairAt b.0)) v) refl b.1 h.cells); counts = h.counts }
 
   hung_makes : (c : PairChain) (p : Tagged) (k : Stock) → (IsChainBehind start) c → (IsBehind start) p → Stood k → Makes (IsChainBehind start) (chain_hung c p k)
   hung_makes None p k b e h = (h, e)
@@ -113,7 +114,7 @@ module _ (law : CountsAreTaken) (start : Stock) where
   vector_makes c k h = let xs = elements_of k.cells.cells c in at xs (nat_le (length xs) (2 ^ 31))
     where
       at : (xs : List Tagged) (b : Bool) → Makes Anything (if b then object_made (λ n. VectorAt n) (VectorCell xs) k else Wants stop.Cells k)
-      at xs true = object_makes Anything (λ n. VectorAt n) (VectorCell xs) k (λ n l. tt) h
+      at xs true = object_makes Anything (λ n. VectorAt n) (VectorCell xs) k refl (λ n l. tt) h
       at xs false = h
 
   quote_makes : (v : Tagged) (k : Stock) → Stood k → Makes Anything (quote_made v k)

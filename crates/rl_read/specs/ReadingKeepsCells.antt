@@ -2,15 +2,17 @@
 use Rattle.std.specs.Prelude.{◌≡◌, ℕ, ◌<◌, ◌≤◌, Bool, List, length}
 use Rattle.rl_tags.specs.Tagged.{Tagged}
 use Rattle.rl_cells.specs.Cell.{Cell, cell_at}
+use Rattle.rl_syms.specs.Functions.{KeepsHeldFunctions}
 use Rattle.rl_text.specs.Reader.{Read, NoneLeft, Refused, Stopped, read_by}
 use Rattle.rl_world.specs.Counts.{TakesTurnsAndCells}
 use Rattle.rl_world.specs.declared.stop.Stop.{Stop}
 use Rattle.rl_read.specs.Stock.{Stock, in_stock}
 
--- the cells that stood stand, with more behind them
+-- the cells that stood stand, with more behind them, among which no held function begins
 pub record CellsStay (old new : List Cell) : Type 0 where
   pub longer : length old ≤ length new
   pub stands : (k : ℕ) → k < length old → cell_at new k ≡ cell_at old k
+  pub functions : KeepsHeldFunctions old new
 
 -- however a text ends
 pub record ReadingKeepsCells : Type 0 where

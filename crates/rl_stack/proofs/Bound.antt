@@ -7,6 +7,7 @@ use Rattle.rl_tags.specs.Tagged.{Tagged}
 use Rattle.rl_tree.specs.Value.{Value, Id}
 use Rattle.rl_cells.specs.Cell.{Cell, CellStore, is_live}
 use Rattle.rl_syms.specs.Contents.{value_of}
+use Rattle.rl_syms.specs.Functions.{KeepsHeldFunctions}
 use Rattle.rl_syms.specs.Numbers.{IdentifiersAreNumbered}
 use Rattle.rl_syms.specs.Table.{is_id}
 use Rattle.rl_world.specs.Levels.{WorldLevels}
@@ -150,6 +151,7 @@ unbinds_one w x y old new id local hid levels e live stands sets g alone shows g
       saved = refl;
       levels = lower ∙ ap (λ n. record w.levels { level = w.levels.level - n }) (let z : levels ≡ levels + 0 = omega arith in z);
       rest = sides w x y levels alone.rest left;
+      functions = subst (λ (c : CellStore). KeepsHeldFunctions w.cells.cells c.cells) (sym cells) alone.functions;
       stands = record { nest = subst (λ (z : WorldLevels). z.bound ≤ new.nest) (sym lower) st.nest; levels = subst (λ (z : WorldLevels). levels_of_frames new.frames + levels_of_saved new.saved + length z.walk ≤ z.level) (sym lower) (omega (arith, st.levels)) };
       live = stack_kept w y new (grows_then w x y g grows) (record { frames = l.frames; unframed = l.unframed; saved = l.saved.2; registers = l.registers });
       grows = grows_then w x y g grows;
@@ -170,6 +172,7 @@ unmarks_one w old new f e i live stands =
       saved = refl;
       levels = ap (λ n. record w.levels { level = n }) (let z : w.levels.level ≡ w.levels.level - 0 = omega arith in z);
       rest = refl;
+      functions = record { words = λ k. refl };
       stands = record { nest = st.nest; levels = omega (arith, st.levels) };
       live = record { frames = l.frames; unframed = l.unframed; saved = l.saved.1; registers = l.registers };
       grows = record { world = i; live = λ v h. h; values = λ v h. refl };
@@ -186,6 +189,7 @@ undoes_none w old new e same i live stands = subst (UndoesNewest 1 w w old) (sym
   saved = ap (λ saves. record old { saved = saves }) (e ∙ sym (ap (drop 1) e));
   levels = ap (λ n. record w.levels { level = n }) (let z : w.levels.level ≡ w.levels.level - 0 = omega arith in z) ∙ ap (λ saves. record w.levels { level = w.levels.level - levels_of_saved (take 1 saves) }) (sym e);
   rest = refl;
+  functions = record { words = λ k. refl };
   stands = stands;
   live = live;
   grows = record { world = i; live = λ v h. h; values = λ v h. refl };

@@ -48,6 +48,7 @@ undoes_nothing w stack i live stands = record {
   saved = refl;
   levels = ap (λ n. record w.levels { level = n }) (let z : w.levels.level ≡ w.levels.level - 0 = omega arith in z);
   rest = refl;
+  functions = record { words = λ k. refl };
   stands = stands;
   live = live;
   grows = record { world = i; live = λ v h. h; values = λ v h. refl };
@@ -66,6 +67,7 @@ undoes_more n w x y old mid new a b = record {
       ∙ ap (λ saves. record w.levels { level = w.levels.level - levels_of_saved (take n old.saved) - levels_of_saved (take 1 saves) }) first
       ∙ ap (λ k. record w.levels { level = k }) sum;
   rest = b.rest ∙ ap (λ (z : World). record z { cells = y.cells; syms = y.syms; counts = y.counts; levels = y.levels }) a.rest;
+  functions = record { words = λ k. b.functions.words k ∙ a.functions.words k };
   stands = b.stands;
   live = b.live;
   grows = grows_then w x y a.grows b.grows;

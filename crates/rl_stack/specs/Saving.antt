@@ -1,6 +1,7 @@
 -- What bindings and marks do to a stack.
 use Rattle.std.specs.Prelude.{◌≡◌, ◌≢◌, ℕ, zero, suc, ◌-◌, List, [], ◌∷◌, length, take, drop, Option}
 use Rattle.rl_tags.specs.Tagged.{Tagged}
+use Rattle.rl_syms.specs.Functions.{KeepsHeldFunctions}
 use Rattle.rl_world.specs.declared.world.World.{World}
 use Rattle.rl_meaning.specs.State.{State}
 use Rattle.rl_state.specs.Worlds.{WorldGrows}
@@ -21,6 +22,7 @@ pub record UndoesNewest (n : ℕ) (w x : World) (old new : StackState) : Type 0 
   pub saved : new ≡ record old { saved = drop n old.saved }
   pub levels : x.levels ≡ record w.levels { level = w.levels.level - levels_of_saved (take n old.saved) }
   pub rest : x ≡ record w { cells = x.cells; syms = x.syms; counts = x.counts; levels = x.levels }
+  pub functions : KeepsHeldFunctions w.cells.cells x.cells.cells
   pub stands : StandsIn x new
   pub live : IsStackLive x.cells.cells new
   pub grows : WorldGrows w x

@@ -12,6 +12,7 @@ use Rattle.rl_cells.specs.Cell as cell
 use Rattle.rl_cells.specs.Cell.{Cell, BlockCell, StrCell, IsClosed, cell_at, cost_of, is_id_cell, is_live, is_str, bytes_of, words_in}
 use Rattle.rl_syms.specs.Contents.{ids_before, value_of}
 use Rattle.rl_syms.specs.Frame.{Adds}
+use Rattle.rl_syms.specs.Functions.{FunctionsStand, KeepsHeldFunctions}
 use Rattle.rl_syms.specs.Laws.{AreIdentifiers}
 use Rattle.rl_syms.specs.Made.{Enters, Finds, id_cost, new_id, new_words, with_id}
 use Rattle.rl_syms.specs.Opened.{IsBlank}
@@ -385,10 +386,11 @@ loose_table w r cs names v name step m t =
     let x = named_final w r cs names v name None w.syms.head step m in
     subst (λ (y : World). IsTable y.cells.cells y.syms.head) x t
 
-pub entered_rest : (law : CountsAreTaken) (w r : World) (cs : cell.CellStore) (names : Syms) (cost : ℕ) → r ≡ record w { counts = roomed w.counts cost } → ObjectsAlone w (record r { cells = cs; syms = names })
-entered_rest law w r cs names cost e = record {
-  rest = subst (λ (y : World). record y { cells = cs; syms = names } ≡ record w { cells = cs; syms = names; counts = y.counts }) (sym e) refl;
-  counts = subst (λ (y : World). TakesTurnsAndCells w.counts y.counts) (sym e) (law.cells w.counts cost);
+pub entered_rest : (law : CountsAreTaken) (stand : FunctionsStand) (w r : World) (cs : cell.CellStore) (names : Syms) (v : Tagged) (name : Name) (link after : Option Tagged) (step : ℕ → ℕ) → IsNamedIn w r cs names v name link after step → ObjectsAlone w (record r { cells = cs; syms = names })
+entered_rest law stand w r cs names v name link after step m = record {
+  rest = subst (λ (y : World). record y { cells = cs; syms = names } ≡ record w { cells = cs; syms = names; counts = y.counts }) (sym m.counted) refl;
+  counts = subst (λ (y : World). TakesTurnsAndCells w.counts y.counts) (sym m.counted) (law.cells w.counts (id_cost name));
+  functions = subst (λ (x : cell.CellStore). KeepsHeldFunctions w.cells.cells x.cells) (sym m.cells) (subst (λ (y : World). KeepsHeldFunctions w.cells.cells (with_id y.cells name nil_value link).cells) (sym m.counted) (stand.named w.cells name nil_value link));
 }
 
 pub table_counted : (w r : World) (k : counted.WorldCounts) → r ≡ record w { counts = k } → IsTable w.cells.cells w.syms.head → IsTable r.cells.cells r.syms.head

@@ -9,6 +9,7 @@ pub mod ReadingTied
 pub mod Room
 pub mod Made
 pub mod Set
+pub mod HeldWords
 pub mod Steps
 pub mod Pairs
 pub mod Walking

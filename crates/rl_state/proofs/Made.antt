@@ -10,6 +10,7 @@ use Rattle.rl_cells.specs.Cell as cell
 use Rattle.rl_cells.specs.Cell.{Cell, PairCell, StrCell, VectorCell, IsClosed, cell_at, cost_of, grown, has_room, placed, is_id_cell, is_live, is_str, more_counted}
 use Rattle.rl_syms.specs.Contents.{ids_before, value_of, store_of}
 use Rattle.rl_syms.specs.Frame.{KeepsIdentifiers, words_of_id}
+use Rattle.rl_syms.specs.Functions.{FunctionsStand, KeepsHeldFunctions, words_of_function}
 use Rattle.rl_syms.specs.Laws.{IsKept}
 use Rattle.rl_syms.specs.Numbers.{IdentifiersAreNumbered}
 use Rattle.rl_syms.specs.Table.{is_id}
@@ -163,7 +164,7 @@ made_grows law w c none some i =
       values = same_made law w c;
     }
 
-shows_made : (law : AreCellLaws) (w : World) (c : Cell) (s : State) (store : Store) → words_of_id c ≡ None → 0 < cost_of c → IsWorld w → IsClosed w.cells.cells → ShowsState w s → store ≡ store_of (w.cells.cells ++ placed c)
+pub shows_made : (law : AreCellLaws) (w : World) (c : Cell) (s : State) (store : Store) → words_of_id c ≡ None → 0 < cost_of c → IsWorld w → IsClosed w.cells.cells → ShowsState w s → store ≡ store_of (w.cells.cells ++ placed c)
     → ShowsState (with_made w c) (record s { counts = roomed_in w.cells w.counts (cost_of c); store = store })
 shows_made law w c s store none some i closed shown e =
     let b = law.blocks.made w.cells.cells c none in
@@ -198,7 +199,7 @@ value_made law w c at s next v store none some i closed stop shown then_is store
 }
 
 -- room is counted, and then the object made
-final_is : (w r : World) (cs : cell.CellStore) (c : Cell) → r ≡ record w { counts = roomed w.counts (cost_of c) } → cs ≡ grown r.cells c → record r { cells = cs } ≡ with_made w c
+pub final_is : (w r : World) (cs : cell.CellStore) (c : Cell) → r ≡ record w { counts = roomed w.counts (cost_of c) } → cs ≡ grown r.cells c → record r { cells = cs } ≡ with_made w c
 final_is w r cs c e f = ap (λ x. record r { cells = x }) f ∙ ap (λ (x : World). record x { cells = grown x.cells c }) e
 
 -- the calls of a world one after the other: room, and the object at the next place
@@ -306,28 +307,39 @@ vector_stops w x n why e i stop s shown =
 
 -- ---- what is beside the objects
 
-pub rest_made : (law : CountsAreTaken) (w r : World) (cs : cell.CellStore) (cost : ℕ) → r ≡ record w { counts = roomed w.counts cost } → ObjectsAlone w (record r { cells = cs })
-rest_made law w r cs cost e = record {
+pub rest_made : (law : CountsAreTaken) (stand : FunctionsStand) (w r : World) (cs : cell.CellStore) (c : Cell) (cost : ℕ) → words_of_function c ≡ None → r ≡ record w { counts = roomed w.counts cost } → cs ≡ grown r.cells c → ObjectsAlone w (record r { cells = cs })
+rest_made law stand w r cs c cost none e made = record {
   rest = subst (λ (x : World). record x { cells = cs } ≡ record w { cells = cs; syms = x.syms; counts = x.counts }) (sym e) refl;
   counts = subst (λ (x : World). TakesTurnsAndCells w.counts x.counts) (sym e) (law.cells w.counts cost);
+  functions = subst (λ (x : cell.CellStore). KeepsHeldFunctions w.cells.cells x.cells) (sym made) (subst (λ (x : World). KeepsHeldFunctions w.cells.cells (x.cells.cells ++ placed c)) (sym e) (stand.made w.cells.cells c none));
 }
+
+-- where the cells are the same
+pub same_functions : (w x : World) → x.cells ≡ w.cells → KeepsHeldFunctions w.cells.cells x.cells.cells
+same_functions w x e = subst (λ (s : cell.CellStore). KeepsHeldFunctions w.cells.cells s.cells) (sym e) (record { words = λ k. refl })
+
+pub functions_both : (a b c : List Cell) → KeepsHeldFunctions a b → KeepsHeldFunctions b c → KeepsHeldFunctions a c
+functions_both a b c f g = record { words = λ k. g.words k ∙ f.words k }
 
 pub rest_refl : (law : CountsAreTaken) (w x : World) → x ≡ w → ObjectsAlone w x
 rest_refl law w x e = record {
   rest = subst (λ (y : World). y ≡ record w { cells = y.cells; syms = y.syms; counts = y.counts }) (sym e) refl;
   counts = subst (λ (y : World). TakesTurnsAndCells w.counts y.counts) (sym e) (law.none w.counts);
+  functions = same_functions w x (ap (λ (y : World). y.cells) e);
 }
 
 pub rest_trans : (law : CountsAreTaken) (w x y : World) → ObjectsAlone w x → ObjectsAlone x y → ObjectsAlone w y
 rest_trans law w x y a b = record {
   rest = b.rest ∙ ap (λ (z : World). record z { cells = y.cells; syms = y.syms; counts = y.counts }) a.rest;
   counts = law.both w.counts x.counts y.counts a.counts b.counts;
+  functions = functions_both w.cells.cells x.cells.cells y.cells.cells a.functions b.functions;
 }
 
 pub rest_ticked : (law : CountsAreTaken) (w x : World) → x ≡ record w { counts = ticked w.counts } → ObjectsAlone w x
 rest_ticked law w x e = record {
   rest = subst (λ (y : World). y ≡ record w { cells = y.cells; syms = y.syms; counts = y.counts }) (sym e) refl;
   counts = subst (λ (y : World). TakesTurnsAndCells w.counts y.counts) (sym e) (law.turn w.counts);
+  functions = same_functions w x (ap (λ (y : World). y.cells) e);
 }
 
 -- ---- room that was counted is there

@@ -5,9 +5,10 @@ use Rattle.std.proofs.lemmas.List.{length-map, length-set}
 use Rattle.std.specs.Prelude.{option_map, slice_set}
 use Rattle.rl_tags.specs.Tagged.{Tagged, Number, IdAt, StrAt, PairAt, VectorAt, BigAt, FunAt, index_of, tag_of}
 use Rattle.rl_tags.specs.declared.Tag.TheVariants as tag
-use Rattle.rl_tree.specs.Value.{Value, Ref, Object, Pair, Vector, changed_store}
+use Rattle.rl_tree.specs.Value.{Value, Ref, Object, Pair, Store, Vector, changed_store}
 use Rattle.rl_cells.specs.Cell.{Cell, PairCell, VectorCell, IsClosed, changed_at, is_live, is_pair, is_vector, car_of, cdr_of, vector_of}
-use Rattle.rl_syms.specs.Contents.{value_of, number_at}
+use Rattle.rl_syms.specs.Contents.{value_of, number_at, store_of}
+use Rattle.rl_syms.specs.Functions.{KeepsHeldFunctions}
 use Rattle.rl_syms.specs.Laws.{ChangesObject, IsRead}
 use Rattle.rl_state.specs.CellLaws.{AreCellLaws}
 use Rattle.rl_syms.specs.Frame.{KeepsIdentifiers}
@@ -93,24 +94,25 @@ pub record Alters (old new : List Cell) (r : ℕ) (o : Object) : Type 0 where
   pub keeps : KeepsIdentifiers old new
   pub changes : ChangesObject old new r o
 
-object_grows : (law : AreCellLaws) (w : World) (new : List Cell) (r : ℕ) (o : Object) → Alters w.cells.cells new r o → IsWorld w → WorldGrows w (with_list w new)
-object_grows law w new r o a i =
+-- cells that leave identifiers, and in which values mean what they meant
+pub list_grows : (law : AreCellLaws) (w : World) (new : List Cell) → length new ≡ length w.cells.cells → KeepsIdentifiers w.cells.cells new → ((v : Tagged) → value_of new v ≡ value_of w.cells.cells v) → IsWorld w → WorldGrows w (with_list w new)
+list_grows law w new long keeps values i =
     record {
-      world = world_kept law w (record w.cells { cells = new }) w.counts a.keeps (λ v l. a.changes.values v) (running_changed w.cells w.counts new a.long i.running)
-          (expanding_kept w.cells.cells new w.counts.outermost (λ v h. law.kept.ids w.cells.cells new v a.keeps ∙ h) i.expanding) i;
-      live = a.keeps.live;
-      values = λ v l. a.changes.values v;
+      world = world_kept law w (record w.cells { cells = new }) w.counts keeps (λ v l. values v) (running_changed w.cells w.counts new long i.running)
+          (expanding_kept w.cells.cells new w.counts.outermost (λ v h. law.kept.ids w.cells.cells new v keeps ∙ h) i.expanding) i;
+      live = keeps.live;
+      values = λ v l. values v;
     }
 
-object_shown : (law : AreCellLaws) (w : World) (new : List Cell) (r : ℕ) (o : Object) → Alters w.cells.cells new r o → IsWorld w → IsClosed w.cells.cells → (s : State) → ShowsState w s
-    → ShowsState (with_list w new) (record s { store = changed_store s.store r o })
-object_shown law w new r o a i closed s shown =
+pub list_shown : (law : AreCellLaws) (w : World) (new : List Cell) (s : State) (store : Store) → length new ≡ length w.cells.cells → KeepsIdentifiers w.cells.cells new → ((v : Tagged) → value_of new v ≡ value_of w.cells.cells v) → store ≡ store_of new
+    → IsWorld w → IsClosed w.cells.cells → ShowsState w s → ShowsState (with_list w new) (record s { store = store })
+list_shown law w new s store long keeps values stored i closed shown =
     let cells = w.cells.cells in
-    let kept = symbols_kept law.kept law.numbered cells new w.syms.head s a.keeps i.table closed (λ v l. a.changes.values v) shown.symbols in
+    let kept = symbols_kept law.kept law.numbered cells new w.syms.head s keeps i.table closed (λ v l. values v) shown.symbols in
     record {
-      store = ap (λ x. changed_store x r o) shown.store ∙ sym a.changes.store;
+      store = stored;
       symbols = record { many = kept.many; symbols = kept.symbols; values = kept.values };
-      counts = shown.counts ∙ sym (counts_changed w.cells w.counts new a.long (λ v l. a.changes.values v) i.expanding);
+      counts = shown.counts ∙ sym (counts_changed w.cells w.counts new long (λ v l. values v) i.expanding);
       gensyms = shown.gensyms;
       column = shown.column;
       line_length = shown.line_length;
@@ -126,16 +128,19 @@ pub record IsAltered (w x : World) (new : List Cell) (r : ℕ) (o : Object) : Ty
   pub closed : IsClosed w.cells.cells
 
 pub altered_grows : (law : AreCellLaws) (w x : World) (new : List Cell) (r : ℕ) (o : Object) → IsAltered w x new r o → IsWorld w → WorldGrows w x
-altered_grows law w x new r o a i = subst (λ y. WorldGrows w y) (sym a.is) (object_grows law w new r o a.alters i)
+altered_grows law w x new r o a i = subst (λ y. WorldGrows w y) (sym a.is) (list_grows law w new a.alters.long a.alters.keeps a.alters.changes.values i)
 
 pub altered_shown : (law : AreCellLaws) (w x : World) (new : List Cell) (r : ℕ) (o : Object) → IsAltered w x new r o → IsWorld w → (s : State) → ShowsState w s
     → ShowsState x (record s { store = changed_store s.store r o })
-altered_shown law w x new r o a i s shown = subst (λ y. ShowsState y (record s { store = changed_store s.store r o })) (sym a.is) (object_shown law w new r o a.alters i a.closed s shown)
+altered_shown law w x new r o a i s shown =
+    subst (λ y. ShowsState y (record s { store = changed_store s.store r o })) (sym a.is)
+    (list_shown law w new s (changed_store s.store r o) a.alters.long a.alters.keeps a.alters.changes.values (ap (λ os. changed_store os r o) shown.store ∙ sym a.alters.changes.store) i a.closed shown)
 
-pub altered_rest : (law : CountsAreTaken) (w x : World) (new : List Cell) → x ≡ with_list w new → ObjectsAlone w x
-altered_rest law w x new e = record {
+pub altered_rest : (law : CountsAreTaken) (w x : World) (new : List Cell) → KeepsHeldFunctions w.cells.cells new → x ≡ with_list w new → ObjectsAlone w x
+altered_rest law w x new same e = record {
   rest = subst (λ (y : World). y ≡ record w { cells = y.cells; syms = y.syms; counts = y.counts }) (sym e) refl;
   counts = subst (λ (y : World). TakesTurnsAndCells w.counts y.counts) (sym e) (law.none w.counts);
+  functions = subst (λ (y : World). KeepsHeldFunctions w.cells.cells y.cells.cells) (sym e) same;
 }
 
 pub altered_is : (w : World) (cs : cell.CellStore) (new : List Cell) → cs ≡ record w.cells { cells = new } → record w { cells = cs } ≡ with_list w new
@@ -150,7 +155,7 @@ second_same p q e = let f : p ≡ q = cc in ap (λ (p : Value × Value). p.1) f
 places_same : (xs ys : List Value) → Some xs ≡ Some ys → xs ≡ ys
 places_same xs ys e = cc
 
-changed_long : (cells : List Cell) (v : Tagged) (c : Cell) → length (changed_at cells v c) ≡ length cells
+pub changed_long : (cells : List Cell) (v : Tagged) (c : Cell) → length (changed_at cells v c) ≡ length cells
 changed_long cells (Number k) c = refl
 changed_long cells (IdAt k) c = length-set cells k c
 changed_long cells (StrAt k) c = length-set cells k c

@@ -15,6 +15,7 @@ use Rattle.rl_syms.specs.Numbers.{IdentifiersAreNumbered}
 use Rattle.rl_syms.specs.Table as table
 use Rattle.rl_syms.specs.Table.{IsTable, SymbolCells, ids_from, is_id, symbol_in_cells}
 use Rattle.rl_syms.specs.Frame.{KeepsMeaning, Sets}
+use Rattle.rl_syms.specs.Functions.{FunctionsStand}
 use Rattle.rl_syms.specs.declared.table.Syms.{Syms}
 use Rattle.rl_world.specs.Counts.{CountsAreTaken, TakesTurnsAndCells}
 use Rattle.rl_world.specs.declared.world.World.{World}
@@ -345,10 +346,11 @@ field_set w cs names id y e f t sets = record {
 pub field_grows : (law : IdentifiersAreNumbered) (w x : World) (id : Tagged) (y : SymbolCells) → IsFieldSet w x id y → IsWorld w → WorldGrows w x
 field_grows law w x id y s i = subst (λ z. WorldGrows w z) (sym s.is) (set_grows law w x.cells.cells id y i s.table s.sets)
 
-pub field_rest : (law : CountsAreTaken) (w x : World) (id : Tagged) (y : SymbolCells) → IsFieldSet w x id y → ObjectsAlone w x
-field_rest law w x id y s = record {
+pub field_rest : (law : CountsAreTaken) (stand : FunctionsStand) (w x : World) (id : Tagged) (y : SymbolCells) → is_id w.cells.cells id ≡ true → IsFieldSet w x id y → ObjectsAlone w x
+field_rest law stand w x id y h s = record {
   rest = subst (λ (z : World). z ≡ record w { cells = z.cells; syms = z.syms; counts = z.counts }) (sym s.is) refl;
   counts = subst (λ (z : World). TakesTurnsAndCells w.counts z.counts) (sym s.is) (law.none w.counts);
+  functions = stand.set w.cells.cells x.cells.cells id y h s.sets;
 }
 
 pub properties_shown : (law : IdentifiersAreNumbered) (w x : World) (id v : Tagged) → IsFieldSet w x id (record (symbol_in_cells w.cells.cells (index_of id)) { plist = v }) → IsWorld w → is_id w.cells.cells id ≡ true

@@ -1,5 +1,6 @@
 -- What is known of cells: the laws of the crates below, together.
 use Rattle.rl_cells.specs.Laws.{IsAdded}
+use Rattle.rl_syms.specs.Functions.{FunctionsStand}
 use Rattle.rl_syms.specs.Laws.{ChangesMeaning, IsKept, IsRead, LeaveIdentifiers, MakesMeaning, NamesEnter}
 use Rattle.rl_syms.specs.Readings.{NamingMeans}
 use Rattle.rl_syms.specs.Numbers.{IdentifiersAreNumbered}
@@ -19,3 +20,4 @@ pub record AreCellLaws : Type 0 where
   pub bounds : AreBoundsKept
   pub enough : RoomIsEnough
   pub found : NamesAreFound
+  pub functions : FunctionsStand

@@ -50,6 +50,11 @@ abbrev pub MeansDone : State → Outcome (Unit {0}) → Result (Unit {0}) stops.
 MeansDone s o (Ok v) w = EndsShown s o (λ t. Done tt t) w
 MeansDone s o (Err why) w = StopsWith s o (stop_in w.cells.cells why)
 
+-- a step by which a value is made that the state does not hold
+abbrev pub MeansUnseen : State → Outcome (Unit {0}) → Result Tagged stops.Stop → World → Type 0
+MeansUnseen s o (Ok v) w = EndsShown s o (λ t. Done tt t) w
+MeansUnseen s o (Err why) w = StopsWith s o (stop_in w.cells.cells why)
+
 abbrev pub MeansAnswer : State → Outcome Value → steps.NStep → World → Type 0
 MeansAnswer s o (step.Done v) w = EndsShown s o (λ t. Done (value_of w.cells.cells v) t) w
 MeansAnswer s o (step.Error n m) w = EndsShown s o (λ t. Failed (number_of n) (value_of w.cells.cells m) t) w

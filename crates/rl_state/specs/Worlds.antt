@@ -4,6 +4,7 @@ use Rattle.std.specs.Option.{ForSome}
 use Rattle.rl_tags.specs.Tagged.{Tagged, index_of}
 use Rattle.rl_tags.specs.Ids.{t_id, emsg_star_id}
 use Rattle.rl_cells.specs.Cell.{Cell, CellStore, is_live}
+use Rattle.rl_syms.specs.Functions.{KeepsHeldFunctions}
 use Rattle.rl_syms.specs.Table.{IsTable, is_id}
 use Rattle.rl_world.specs.Bounds.{BoundsAgree}
 use Rattle.rl_world.specs.Counts.{TakesTurnsAndCells, WorldCounts}
@@ -49,10 +50,11 @@ pub record WorldGrows (old new : World) : Type 0 where
   pub live : (v : Tagged) → is_live old.cells.cells v ≡ true → is_live new.cells.cells v ≡ true
   pub values : (v : Tagged) → is_live old.cells.cells v ≡ true → value_of new.cells.cells v ≡ value_of old.cells.cells v
 
--- of a world nothing but objects, names, and the turns and cells that were taken has changed: levels, output, input and notes are as they were
+-- of a world nothing but objects, names, and the turns and cells that were taken has changed: held functions, levels, output, input and notes are as they were
 pub record ObjectsAlone (old new : World) : Type 0 where
   pub rest : new ≡ record old { cells = new.cells; syms = new.syms; counts = new.counts }
   pub counts : TakesTurnsAndCells old.counts new.counts
+  pub functions : KeepsHeldFunctions old.cells.cells new.cells.cells
 
 -- of a world nothing but the turns that were taken, levels, and what waits to be printed has changed, and what walks kept stays below
 pub record PrintsAlone (old new : World) : Type 0 where

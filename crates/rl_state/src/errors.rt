@@ -11,7 +11,7 @@ ghost use Rattle.rl_meaning.specs.Errors.{fail as failing};
 ghost use Rattle.rl_tags.specs.Tagged.{Number};
 
 use crate::objects::pair;
-use rl_syms::laws::identifiers_are_numbered;
+use rl_syms::laws::{functions_stand, identifiers_are_numbered};
 use rl_tags::{EMSG_STAR, NIL, Val};
 use rl_world::laws::counts_are_taken;
 use rl_world::{NStep, World};
@@ -25,6 +25,7 @@ fn set_message(w: &mut World, v: Val)
     ensures rest { ObjectsAlone w.old w.new }
 {
     counts_are_taken();
+    functions_stand();
     identifiers_are_numbered();
     w.syms.set_value(&mut w.cells, EMSG_STAR, Some(v));
 }

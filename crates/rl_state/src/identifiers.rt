@@ -9,7 +9,7 @@ ghost use Rattle.rl_meaning.specs.Symbols.{symbol_at, with_symbol};
 ghost use Rattle.rl_state.specs.ShownState.{ShowsState, definition_in, number_in};
 ghost use Rattle.rl_state.specs.Worlds.{IsWorld, ObjectsAlone, WorldGrows};
 
-use rl_syms::laws::identifiers_are_numbered;
+use rl_syms::laws::{functions_stand, identifiers_are_numbered};
 use rl_tags::Val;
 use rl_tree::{Kind, VarKind};
 use rl_world::World;
@@ -65,6 +65,7 @@ pub fn set_properties(w: &mut World, id: Val, v: Val)
     ensures rest { ObjectsAlone w.old w.new }
 {
     counts_are_taken();
+    functions_stand();
     identifiers_are_numbered();
     w.syms.set_plist(&mut w.cells, id, v);
 }
@@ -80,6 +81,7 @@ pub fn set_definition(w: &mut World, id: Val, d: Option<(Kind, Val)>)
     ensures rest { ObjectsAlone w.old w.new }
 {
     counts_are_taken();
+    functions_stand();
     identifiers_are_numbered();
     w.syms.set_function(&mut w.cells, id, d);
 }
@@ -93,6 +95,7 @@ pub fn set_kind(w: &mut World, id: Val, k: VarKind)
     ensures rest { ObjectsAlone w.old w.new }
 {
     counts_are_taken();
+    functions_stand();
     identifiers_are_numbered();
     w.syms.set_kind(&mut w.cells, id, k);
 }

@@ -10,8 +10,8 @@ ghost use Rattle.rl_state.specs.CellLaws.{AreCellLaws};
 use rl_cells::laws::objects_are_added;
 use rl_read::laws::names_are_found;
 use rl_syms::laws::{
-    identifiers_are_numbered, meaning_of_change, meaning_of_making, meaning_of_naming,
-    meaning_of_reading, names_enter, others_leave_identifiers, table_is_kept,
+    functions_stand, identifiers_are_numbered, meaning_of_change, meaning_of_making,
+    meaning_of_naming, meaning_of_reading, names_enter, others_leave_identifiers, table_is_kept,
 };
 use rl_world::laws::{bounds_are_kept, room_is_enough};
 use std::marker::Brand;
@@ -32,6 +32,7 @@ pub(crate) fn cells_are_known()
     bounds_are_kept();
     room_is_enough();
     names_are_found();
+    functions_stand();
 }
 
 /// A world determines a state but for what is beside it.

@@ -3,6 +3,7 @@
 
 mod errors;
 mod expansions;
+mod functions;
 mod identifiers;
 pub mod laws;
 mod levels;
@@ -19,6 +20,7 @@ mod variables;
 
 pub use errors::fail;
 pub use expansions::{begin_expansion, end_expansion, in_expansion};
+pub use functions::{function, set_word, word};
 pub use identifiers::{
     definition, kind, name, properties, set_definition, set_kind, set_properties,
 };

@@ -3,6 +3,7 @@ ghost use Rattle.std.specs.Prelude.{[], ◌≡◌, ◌≢◌, ℕ, Err, IfOk, Is
 ghost use Rattle.rl_io.specs.Faults.{Rose};
 ghost use Rattle.rl_cells.specs.Cell.{is_live};
 ghost use Rattle.rl_syms.specs.Contents.{value_of};
+ghost use Rattle.rl_syms.specs.Functions.{KeepsHeldFunctions};
 ghost use Rattle.rl_world.specs.Counts.{TakesTurnsAndCells};
 ghost use Rattle.rl_world.specs.Input.{with_back};
 ghost use Rattle.rl_meaning.specs.Input.{End, Form};
@@ -46,6 +47,7 @@ pub fn read<I: Source, O: Sink, N: Sink, F: Files>(
     ensures steady_out { result ≢ Err (fault.Stop stop.Write) → O.faults io.new.out.now ≡ O.faults io.old.out.now }
     ensures keeps { KeepsByReading w.old w.new }
     ensures counts { TakesTurnsAndCells w.old.counts w.new.counts }
+    ensures functions { KeepsHeldFunctions w.old.cells.cells w.new.cells.cells }
     ensures grows { WorldGrows w.old w.new }
     ensures levels { NotStopped result → w.new.levels ≡ w.old.levels }
     ensures rest { KeepsNotesAndFiles io.old io.new }

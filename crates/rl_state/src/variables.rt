@@ -8,7 +8,7 @@ ghost use Rattle.rl_state.specs.ShownState.{ShowsState, option_value_in, value_s
 ghost use Rattle.rl_state.specs.Worlds.{IsWorld, WorldGrows, ObjectsAlone, SeenOtherwise};
 ghost use Rattle.std.specs.Option.{ForSome};
 
-use rl_syms::laws::identifiers_are_numbered;
+use rl_syms::laws::{functions_stand, identifiers_are_numbered};
 use rl_tags::Val;
 use rl_world::World;
 use rl_world::laws::counts_are_taken;
@@ -23,6 +23,7 @@ pub fn set_cell(w: &mut World, id: Val, v: Option<Val>)
     ensures rest { ObjectsAlone w.old w.new }
 {
     counts_are_taken();
+    functions_stand();
     identifiers_are_numbered();
     w.syms.set_value(&mut w.cells, id, v);
 }

@@ -17,3 +17,4 @@ pub mod Kept
 pub mod NamesByNumber
 pub mod Naming
 mod Released
+mod HeldFunctions

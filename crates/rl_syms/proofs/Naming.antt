@@ -1,6 +1,5 @@
 -- A new identifier has the next number, and leaves what all means.
-use Rattle.std.proofs.Common.{◌≡◌, ℕ, zero, suc, ◌+◌, ◌-◌, ◌<◌, ◌≤◌, true, false, List, [], ◌++◌, length, Option, refl, ap, ◌∙◌, append_assoc, append-nil, arith, inl, inr}
-use Rattle.std.proofs.lemmas.Bool.{cases_Bool}
+use Rattle.std.proofs.Common.{◌≡◌, ℕ, ◌+◌, ◌-◌, ◌≤◌, true, List, [], ◌++◌, length, Option, refl, ap, ◌∙◌, append_assoc, append-nil, arith, inl, inr}
 use Rattle.std.proofs.lemmas.Grind.{flat_map-append}
 use Rattle.std.proofs.lemmas.List.{length-append, length-replicate}
 use Rattle.rl_tags.specs.Tagged.{Tagged, StrAt}
@@ -12,24 +11,13 @@ use Rattle.rl_syms.specs.Contents.{ids_before, object_count, object_in, objects_
 use Rattle.rl_syms.specs.Table.{IsTable, ids_from, nil_value, rank_of}
 use Rattle.rl_syms.specs.Made.{id_cost, new_words, with_id}
 use Rattle.rl_syms.specs.Readings.{NamingMeans}
-use Rattle.rl_syms.proofs.Numbers.{ids_numbered}
+use Rattle.rl_syms.proofs.Numbers.{ids_numbered, none_between}
 use Rattle.rl_syms.proofs.New.{adds_carries, with_id_adds, with_id_alone, with_id_block, with_id_new}
 use Rattle.rl_syms.proofs.Chained.{within as inside}
 use Rattle.rl_syms.proofs.Carried.{ids_carried, ids_new}
 use Rattle.rl_syms.proofs.Blank.{blank_words}
 use Rattle.rl_syms.proofs.Entered.{numbers_stay}
 use Rattle.rl_syms.proofs.Meant.{none_in, objects_grow, rest_empty, value_stays}
-
--- places where no identifier begins are not counted
-none_between : (cells : List Cell) (j m : ℕ) → ((k : ℕ) → j ≤ k → k < j + m → is_id_cell (cell_at cells k) ≡ true → ⊥) → ids_before cells (j + m) ≡ ids_before cells j
-none_between cells j zero none = let e : j + 0 ≡ j = omega arith in ap (ids_before cells) e
-none_between cells j (suc m) none =
-    let up : j + suc m ≡ j + m + 1 = omega arith in
-    let here : is_id_cell (cell_at cells (j + m)) ≡ false = elim (cases_Bool (is_id_cell (cell_at cells (j + m)))) [
-      | inl is ↦ absurd (none (j + m) (omega arith) (omega arith) is)
-      | inr isnt ↦ isnt
-    ] in
-    ap (ids_before cells) up ∙ ids_numbered.elsewhere cells (j + m) here ∙ none_between cells j m (λ k l n. none k l (omega (arith, n)))
 
 -- the cells that a new identifier takes
 pub length_new : (s : CellStore) (name : List ℕ) (plist : Tagged) (next : Option Tagged) → length (with_id s name plist next).cells ≡ length s.cells + id_cost name
@@ -48,7 +36,7 @@ not_elsewhere law s name plist next k l other h = elim (with_id_alone law s name
 pub number_new : IsAdded → (s : CellStore) (name : List ℕ) (plist : Tagged) (next : Option Tagged) → ids_before (with_id s name plist next).cells (length s.cells + cost_of (StrCell name)) ≡ ids_before s.cells (length s.cells)
 number_new law s name plist next =
     let new = (with_id s name plist next).cells in
-    none_between new (length s.cells) (cost_of (StrCell name)) (λ k l m. not_elsewhere law s name plist next k l (λ e. absurd (omega (arith, e, m))))
+    none_between ids_numbered new (length s.cells) (cost_of (StrCell name)) (λ k l m. not_elsewhere law s name plist next k l (λ e. absurd (omega (arith, e, m))))
     ∙ numbers_stay s.cells new (length s.cells) (with_id_adds law s name plist next) (omega arith)
 
 pub many_new : IsAdded → (s : CellStore) (name : List ℕ) (plist : Tagged) (next : Option Tagged) → ids_before (with_id s name plist next).cells (length (with_id s name plist next).cells) ≡ ids_before s.cells (length s.cells) + 1
@@ -58,7 +46,7 @@ many_new law s name plist next =
     let long : length new ≡ place + 1 + 2 = length_new s name plist next ∙ omega arith in
     let is : is_id_cell (cell_at new place) ≡ true = ap is_id_cell (with_id_block law s name plist next) in
     ap (ids_before new) long
-    ∙ none_between new (place + 1) 2 (λ k l m. not_elsewhere law s name plist next k (omega (arith, l)) (λ e. absurd (omega (arith, e, l))))
+    ∙ none_between ids_numbered new (place + 1) 2 (λ k l m. not_elsewhere law s name plist next k (omega (arith, l)) (λ e. absurd (omega (arith, e, l))))
     ∙ ids_numbered.here new place is
     ∙ ap (λ n. n + 1) (number_new law s name plist next)
 

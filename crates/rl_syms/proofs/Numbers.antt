@@ -1,13 +1,15 @@
 -- What begins at cells that pass a test is numbered by its making.
-use Rattle.std.proofs.Common.{◌≡◌, ℕ, zero, suc, ◌+◌, ◌-◌, ◌<◌, ◌≤◌, ◌⊎◌, Bool, true, false, List, [], length, take, add-one, refl, sym, ap, ◌∙◌, arith, inl, inr}
+use Rattle.std.proofs.Common.{◌≡◌, ℕ, zero, suc, ◌+◌, ◌-◌, ◌<◌, ◌≤◌, ◌⊎◌, Bool, true, false, List, [], ◌++◌, length, take, add-one, refl, sym, ap, ◌∙◌, arith, inl, inr}
+use Rattle.std.specs.Prelude.{cond}
 use Rattle.std.specs.List.{count_by}
-use Rattle.std.proofs.lemmas.Bool.{cases_lt, cases_order}
+use Rattle.std.proofs.lemmas.List.Recursion.{is_count_by}
+use Rattle.std.proofs.lemmas.Bool.{cases_Bool, cases_lt, cases_order}
 use Rattle.std.proofs.lemmas.List.{get_or_past, take-append-le, take_all}
 use Rattle.std.proofs.lemmas.List.Sums.{count_by_more_yes, count_by_more_no}
 use Rattle.std.proofs.Math.Seq.{take-length}
-use Rattle.rl_cells.specs.Cell.{Cell, More, cell_at, is_id_cell, is_fun_cell}
-use Rattle.rl_syms.specs.Contents.{ids_before, funs_before}
-use Rattle.rl_syms.specs.Numbers.{NumbersByMaking, IdentifiersAreNumbered, FunctionsAreNumbered}
+use Rattle.rl_cells.specs.Cell.{Cell, PairCell, StrCell, VectorCell, BigCell, BlockCell, More, cell_at, is_id_cell, is_fun_cell}
+use Rattle.rl_syms.specs.Contents.{ids_before, funs_before, object_count, objects_among}
+use Rattle.rl_syms.specs.Numbers.{NumbersByMaking, IdentifiersAreNumbered, FunctionsAreNumbered, ObjectsAreNumbered, is_object_cell}
 use Rattle.rl_syms.proofs.New.{tested_inside}
 
 abbrev counted : (Cell → Bool) → List Cell → ℕ → ℕ
@@ -104,6 +106,44 @@ ids_numbered = numbered is_id_cell refl
 pub funs_numbered : FunctionsAreNumbered
 unfolding funs_before
 funs_numbered = numbered is_fun_cell refl
+
+-- another reckoning that comes to the same numbers
+renumbered : {passes : Cell → Bool} {one other : List Cell → ℕ → ℕ} → NumbersByMaking passes one → ((cells : List Cell) (k : ℕ) → other cells k ≡ one cells k) → NumbersByMaking passes other
+renumbered law e = record {
+  none = λ cells. e cells 0 ∙ law.none cells;
+  here = λ cells k h. e cells (k + 1) ∙ law.here cells k h ∙ ap (λ n. n + 1) (sym (e cells k));
+  elsewhere = λ cells k h. e cells (k + 1) ∙ law.elsewhere cells k h ∙ sym (e cells k);
+  ordered = λ cells j k l. omega (arith, e cells j, e cells k, law.ordered cells j k l);
+  later = λ cells j k h l. omega (arith, e cells j, e cells k, law.later cells j k h l);
+  distinct = λ cells j k g h same. law.distinct cells j k g h (sym (e cells j) ∙ same ∙ e cells k);
+  within = λ cells k h. omega (arith, e cells k, e cells (length cells), law.within cells k h);
+  each = λ cells i l. let found = law.each cells i (omega (arith, l, e cells (length cells))) in (found.0, found.1, e cells found.0 ∙ found.2);
+  past = λ cells k l. e cells k ∙ law.past cells k l ∙ sym (e cells (length cells));
+  stays = λ cells more k l. e (cells ++ more) k ∙ law.stays cells more k l ∙ sym (e cells k);
+  same = λ old new k h. e new k ∙ law.same old new k h ∙ sym (e old k);
+}
+
+objects_counted_one : (c : Cell) (n : ℕ) → object_count c + n ≡ cond (is_object_cell c) (1 + n) n
+objects_counted_one (PairCell a d) n = refl
+objects_counted_one (VectorCell xs) n = refl
+objects_counted_one (StrCell bytes) n = omega arith
+objects_counted_one (BigCell z) n = omega arith
+objects_counted_one (BlockCell t words) n = omega arith
+objects_counted_one More n = omega arith
+
+pub objects_numbered : ObjectsAreNumbered
+objects_numbered = renumbered (numbered is_object_cell refl) (λ cells k. is_count_by objects_among is_object_cell refl (λ c rest. objects_counted_one c (objects_among rest)) (take k cells))
+
+-- places where none begins are not counted
+pub none_between : {passes : Cell → Bool} {number : List Cell → ℕ → ℕ} → NumbersByMaking passes number → (cells : List Cell) (j m : ℕ) → ((k : ℕ) → j ≤ k → k < j + m → passes (cell_at cells k) ≡ true → ⊥) → number cells (j + m) ≡ number cells j
+none_between {passes} {number} law cells j zero none = let e : j + 0 ≡ j = omega arith in ap (number cells) e
+none_between {passes} {number} law cells j (suc m) none =
+    let up : j + suc m ≡ j + m + 1 = omega arith in
+    let here : passes (cell_at cells (j + m)) ≡ false = elim (cases_Bool (passes (cell_at cells (j + m)))) [
+      | inl is ↦ absurd (none (j + m) (omega arith) (omega arith) is)
+      | inr isnt ↦ isnt
+    ] in
+    ap (number cells) up ∙ law.elsewhere cells (j + m) here ∙ none_between law cells j m (λ k l n. none k l (omega (arith, n)))
 
 -- where none begins before a place, none was made before it
 pub none_before : (cells : List Cell) (k : ℕ) → ((j : ℕ) → j < k → is_id_cell (cell_at cells j) ≡ false) → ids_before cells k ≡ 0

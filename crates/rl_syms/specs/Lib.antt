@@ -7,3 +7,4 @@ pub mod Opened
 pub mod Contents
 pub mod Numbers
 pub mod Readings
+pub mod Functions

@@ -1,9 +1,9 @@
 -- Numbers by making.
-use Rattle.std.specs.Prelude.{◌≡◌, ℕ, ◌+◌, ◌<◌, ◌≤◌, Bool, true, false, List, [], ◌∷◌, ◌++◌, length, slice_index_or}
+use Rattle.std.specs.Prelude.{◌≡◌, ℕ, ◌+◌, ◌<◌, ◌≤◌, Bool, true, false, ◌||◌, List, [], ◌∷◌, ◌++◌, length, slice_index_or}
 use Rattle.std.specs.List.{flat_map}
 use Rattle.rl_tags.specs.declared.Tag.TheVariants as tag
-use Rattle.rl_cells.specs.Cell.{Cell, BlockCell, bytes_of, cell_at, is_id_cell, is_fun_cell}
-use Rattle.rl_syms.specs.Contents.{ids_before, funs_before}
+use Rattle.rl_cells.specs.Cell.{Cell, BlockCell, bytes_of, cell_at, is_id_cell, is_fun_cell, is_pair_cell, is_vector_cell}
+use Rattle.rl_syms.specs.Contents.{ids_before, funs_before, number_at}
 use Rattle.rl_syms.specs.Table.{name_in_cells, symbol_of}
 
 -- what begins at a cell that passes the test has the number of those that were made before it: numbers grow with places, each is that of one place, and what is added leaves them
@@ -25,6 +25,13 @@ IdentifiersAreNumbered = NumbersByMaking is_id_cell ids_before
 
 abbrev pub FunctionsAreNumbered : Type 0
 FunctionsAreNumbered = NumbersByMaking is_fun_cell funs_before
+
+-- whether a pair or a vector begins at a cell
+abbrev pub is_object_cell : Cell → Bool
+is_object_cell c = is_pair_cell c || is_vector_cell c
+
+abbrev pub ObjectsAreNumbered : Type 0
+ObjectsAreNumbered = NumbersByMaking is_object_cell number_at
 
 -- the name of the identifier that a cell begins
 abbrev pub cell_names : List Cell → Cell → List (List ℕ)

@@ -1,5 +1,6 @@
 //! Laws of the table, and of what cells mean. A law is the contract of a function that does nothing.
-ghost use Rattle.rl_syms.specs.Numbers.{FunctionsAreNumbered, IdentifiersAreNumbered, NamesAreNumbered};
+ghost use Rattle.rl_syms.specs.Functions.{FunctionsStand};
+ghost use Rattle.rl_syms.specs.Numbers.{FunctionsAreNumbered, IdentifiersAreNumbered, NamesAreNumbered, ObjectsAreNumbered};
 ghost use Rattle.rl_syms.specs.Readings.{MeantByAnyReading, NamingMeans};
 ghost use Rattle.rl_syms.specs.Laws.{AreIdentifiers, ChangesMeaning, IsDistinct, IsKept, MakesMeaning, IsRead, KeepNames, LeaveIdentifiers, NamesEnter, ReleaseKeepsTable};
 
@@ -17,6 +18,14 @@ pub fn others_leave_identifiers()
 {
     objects_are_added();
     objects_are_changed();
+}
+
+/// What makes or changes another object leaves held functions: each has the words that it had, at its place, and none begins
+/// elsewhere; so it lives, and means what it meant. A new function, and a new word of one, leave all others.
+pub fn functions_stand()
+    ensures { FunctionsStand }
+{
+    objects_are_added();
 }
 
 /// The table stays as what was made past a place is released, where its chain begins before the place, NIL stands before it,
@@ -80,6 +89,11 @@ pub fn identifiers_are_numbered()
 /// Held functions are numbered by their making likewise.
 pub fn functions_are_numbered()
     ensures { FunctionsAreNumbered }
+{}
+
+/// Pairs and vectors are numbered by their making likewise, both together: so equal references are one object.
+pub fn objects_are_numbered()
+    ensures { ObjectsAreNumbered }
 {}
 
 /// An identifier has the name of its number.

@@ -8,4 +8,4 @@ pub returns-clause-grows : goal.returns-clause-grows
 returns-clause-grows c = field_grows c.identifiers_are_numbered.ensures c.args.w.now _ c.args.id _ (field_set c.args.w.now c.set_kind.new.c c.set_kind.new.self c.args.id _ c.set_kind.ensures.store c.set_kind.ensures.same c.set_kind.ensures.table c.set_kind.ensures.sets) c.requires.world
 
 pub returns-clause-rest : goal.returns-clause-rest
-returns-clause-rest c = field_rest c.counts_are_taken.ensures c.args.w.now _ c.args.id _ (field_set c.args.w.now c.set_kind.new.c c.set_kind.new.self c.args.id _ c.set_kind.ensures.store c.set_kind.ensures.same c.set_kind.ensures.table c.set_kind.ensures.sets)
+returns-clause-rest c = field_rest c.counts_are_taken.ensures c.functions_stand.ensures c.args.w.now _ c.args.id _ c.requires.id (field_set c.args.w.now c.set_kind.new.c c.set_kind.new.self c.args.id _ c.set_kind.ensures.store c.set_kind.ensures.same c.set_kind.ensures.table c.set_kind.ensures.sets)

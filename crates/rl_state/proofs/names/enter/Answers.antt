@@ -35,7 +35,11 @@ returns-in-Ok-clause-grows c =
     (interned_in w c.room.new.self name c.requires.free c.intern.new.c c.intern.new.self c.unwrap.result (rw c.identifier_cost.ensures at c.in-Ok.ensures.counted) (rw c.unwrap.ensures at c.intern.ensures.ok) c.intern.ensures.made)
 
 pub returns-in-Ok-clause-rest : goal.returns-in-Ok-clause-rest
-returns-in-Ok-clause-rest c = entered_rest c.counts_are_taken.ensures c.args.w.now c.room.new.self c.intern.new.c c.intern.new.self _ c.in-Ok.ensures.counted
+returns-in-Ok-clause-rest c =
+    let w = c.args.w.now in
+    let name = c.args.name.now in
+    entered_rest c.counts_are_taken.ensures c.cells_are_known.ensures.functions w c.room.new.self c.intern.new.c c.intern.new.self c.unwrap.result name w.syms.head (entered_head w name) not_counted
+    (interned_in w c.room.new.self name c.requires.free c.intern.new.c c.intern.new.self c.unwrap.result (rw c.identifier_cost.ensures at c.in-Ok.ensures.counted) (rw c.unwrap.ensures at c.intern.ensures.ok) c.intern.ensures.made)
 
 pub returns-in-Err-clause-means : goal.returns-in-Err-clause-means
 returns-in-Err-clause-means c =

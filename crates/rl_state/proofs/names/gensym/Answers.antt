@@ -1,6 +1,7 @@
 use Rattle.rl_state.proofs.Made.{grows_refl, has_counted, rest_refl}
 use Rattle.rl_state.proofs.Entering.{entered_rest, table_counted}
-use Rattle.rl_state.proofs.Gensyms.{few_made, gensym_ends, gensym_fits, gensym_grows, gensym_in, gensym_stops}
+use Rattle.std.proofs.Common.{None}
+use Rattle.rl_state.proofs.Gensyms.{counted_on, few_made, gensym_ends, gensym_fits, gensym_grows, gensym_in, gensym_stops, next_name}
 use Rattle.rl_state.proofs.names.gensym.Goals as goal
 
 pub gensym-requires : goal.gensym-requires
@@ -34,7 +35,12 @@ returns-in-Ok-clause-grows c =
     gensym_grows c.cells_are_known.ensures c.names_are_identifiers.ensures w r c.gensym.new.c c.gensym.new.self c.unwrap.result few c.requires into c.gensym.ensures.table
 
 pub returns-in-Ok-clause-rest : goal.returns-in-Ok-clause-rest
-returns-in-Ok-clause-rest c = entered_rest c.counts_are_taken.ensures c.args.w.now c.room.new.self c.gensym.new.c c.gensym.new.self _ c.in-Ok.ensures.counted
+returns-in-Ok-clause-rest c =
+    let w = c.args.w.now in
+    let r = c.room.new.self in
+    let few = few_made c.cells_are_known.ensures w c.places-places.result c.requires c.places-places.ensures c.places-places.type_inv in
+    entered_rest c.counts_are_taken.ensures c.cells_are_known.ensures.functions w r c.gensym.new.c c.gensym.new.self c.unwrap.result (next_name w) None w.syms.head counted_on
+    (gensym_in w r c.gensym.new.c c.gensym.new.self c.unwrap.result few c.in-Ok.ensures.counted (rw c.unwrap.ensures at c.gensym.ensures.ok) c.gensym.ensures.head (rw c.unwrap.ensures at c.gensym.ensures.counted))
 
 pub returns-in-Err-clause-means : goal.returns-in-Err-clause-means
 returns-in-Err-clause-means c =

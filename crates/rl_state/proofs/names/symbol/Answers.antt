@@ -39,7 +39,9 @@ returns-in-Ok-clause-grows c =
     named_grows law w r c.loose.new.c c.loose.new.self c.unwrap.result name None w.syms.head false not_counted c.requires.world gains into
 
 pub returns-in-Ok-clause-rest : goal.returns-in-Ok-clause-rest
-returns-in-Ok-clause-rest c = entered_rest c.counts_are_taken.ensures c.args.w.now c.room.new.self c.loose.new.c c.loose.new.self _ c.in-Ok.ensures.counted
+returns-in-Ok-clause-rest c =
+    entered_rest c.counts_are_taken.ensures c.cells_are_known.ensures.functions c.args.w.now c.room.new.self c.loose.new.c c.loose.new.self c.unwrap.result c.args.name.now None c.args.w.now.syms.head not_counted
+    (loose_in c.args.w.now c.room.new.self c.loose.new.c c.loose.new.self c.unwrap.result c.args.name.now not_counted (rw c.identifier_cost.ensures at c.in-Ok.ensures.counted) (rw c.unwrap.ensures at c.loose.ensures.ok) (ap (λ (n : Syms). n.head) c.loose.ensures.same) (ap (λ (n : Syms). n.made) c.loose.ensures.same) (rw c.unwrap.ensures at c.loose.ensures.place))
 
 pub returns-in-Err-clause-means : goal.returns-in-Err-clause-means
 returns-in-Err-clause-means c = symbol_stops c.args.w.now c.room.new.self (new_symbol c.args.name.now false) c.in-Err.why c.requires.world c.in-Err.ensures.err (rw c.identifier_cost.ensures at c.in-Err.ensures.stop)

@@ -23,7 +23,7 @@ returns-in-Ok-clause-grows c =
     c.in-Ok.ensures.counted (rw c.unwrap.ensures at c.cons.ensures.ok) refl (omega arith) c.requires.world
 
 pub returns-in-Ok-clause-rest : goal.returns-in-Ok-clause-rest
-returns-in-Ok-clause-rest c = rest_made c.counts_are_taken.ensures c.args.w.now c.room.new.self c.cons.new.self _ c.in-Ok.ensures.counted
+returns-in-Ok-clause-rest c = rest_made c.counts_are_taken.ensures c.cells_are_known.ensures.functions c.args.w.now c.room.new.self c.cons.new.self (PairCell c.args.a c.args.d) _ refl c.in-Ok.ensures.counted (rw c.unwrap.ensures at c.cons.ensures.ok)
 
 pub returns-in-Err-clause-means : goal.returns-in-Err-clause-means
 returns-in-Err-clause-means c = pair_stops c.args.w.now c.room.new.self c.args.a c.args.d c.in-Err.why c.in-Err.ensures.err c.requires.world c.in-Err.ensures.stop

@@ -12,4 +12,4 @@ returns-clause-grows c =
     (car_altered c.cells_are_known.ensures c.args.w.now c.set_car.new.self c.args.p c.args.v c.requires.pair c.set_car.ensures.closed c.set_car.ensures.changed) c.requires.world
 
 pub returns-clause-rest : goal.returns-clause-rest
-returns-clause-rest c = altered_rest c.counts_are_taken.ensures c.args.w.now _ _ (altered_is c.args.w.now c.set_car.new.self _ c.set_car.ensures.changed)
+returns-clause-rest c = altered_rest c.counts_are_taken.ensures c.args.w.now _ _ (c.cells_are_known.ensures.functions.pair c.args.w.now.cells.cells c.args.p _ _ c.requires.pair) (altered_is c.args.w.now c.set_car.new.self _ c.set_car.ensures.changed)

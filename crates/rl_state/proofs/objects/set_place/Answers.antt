@@ -12,4 +12,4 @@ returns-clause-grows c =
     (place_altered c.cells_are_known.ensures c.args.w.now c.put.new.self c.args.v c.args.x c.args.i c.requires.vector c.put.ensures.closed c.put.ensures.changed) c.requires.world
 
 pub returns-clause-rest : goal.returns-clause-rest
-returns-clause-rest c = altered_rest c.counts_are_taken.ensures c.args.w.now _ _ (altered_is c.args.w.now c.put.new.self _ c.put.ensures.changed)
+returns-clause-rest c = altered_rest c.counts_are_taken.ensures c.args.w.now _ _ (c.cells_are_known.ensures.functions.vector c.args.w.now.cells.cells c.args.v _ c.requires.vector) (altered_is c.args.w.now c.put.new.self _ c.put.ensures.changed)

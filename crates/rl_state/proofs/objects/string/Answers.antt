@@ -17,7 +17,7 @@ returns-in-Ok-clause-grows c =
     (rw c.string_cost.ensures at c.in-Ok.ensures.counted) (rw c.unwrap.ensures at c.string.ensures.ok) refl (omega arith) c.requires.world
 
 pub returns-in-Ok-clause-rest : goal.returns-in-Ok-clause-rest
-returns-in-Ok-clause-rest c = rest_made c.counts_are_taken.ensures c.args.w.now c.room.new.self c.string.new.self _ c.in-Ok.ensures.counted
+returns-in-Ok-clause-rest c = rest_made c.counts_are_taken.ensures c.cells_are_known.ensures.functions c.args.w.now c.room.new.self c.string.new.self (StrCell c.args.bytes.now) _ refl c.in-Ok.ensures.counted (rw c.unwrap.ensures at c.string.ensures.ok)
 
 pub returns-in-Err-clause-means : goal.returns-in-Err-clause-means
 returns-in-Err-clause-means c = string_stops c.args.w.now c.room.new.self c.args.bytes.now c.in-Err.why c.in-Err.ensures.err c.requires.world (rw c.string_cost.ensures at c.in-Err.ensures.stop)

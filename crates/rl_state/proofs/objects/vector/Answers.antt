@@ -19,7 +19,7 @@ returns-in-Ok-clause-grows c =
     (rw c.vector_cost.ensures at c.in-Ok.ensures.counted) (rw c.unwrap.ensures at c.vector.ensures.ok) refl (omega arith) c.requires.world
 
 pub returns-in-Ok-clause-rest : goal.returns-in-Ok-clause-rest
-returns-in-Ok-clause-rest c = rest_made c.counts_are_taken.ensures c.args.w.now c.room.new.self c.vector.new.self _ c.in-Ok.ensures.counted
+returns-in-Ok-clause-rest c = rest_made c.counts_are_taken.ensures c.cells_are_known.ensures.functions c.args.w.now c.room.new.self c.vector.new.self (VectorCell (replicate c.args.places nil_id)) _ refl c.in-Ok.ensures.counted (rw c.unwrap.ensures at c.vector.ensures.ok)
 
 pub returns-in-Err-clause-means : goal.returns-in-Err-clause-means
 returns-in-Err-clause-means c = vector_stops c.args.w.now c.room.new.self c.args.places c.in-Err.why c.in-Err.ensures.err c.requires.world (rw c.vector_cost.ensures at c.in-Err.ensures.stop)

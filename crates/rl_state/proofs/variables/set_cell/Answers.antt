@@ -17,4 +17,4 @@ returns-clause-grows c =
     (set_grows c.identifiers_are_numbered.ensures c.args.w.now c.set_value.new.c.cells c.args.id _ c.requires.world (subst (λ (y : Syms). IsTable c.set_value.new.c.cells y.head) c.set_value.ensures.same c.set_value.ensures.table) c.set_value.ensures.sets)
 
 pub returns-clause-rest : goal.returns-clause-rest
-returns-clause-rest c = field_rest c.counts_are_taken.ensures c.args.w.now _ c.args.id _ (field_set c.args.w.now c.set_value.new.c c.set_value.new.self c.args.id _ c.set_value.ensures.store c.set_value.ensures.same c.set_value.ensures.table c.set_value.ensures.sets)
+returns-clause-rest c = field_rest c.counts_are_taken.ensures c.functions_stand.ensures c.args.w.now _ c.args.id _ c.requires.id (field_set c.args.w.now c.set_value.new.c c.set_value.new.self c.args.id _ c.set_value.ensures.store c.set_value.ensures.same c.set_value.ensures.table c.set_value.ensures.sets)
