@@ -1,0 +1,4 @@
+pub mod Frames
+pub mod Kinds
+pub mod Machine
+pub mod Shapes
