@@ -1,2 +1,6 @@
 pub mod Nested
 pub mod Simulation
+pub mod Rising
+pub mod Stopping
+pub mod Advancing
+pub mod Rounds

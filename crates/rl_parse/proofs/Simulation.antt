@@ -300,7 +300,7 @@ place_step_simulates (Inside b s) t = inside_shape b (parser_step s t) ∙ parse
 
 -- ---- bounded nesting
 
-nested_tells : (fs : List ParserFrame) → nested_in (frames_shape fs) ≡ nesting fs
+pub nested_tells : (fs : List ParserFrame) → nested_in (frames_shape fs) ≡ nesting fs
 nested_tells [] = refl
 nested_tells (InBinary o a ∷ fs) = nested_tells fs
 nested_tells (InSign s ∷ fs) = nested_tells fs

@@ -6,5 +6,9 @@ mod end;
 mod frame;
 mod level;
 mod place;
+mod recognize;
 mod stack;
 mod step;
+
+pub use place::What;
+pub use recognize::{Recognized, recognize_statement};
