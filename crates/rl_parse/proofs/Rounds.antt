@@ -31,7 +31,7 @@ goes_on bytes at to n s t here after (suc k, enough, reads) next = (k, omega (ar
 
 -- what is recognized behind a place is recognized from the beginning
 from_start : (bytes : List ℕ) (at : ℕ) (r : Recognized) (one other : SourceResult) → one ≡ other → IsRecognizedAs bytes at r other → IsRecognizedAs bytes 0 r one
-from_start bytes at (Statement w p to) one other is (after, within, b, q, reads, what, separator) = (omega (arith, after), within, (b, q, is ∙ reads, what, separator))
+from_start bytes at (Statement w p to) one other is (after, within, (b, q, reads, what, separator)) = (omega (arith, after), within, (b, q, is ∙ reads, what, separator))
 from_start bytes at (Syntax k) one other is (after, within, reads) = (omega arith, within, is ∙ reads)
 from_start bytes at Nothing one other is none = absurd none
 
