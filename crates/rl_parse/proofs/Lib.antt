@@ -4,3 +4,4 @@ pub mod Rising
 pub mod Stopping
 pub mod Advancing
 pub mod Rounds
+pub mod Windows
