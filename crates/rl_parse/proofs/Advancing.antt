@@ -1,6 +1,5 @@
 -- What stands next leads the parser of the grammar as it leads the machine.
-use Rattle.std.proofs.Common.{◌≡◌, ℕ, suc, ◌+◌, ◌-◌, ◌<◌, ◌≤◌, min, Bool, true, false, nat_le, List, [], ◌∷◌, length, drop, ◌⊎◌, inl, inr, refl, ap, sym, ◌∙◌, subst, arith, length-drop, drop_of_length-le, drop-drop}
-use Rattle.std.specs.Prelude.{if◌then◌else◌}
+use Rattle.std.proofs.Common.{◌≡◌, ℕ, suc, ◌+◌, ◌-◌, ◌<◌, ◌≤◌, min, true, false, nat_le, List, [], ◌∷◌, length, drop, inl, inr, refl, ap, sym, ◌∙◌, subst, arith, length-drop, drop_of_length-le, drop-drop}
 use Rattle.std.proofs.lemmas.Bool.{cond-true, cond-false, cases_Bool, leb-true, leb-false, le-leb, lt-leb}
 use Rattle.rl_text.specs.Gap.{IsBlankText}
 use Rattle.rl_lex.specs.Kinds.{kind_of_token, separator_kind}
@@ -8,15 +7,14 @@ use Rattle.rl_lex.specs.Tokens.{IsNextToken, IsNextBad}
 use Rattle.rl_lex.specs.declared.kind.TokenKind.{TokenKind}
 use Rattle.rl_lex.specs.declared.next.Token as lexed
 use Rattle.rl_grammar.specs.Token as token
-use Rattle.rl_grammar.specs.Lexer.{Front, Begins, NoneLeft, Stops, first_token}
+use Rattle.rl_grammar.specs.Lexer.{Front, Stops, first_token}
 use Rattle.rl_grammar.specs.Laws.{FindsToken, FindsNoToken, RefusesByte}
-use Rattle.rl_grammar.specs.Source.{longest}
 use Rattle.rl_grammar.specs.Statement.{StatementPlace, PlaceStep, GoesTo, Ends, Fails}
 use Rattle.rl_grammar.specs.Within.{place_within}
-use Rattle.rl_grammar.specs.SourceReader.{SourceResult, HasStatement, Unreadable, not_past, after_token, fits_source, with_first, read_source}
-use Rattle.rl_parse.specs.Machine.{MachineStep, Moves, Completes, Refuses, machine_within}
+use Rattle.rl_grammar.specs.SourceReader.{HasStatement, Unreadable, not_past, after_token, fits_source, with_first, read_source}
+use Rattle.rl_parse.specs.Machine.{MachineStep, machine_within}
 use Rattle.rl_parse.specs.Shapes.{what_of, place_shape, begun_at, frames_shape, place_step_shape}
-use Rattle.rl_parse.specs.Recognition.{IsAdvance, IsRecognizedAs, IsTaken, Stands, behind_longest}
+use Rattle.rl_parse.specs.Recognition.{IsAdvance, IsTaken, Stands, behind_longest}
 use Rattle.rl_parse.proofs.Simulation.{simulates}
 use Rattle.rl_parse.proofs.Stopping.{stops_at}
 use Rattle.rl_parse.specs.declared.frame.Frame.{Frame}
@@ -30,14 +28,14 @@ use Rattle.rl_parse.specs.declared.recognize.Advance.TheVariants.{Goes, Found}
 pub limit_behind : (bytes : List ℕ) (limit : ℕ) → limit ≡ min (length bytes) 1048576 → behind_longest bytes ≡ drop limit bytes
 limit_behind bytes limit is = elim (cases_Bool (nat_le (length bytes) 1048576)) [
   | inl short ↦
-    let few = leb-true (length bytes) 1048576 short in
-    let gone : behind_longest bytes ≡ [] = drop_of_length-le bytes {i = 1048576} (omega (arith, few)) in
-    let left : drop limit bytes ≡ [] = drop_of_length-le bytes {i = limit} (omega (arith, few, is)) in
-    gone ∙ sym left
+      let few = leb-true (length bytes) 1048576 short in
+      let gone : behind_longest bytes ≡ [] = drop_of_length-le bytes {i = 1048576} (omega (arith, few)) in
+      let left : drop limit bytes ≡ [] = drop_of_length-le bytes {i = limit} (omega (arith, few, is)) in
+      gone ∙ sym left
   | inr long ↦
-    let many = leb-false (length bytes) 1048576 long in
-    let same : 1048576 ≡ limit = omega (arith, many, is) in
-    ap (λ (n : ℕ). drop n bytes) same
+      let many = leb-false (length bytes) 1048576 long in
+      let same : 1048576 ≡ limit = omega (arith, many, is) in
+      ap (λ (n : ℕ). drop n bytes) same
 ]
 
 fits_limit : (bytes : List ℕ) (to : ℕ) → to ≤ 1048576 → to ≤ length bytes → fits_source (behind_longest bytes) (drop to bytes) ≡ true

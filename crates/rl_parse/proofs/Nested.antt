@@ -1,5 +1,5 @@
 -- How many are unfinished, and how many frames there are.
-use Rattle.std.proofs.Common.{◌≤◌, ℕ, suc, ◌+◌, List, [], ◌∷◌, length, arith}
+use Rattle.std.proofs.Common.{◌≤◌, ◌+◌, List, [], ◌∷◌, length, arith}
 use Rattle.rl_parse.specs.Frames.{nested_in}
 use Rattle.rl_parse.specs.declared.frame.Frame.{Frame}
 use Rattle.rl_parse.specs.declared.frame.Frame.TheVariants.{Side}

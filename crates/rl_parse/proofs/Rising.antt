@@ -1,7 +1,7 @@
 -- What does not nest rises in its level, so that a stack of bounded nesting is short.
-use Rattle.std.proofs.Common.{◌≡◌, ℕ, suc, ◌+◌, ◌*◌, ◌<◌, ◌≤◌, Bool, true, false, nat_le, List, [], ◌∷◌, length, refl, sym, ◌∙◌, subst, inl, inr, arith}
+use Rattle.std.proofs.Common.{◌≡◌, ◌+◌, ◌*◌, ◌<◌, ◌≤◌, Bool, true, false, nat_le, List, [], ◌∷◌, length, refl, arith}
 use Rattle.std.specs.Prelude.{if◌then◌else◌}
-use Rattle.std.proofs.lemmas.Bool.{cond-true, cond-false, cases_Bool, leb-true}
+use Rattle.std.proofs.lemmas.Bool.{leb-true}
 use Rattle.rl_lex.specs.declared.kind.Operator.{Operator}
 use Rattle.rl_lex.specs.declared.kind.Operator.TheVariants.{Or}
 use Rattle.rl_lex.specs.declared.kind.Operator.TheVariants as operator
@@ -12,7 +12,7 @@ use Rattle.rl_lex.specs.declared.kind.Way.TheVariants.{Do}
 use Rattle.rl_lex.specs.declared.kind.Separator.TheVariants.{Semicolon}
 use Rattle.rl_parse.specs.Frames.{level_of_frame, lowest_of, nested_in, is_lambda_frame}
 use Rattle.rl_parse.specs.Kinds.{level_of_operator, kind_goes, kind_begins, kind_begins_phrase, kind_is_colon}
-use Rattle.rl_parse.specs.Machine.{MachineStep, Moves, Completes, Refuses, allowed, machine_begin, machine_pushed, machine_pieced, ends_with_operand, machine_closed, machine_after, machine_whole, machine_alone, machine_named, machine_opened, machine_shut, machine_returned, machine_piece_begins, machine_piece, machine_name, machine_declarations, machine_names, listing_ends, listing_on, listed, machine_listing, machine_for, machine_go, machine_index, machine_in, machine_identifier, machine_body, machine_start, machine_mode, machine_kind, machine_end, machine_file, machine_files, machine_step, machine_depth, machine_bounded, machine_admits, machine_within}
+use Rattle.rl_parse.specs.Machine.{MachineStep, Moves, Completes, Refuses, machine_begin, machine_pushed, machine_pieced, ends_with_operand, machine_closed, machine_after, machine_whole, machine_alone, machine_named, machine_opened, machine_shut, machine_returned, machine_piece_begins, machine_piece, machine_name, machine_declarations, machine_names, listing_ends, listing_on, listed, machine_listing, machine_for, machine_go, machine_index, machine_in, machine_identifier, machine_body, machine_start, machine_mode, machine_kind, machine_end, machine_file, machine_files, machine_step, machine_depth, machine_bounded, machine_admits, machine_within}
 use Rattle.rl_grammar.specs.Nesting.{nesting_bound}
 use Rattle.rl_parse.specs.declared.frame.Frame.{Frame}
 use Rattle.rl_parse.specs.declared.frame.Frame.TheVariants.{Side, Tail, Lambda, Enclosed, Condition, Consequent, Doing, Repeated, From, Each, Arguments, Pieces}
@@ -77,7 +77,6 @@ begin_rises fs Go is = is
 begin_rises fs Goto is = is
 begin_rises fs kind.Lambda is = is
 begin_rises fs k is = tt
-
 
 operator_low : (o : Operator) → level_of_operator o ≤ 6
 operator_low Or = omega arith

@@ -1,17 +1,15 @@
 -- A round of the loop over tokens.
-use Rattle.std.proofs.Common.{◌≡◌, ℕ, zero, suc, ◌+◌, ◌<◌, ◌≤◌, Bool, true, false, nat_le, List, [], ◌∷◌, length, drop, refl, ap, sym, ◌∙◌, subst, inl, inr, arith, drop_of_length-le}
-use Rattle.std.specs.Prelude.{if◌then◌else◌}
+use Rattle.std.proofs.Common.{◌≡◌, ℕ, zero, suc, ◌+◌, ◌<◌, ◌≤◌, true, nat_le, List, [], ◌∷◌, length, drop, ap, sym, ◌∙◌, subst, inl, inr, arith, drop_of_length-le}
 use Rattle.std.proofs.lemmas.Bool.{cond-true, cond-false, cases_Bool, leb-true}
 use Rattle.rl_lex.specs.Kinds.{kind_of_token}
 use Rattle.rl_grammar.specs.Token.{Token}
-use Rattle.rl_grammar.specs.Parser.{ParserFrame, InBinary, InSign, ParserState, Want, Has, Shut, Returned, Opened, AtPiece, AtName, AtDeclarations, AtScalar, AtNames, AtMore, AtParameters, AtFor, AtIndex, AtEach, AtIn, AtGo, AtGoal}
-use Rattle.rl_grammar.specs.Parser as parser
+use Rattle.rl_grammar.specs.Parser.{ParserFrame, InBinary, InSign, ParserState, Want, Has}
 use Rattle.rl_grammar.specs.Nesting.{nesting_bound}
 use Rattle.rl_grammar.specs.Within.{nesting, depth, admits_place, bounded_place, place_within}
 use Rattle.rl_grammar.specs.Statement.{StatementPlace, Start, Inside, PlaceStep, GoesTo, Ends, Fails, place_step}
 use Rattle.rl_grammar.specs.SourceReader.{SourceResult, Unreadable, read_source}
 use Rattle.rl_parse.specs.Frames.{nested_in}
-use Rattle.rl_parse.specs.Machine.{MachineStep, Moves, machine_within}
+use Rattle.rl_parse.specs.Machine.{MachineStep}
 use Rattle.rl_parse.specs.Shapes.{frames_shape, frames_at, begun_at, place_shape, place_step_shape}
 use Rattle.rl_parse.specs.Recognition.{IsRecognizedAs, Stands, behind_longest}
 use Rattle.rl_parse.proofs.Rising.{Rises, RisesStep, within_rises}
@@ -75,9 +73,9 @@ inside_low s bounded =
 bounded_low : (st : PlaceStep) (t : StatementPlace) → bounded_place st ≡ GoesTo t → IsLow t
 bounded_low (GoesTo (Inside b s)) t e = elim (cases_Bool (nat_le (depth s) nesting_bound)) [
   | inl bounded ↦
-    let goes : GoesTo (Inside b s) ≡ GoesTo t = sym (cond-true (nat_le (depth s) nesting_bound) _ _ bounded) ∙ e in
-    let same : Inside b s ≡ t = cc in
-    subst IsLow same (inside_low s bounded)
+      let goes : GoesTo (Inside b s) ≡ GoesTo t = sym (cond-true (nat_le (depth s) nesting_bound) _ _ bounded) ∙ e in
+      let same : Inside b s ≡ t = cc in
+      subst IsLow same (inside_low s bounded)
   | inr deep ↦ absurd (let fails = sym (cond-false (nat_le (depth s) nesting_bound) _ _ deep) ∙ e in cc)
 ]
 bounded_low (Ends b p) t e = absurd cc
@@ -87,8 +85,8 @@ bounded_low (GoesTo s) t e = let same : s ≡ t = cc in subst IsLow same (omega 
 pub goes_low : (s t : StatementPlace) (k : Token) (p : Place) (fs : List Frame) → place_within s k ≡ GoesTo t → Stands p fs t → nested_in fs ≤ 201
 goes_low s t k p fs step stands = elim (cases_Bool (admits_place s k)) [
   | inl admits ↦
-    let low = bounded_low (place_step s k) t (sym (cond-true (admits_place s k) _ _ admits) ∙ step) in
-    subst (λ (xs : List Frame). nested_in xs ≤ 201) (sym stands.1) low
+      let low = bounded_low (place_step s k) t (sym (cond-true (admits_place s k) _ _ admits) ∙ step) in
+      subst (λ (xs : List Frame). nested_in xs ≤ 201) (sym stands.1) low
   | inr other ↦ absurd (let fails = sym (cond-false (admits_place s k) _ _ other) ∙ step in cc)
 ]
 

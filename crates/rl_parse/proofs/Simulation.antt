@@ -3,16 +3,16 @@ use Rattle.std.proofs.Common.{◌≡◌, ℕ, suc, Bool, true, false, nat_le, na
 use Rattle.std.specs.Prelude.{if◌then◌else◌}
 use Rattle.rl_tree.specs.Name.{Name}
 use Rattle.rl_lex.specs.Kinds.{kind_of_token, operator_kind}
-use Rattle.rl_grammar.specs.Token.{Operator, Or, Plus, Minus, Semicolon, Dollar, Do, Token, Mode, Kind, Procedure, Identifier, Integer, String, Quoted, Infix, Word, Power, Dot, Not, Assign, Open, Close, Comma, Colon, If, Then, Else, While, Repeat, Until, For, Each, Foreach, In, Does, OpenBlock, CloseBlock, Separating, Begin, End, Scalar, Return, Go, To, Goto, Lambda, ModeWord, KindWord}
+use Rattle.rl_grammar.specs.Token.{Operator, Or, Plus, Minus, Semicolon, Do, Token, Mode, Kind, Procedure, Identifier, String, Infix, Word, Not, Assign, Open, Close, Comma, Colon, If, Then, Else, Until, Each, In, Does, Separating, End, Scalar, To, ModeWord, KindWord}
 use Rattle.rl_grammar.specs.Tree.{NameUse, Plain, Group, Block, Prog, Tree, LambdaOf, Binary, Raise, Pair, Negate, Signed, Apply, Set, IfThen, IfElse, WhileDo, RepeatUntil, ForTo, EachIn, ReturnNone, ReturnOf, Variable, Enclosed, Something, Nothing, Labels, Unlabelled, Label, Declarations, NameList, Callee, Pieces, EachOf, MaybeMode, NoMode, InMode, MaybeKind, Base, Plainly, FileNames}
-use Rattle.rl_grammar.specs.Grammar.{operator_level, goes, is_else, begins_phrase, begins, is_parenthesized_lambda}
+use Rattle.rl_grammar.specs.Grammar.{operator_level, goes, begins_phrase, begins, is_parenthesized_lambda}
 use Rattle.rl_grammar.specs.Parser.{ParserFrame, InBinary, InPower, InPair, InNot, InSign, InApply, InSet, InEnclosed, InCond, InThen, InElse, InWhile, InDo, InRepeat, InUntil, InFrom, InTo, InFor, InOf, InEach, InLambda, InArgs, InPiece, InReturn, operand_level, lowest, ParserState, Want, Has, Shut, Returned, Opened, AtPiece, AtName, AtDeclarations, AtScalar, AtNames, AtMore, AtParameters, AtFor, AtIndex, AtEach, AtIn, AtGo, AtGoal, ParserStep, Goes, Done, Refuses, begin, pushed, pieced, operand_ended, statement_whole, after, name_alone, named, call_empty, shut, piece_begins, at_piece, at_name, at_declarations, at_names, at_parameters, at_for, at_go, at_identifier, at_index, at_in, parser_step, is_colon, Behind, NoPiece, None, pieces_with, Listing, Begun, Opening, Naming, Parted, Over}
 use Rattle.rl_grammar.specs.Parser as parser
 use Rattle.rl_grammar.specs.Statement.{StatementPlace, Start, AtMode, AtKind, AtProcedure, AtListing, AtEnd, AtFile, AtFiles, Inside, PlaceStep, GoesTo, Ends, Fails, inside, at_body, at_start, at_mode, at_kind, at_procedure, at_listing, place_at_end, at_file, at_files, place_step, MaybeFiles}
 use Rattle.rl_grammar.specs.Nesting.{nesting_bound}
-use Rattle.rl_grammar.specs.Within.{nesting, depth, admits_token, bounded_place, admits_place, place_within}
-use Rattle.rl_parse.specs.Frames.{level_of_frame, lowest_of, nested_in, nested_outside, is_lambda_frame}
-use Rattle.rl_parse.specs.Kinds.{level_of_operator, kind_goes, kind_is_else, kind_is_colon, kind_begins, kind_begins_phrase}
+use Rattle.rl_grammar.specs.Within.{nesting, depth, bounded_place, admits_place, place_within}
+use Rattle.rl_parse.specs.Frames.{level_of_frame, lowest_of, nested_in, is_lambda_frame}
+use Rattle.rl_parse.specs.Kinds.{level_of_operator, kind_goes, kind_is_colon, kind_begins, kind_begins_phrase}
 use Rattle.rl_parse.specs.Machine.{MachineStep, Moves, Completes, machine_begin, machine_pushed, machine_pieced, ends_with_operand, machine_closed, machine_after, machine_whole, machine_alone, machine_named, machine_opened, machine_shut, machine_returned, machine_piece_begins, machine_piece, machine_name, machine_declarations, machine_names, machine_listing, machine_for, machine_go, machine_index, machine_in, machine_identifier, machine_body, machine_start, machine_mode, machine_kind, machine_end, machine_file, machine_files, machine_step, machine_depth, machine_bounded, machine_admits, machine_within, wants}
 use Rattle.rl_parse.specs.Machine as machine
 use Rattle.rl_parse.specs.Shapes.{group_shape, listing_shape, frame_shape, frames_shape, frames_at, state_shape, step_shape, place_shape, begun_at, place_step_shape}

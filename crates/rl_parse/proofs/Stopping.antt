@@ -3,11 +3,10 @@ use Rattle.std.proofs.Common.{◌≡◌, ℕ, suc, ◌+◌, ◌≤◌, Bool, tru
 use Rattle.std.specs.Prelude.{if◌then◌else◌}
 use Rattle.std.proofs.lemmas.Bool.{cond-true, cond-false, cases_Bool, leb-true, leb-false}
 use Rattle.rl_tree.specs.Bytes.{is_blank}
-use Rattle.rl_text.specs.Datum.{Datum}
 use Rattle.rl_text.specs.Reading.{Reading, Found, NoText, Unreadable, reading}
 use Rattle.rl_grammar.specs.Token.{Token}
 use Rattle.rl_grammar.specs.Written.{short_mark, long_mark}
-use Rattle.rl_grammar.specs.Lexer.{behind_gap, Lexed, Lexes, Bad, begins_spelling, before_rest, token_read, lexed_or_bad, lexed_spelling, lexed_short, lexed_long, lexed_mark, lexed, Stops, first_token_of, first_behind, first_token}
+use Rattle.rl_grammar.specs.Lexer.{behind_gap, Lexed, Lexes, Bad, begins_spelling, before_rest, token_read, lexed_or_bad, lexed_spelling, lexed_long, lexed_mark, lexed, Stops, first_token_of, first_behind, first_token}
 
 -- the rest is the bytes from some place on
 abbrev pub IsEndOf : List ℕ → List ℕ → Type 0

@@ -1,15 +1,15 @@
 -- A text that is cut off behind the byte after its longest statement, with what stands before its first token.
-use Rattle.std.proofs.Common.{◌≡◌, ℕ, zero, suc, ◌+◌, ◌-◌, ◌<◌, ◌≤◌, min, Bool, true, false, nat_le, ◌==◌, List, [], ◌∷◌, ◌++◌, length, take, drop, refl, ap, sym, ◌∙◌, subst, ◌⊎◌, inl, inr, arith, length-drop, length-take, drop_of_length-le, drop-drop, take-append-drop, take_all, append-nil}
+use Rattle.std.proofs.Common.{◌≡◌, ℕ, zero, suc, ◌+◌, ◌-◌, ◌<◌, ◌≤◌, min, Bool, true, false, nat_le, ◌==◌, List, [], ◌∷◌, ◌++◌, length, take, drop, refl, ap, sym, ◌∙◌, ◌⊎◌, inl, inr, arith, length-drop, length-take, drop_of_length-le, drop-drop, take-append-drop, take_all, append-nil}
 use Rattle.std.specs.Prelude.{if◌then◌else◌}
 use Rattle.std.proofs.lemmas.Bool.{cond-true, cond-false, cases_Bool, leb-true, leb-false}
 use Rattle.std.proofs.lemmas.List.{drop-take}
 use Rattle.rl_tree.specs.Bytes.{is_blank}
 use Rattle.rl_text.specs.Gap.{IsBlankText}
 use Rattle.rl_grammar.specs.Laws.{LooksNoFurther, ReadsSource, FindsNoSource, RefusesSource}
-use Rattle.rl_grammar.specs.Lexer.{Front, behind_gap, first_token, first_behind}
+use Rattle.rl_grammar.specs.Lexer.{Front, behind_gap, first_behind}
 use Rattle.rl_grammar.specs.Source.{longest, past_longest}
-use Rattle.rl_grammar.specs.Statement.{Start, StatementPlace}
-use Rattle.rl_grammar.specs.SourceReader.{SourceResult, HasStatement, NothingLeft, Unreadable, with_first, read_source, source_started, source_behind, source_statement, extended_source}
+use Rattle.rl_grammar.specs.Statement.{Start}
+use Rattle.rl_grammar.specs.SourceReader.{SourceResult, HasStatement, NothingLeft, Unreadable, with_first, read_source, source_behind, source_statement, extended_source}
 use Rattle.rl_parse.specs.Recognition.{IsRecognizedAs, IsStatementHere, IsNothingHere, IsSyntaxHere, behind_longest, shifted_by}
 use Rattle.rl_parse.specs.declared.recognize.Recognized.{Recognized}
 use Rattle.rl_parse.specs.declared.recognize.Recognized.TheVariants.{Statement, Nothing, Syntax}
@@ -137,11 +137,13 @@ window_reads looks w at from end after here last behind =
     ] in
     let tells = window_tells looks x g m (sym behind ∙ sym place) (omega (arith, size, after, here)) (omega (arith, last, here)) far in
     let rest : drop (g + m) x ≡ drop end w = drop-drop (g + m) at w ∙ ap (λ (k : ℕ). drop k w) (omega (arith, after, last, here)) in
-    let enough : length (looked_at w from end) < suc (length (take (g + m) x)) = (let one = length-take (g + m) x in let two = length-take m (drop from w) in let left = length-drop from w in omega (arith, one, two, left, size, last, after, here)) in
-    (suc (length (take (g + m) x)), enough,
-    tells
-    ∙ ap (λ (more : List ℕ). extended_source more (read_source (suc (length (take (g + m) x))) (behind_longest (take m (drop g x))) Start (take m (drop g x)))) rest
-    ∙ ap (λ (xs : List ℕ). extended_source (drop end w) (read_source (suc (length (take (g + m) x))) (behind_longest (take m xs)) Start (take m xs))) place)
+    let enough : length (looked_at w from end) < suc (length (take (g + m) x)) = (let one = length-take (g + m) x in let two = length-take m (drop from w) in let left = length-drop from w in omega (arith, one, two, left, size, last, after, here)) in (
+      suc (length (take (g + m) x)),
+      enough,
+      tells
+          ∙ ap (λ (more : List ℕ). extended_source more (read_source (suc (length (take (g + m) x))) (behind_longest (take m (drop g x))) Start (take m (drop g x)))) rest
+          ∙ ap (λ (xs : List ℕ). extended_source (drop end w) (read_source (suc (length (take (g + m) x))) (behind_longest (take m xs)) Start (take m xs))) place,
+    )
 
 -- what is left of what one looks at, and what stands behind that
 left_behind : (w : List ℕ) (from end to : ℕ) → from ≤ end → to ≤ length (looked_at w from end) → drop to (looked_at w from end) ++ drop end w ≡ drop (from + to) w

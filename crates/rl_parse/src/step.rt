@@ -419,7 +419,11 @@ fn depth(stack: &mut Stack, place: Place) -> u16
     if let Place::Want = place {
         return nested_outside(stack);
     }
-    if is_before_expr(place) { 0 } else { stack.nested() }
+    if is_before_expr(place) {
+        0
+    } else {
+        stack.nested()
+    }
 }
 
 /// Whether the token before this one is within the bound, where it may have been a label.

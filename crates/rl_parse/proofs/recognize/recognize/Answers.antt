@@ -1,4 +1,4 @@
-use Rattle.std.proofs.Common.{◌≡◌, ℕ, zero, suc, ◌+◌, ◌<◌, ◌≤◌, List, [], length, drop, refl, ap, sym, ◌∙◌, subst, arith}
+use Rattle.std.proofs.Common.{◌≡◌, ◌≤◌, List, length, refl, sym, subst, arith}
 use Rattle.rl_grammar.specs.Statement.{Start}
 use Rattle.rl_parse.specs.Frames.{nested_in}
 use Rattle.rl_parse.proofs.Rising.{Rises, rising_room}

@@ -1,4 +1,4 @@
-use Rattle.std.proofs.Common.{◌≡◌, ◌<◌, length, sym, subst, arith}
+use Rattle.std.proofs.Common.{◌<◌, length, sym, subst, arith}
 use Rattle.rl_parse.specs.Recognition.{IsStatementHere, IsNothingHere, IsSyntaxHere}
 use Rattle.rl_parse.proofs.Windows.{window_reads, statement_here, nothing_here, syntax_here, blank_here}
 use Rattle.rl_parse.specs.declared.recognize.Recognized.{Recognized}

@@ -1,4 +1,4 @@
-use Rattle.std.proofs.Common.{List, length, reverse, ap, arith}
+use Rattle.std.proofs.Common.{length, reverse, ap, arith}
 use Rattle.rl_parse.proofs.Nested.{nested_few}
 use Rattle.rl_parse.proofs.stack.Stack.push.Goals as goal
 
