@@ -11,7 +11,6 @@ pub mod Made
 pub mod Set
 pub mod Steps
 pub mod Pairs
-pub mod Walking
 pub mod Once
 pub mod Totals
 pub mod Entered
