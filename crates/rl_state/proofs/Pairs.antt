@@ -32,6 +32,10 @@ pair_ref cells (VectorAt k) h = absurd (cc)
 pair_ref cells (BigAt k) h = absurd (cc)
 pair_ref cells (FunAt k) h = absurd (cc)
 
+-- a live place of a pair is one
+pub pair_by_place : (cells : List Cell) (v : Tagged) (k : ℕ) → v ≡ PairAt k → is_live cells v ≡ true → is_pair cells v ≡ true
+pair_by_place cells v k e h = subst (λ v. is_live cells v ≡ true → is_pair cells v ≡ true) (sym e) (λ h. h) h
+
 pub vector_ref : (cells : List Cell) (p : Tagged) → is_vector cells p ≡ true → value_of cells p ≡ Ref (number_at cells (index_of p))
 vector_ref cells (VectorAt k) h = refl
 vector_ref cells (Number k) h = absurd (cc)

@@ -1,4 +1,10 @@
 -- How calls follow one another: what is shown, what stays, and what grows.
+use Rattle.std.specs.Prelude.{◌≡◌, ◌≢◌, map, true, None, Some}
+use Rattle.rl_tags.specs.Tagged.{Tagged, tag_of}
+use Rattle.rl_tags.specs.declared.Tag.TheVariants as tag
+use Rattle.rl_cells.specs.Cell.{car_of, cdr_of, is_live, is_pair, is_vector, vector_of}
+use Rattle.rl_syms.specs.Contents.{value_of}
+use Rattle.rl_meaning.specs.Symbols.{pair_at, vector_at}
 use Rattle.rl_tree.specs.Value.{Object, Value}
 use Rattle.rl_meaning.specs.Constants.{changing, reading_object}
 use Rattle.rl_meaning.specs.Copying.{with_object}
@@ -23,3 +29,10 @@ pub record StepsFollow : Type 0 where
   -- what is read or changed is watched, and that is not shown
   pub reading : (w : World) (v : Value) (s : State) → ShowsState w s → IsShownBeside w s (reading_object v s)
   pub changing : (w : World) (v : Value) (o : Object) (s : State) → ShowsState w (with_object v o s) → IsShownBeside w s (changing v (with_object v o s))
+
+-- what a state has at a pair and at a vector, and that it has none at any other value
+pub record ObjectsAreShown : Type 0 where
+  pub pair : (w : World) (v : Tagged) → is_pair w.cells.cells v ≡ true → (s : State) → ShowsState w s → pair_at s (value_of w.cells.cells v) ≡ Some (value_of w.cells.cells (car_of w.cells.cells v), value_of w.cells.cells (cdr_of w.cells.cells v))
+  pub no_pair : (w : World) (v : Tagged) → is_live w.cells.cells v ≡ true → tag_of v ≢ tag.Pair → (s : State) → ShowsState w s → pair_at s (value_of w.cells.cells v) ≡ None
+  pub vector : (w : World) (v : Tagged) → is_vector w.cells.cells v ≡ true → (s : State) → ShowsState w s → vector_at s (value_of w.cells.cells v) ≡ Some (map (value_of w.cells.cells) (vector_of w.cells.cells v))
+  pub no_vector : (w : World) (v : Tagged) → is_live w.cells.cells v ≡ true → tag_of v ≢ tag.Vector → (s : State) → ShowsState w s → vector_at s (value_of w.cells.cells v) ≡ None

@@ -1,7 +1,7 @@
 //! Laws of what a world means. A law is the contract of a function that does nothing.
 ghost use Rattle.rl_state.specs.Worlds.{WorldDetermines};
 ghost use Rattle.rl_state.specs.StateOfWorld.{WorldIsShown};
-ghost use Rattle.rl_state.specs.StepLaws.{StepsFollow};
+ghost use Rattle.rl_state.specs.StepLaws.{ObjectsAreShown, StepsFollow};
 ghost use Rattle.std.specs.Prelude.{ℕ, List};
 ghost use Rattle.rl_meaning.specs.State.{State};
 ghost use Rattle.rl_state.specs.Ties.{EachWorldTies, ToldAtStart};
@@ -54,6 +54,13 @@ pub fn steps_follow()
     ensures { StepsFollow }
 {
     counts_are_taken();
+}
+
+/// What a state has at a pair and at a vector of a world that shows it.
+pub fn objects_are_shown()
+    ensures { ObjectsAreShown }
+{
+    meaning_of_reading();
 }
 
 /// Each world has a state to which it ties, whatever is to come.
