@@ -26,6 +26,8 @@ pub record StepsFollow : Type 0 where
   pub alone : (w x y : World) → ObjectsAlone w x → ObjectsAlone x y → ObjectsAlone w y
   -- where turns and cells were taken, and no object made or changed
   pub counted : (w : World) (k : WorldCounts) → TakesTurnsAndCells w.counts k → ObjectsAlone w (record w { counts = k })
+  -- where a pair or a vector is changed
+  pub changed : (w : World) (v : Value) (o : Object) (s : State) → ShowsState w (with_object v o s) → IsShownBeside w s (with_object v o s)
   -- what is read or changed is watched, and that is not shown
   pub reading : (w : World) (v : Value) (s : State) → ShowsState w s → IsShownBeside w s (reading_object v s)
   pub changing : (w : World) (v : Value) (o : Object) (s : State) → ShowsState w (with_object v o s) → IsShownBeside w s (changing v (with_object v o s))

@@ -1,5 +1,5 @@
 -- A walk along a list, pair by pair, whatever each visit does and whatever follows.
-use Rattle.std.proofs.Common.{◌≡◌, Option, Some, None, refl, ap, ◌∙◌}
+use Rattle.std.proofs.Common.{◌≡◌, Option, Some, None, refl, sym, ap, ◌∙◌}
 use Rattle.rl_tags.specs.Tagged.{Tagged}
 use Rattle.rl_tree.specs.Value.{Value}
 use Rattle.rl_world.specs.declared.stop.Stop as stops
@@ -57,21 +57,42 @@ module _ {A B : Type 0} (visit : A → Value → Value → State → Outcome (Fu
       no_turn_left follow s o read why w x (retold s o (walking a v) (λ t. turn t read) w k (λ t shown. pair_walked law gives a v e d t (parts t shown))) wants
 
   -- the visit goes on, or ends the walk, or stops
-  pub visit_goes : StepsFollow → (s : State) (o : Outcome B) (x y : World) (a b : A) (v e d : Value) → EndsShown s o (visiting a v e d) x
-      → ((t : State) → ShowsState x t → EndsShown t (visit a v e t) (λ u. Done (Goes b) u) y) → EndsShown s o (walking b d) y
-  visit_goes follow s o x y a b v e d k visited = goes_on follow s o (visiting a v e d) (walking b d) x y k (λ t shown.
+  pub passes_pair : StepsFollow → AreWalksUnbounded A → GivesNoTurnsBack visit → (s : State) (o : Outcome B) (w x y : World) (a b : A) (at : Tagged) (p : Tagged × Tagged) → EndsShown s o (walking a (value_of w.cells.cells at)) w
+      → HasParts w at (Some p) → TakesTurn w x
+      → ((t : State) → ShowsState x t → EndsShown t (visit a (value_of w.cells.cells at) (value_of w.cells.cells p.0) t) (λ u. Done (Goes b) u) y)
+      → value_of y.cells.cells p.1 ≡ value_of w.cells.cells p.1 → EndsShown s o (walking b (value_of y.cells.cells p.1)) y
+  passes_pair follow law gives s o w x y a b at p k parts takes visited same =
+      let v = value_of w.cells.cells at in
+      let e = value_of w.cells.cells p.0 in
+      let d = value_of w.cells.cells p.1 in
+      goes_on follow s o (visiting a v e d) (walking b (value_of y.cells.cells p.1)) x y (reaches_pair follow law gives s o w x a at p k parts takes) (λ t shown.
+      let r = visited t shown in
+      record {
+        state = r.state;
+        is = ap (λ (o : Outcome (Further A)). then_do (then_do o (λ f u. walk_on visit (λ b rest u. walk visit b rest u) d f u)) next) r.is ∙ ap (λ z. walking b z r.state) (sym same);
+        good = r.good;
+      })
+
+  pub ends_at_pair : StepsFollow → AreWalksUnbounded A → GivesNoTurnsBack visit → (s : State) (o : Outcome B) (w x y : World) (a b : A) (at : Tagged) (p : Tagged × Tagged) → EndsShown s o (walking a (value_of w.cells.cells at)) w
+      → HasParts w at (Some p) → TakesTurn w x
+      → ((t : State) → ShowsState x t → EndsShown t (visit a (value_of w.cells.cells at) (value_of w.cells.cells p.0) t) (λ u. Done (Ends b) u) y)
+      → EndsShown s o (next (record { result = b; end = None })) y
+  ends_at_pair follow law gives s o w x y a b at p k parts takes visited =
+      let v = value_of w.cells.cells at in
+      let e = value_of w.cells.cells p.0 in
+      let d = value_of w.cells.cells p.1 in
+      goes_on follow s o (visiting a v e d) (next (record { result = b; end = None })) x y (reaches_pair follow law gives s o w x a at p k parts takes) (λ t shown.
       let r = visited t shown in
       record { state = r.state; is = ap (λ (o : Outcome (Further A)). then_do (then_do o (λ f u. walk_on visit (λ b rest u. walk visit b rest u) d f u)) next) r.is; good = r.good })
 
-  pub visit_ends : StepsFollow → (s : State) (o : Outcome B) (x y : World) (a b : A) (v e d : Value) → EndsShown s o (visiting a v e d) x
-      → ((t : State) → ShowsState x t → EndsShown t (visit a v e t) (λ u. Done (Ends b) u) y) → EndsShown s o (next (record { result = b; end = None })) y
-  visit_ends follow s o x y a b v e d k visited = goes_on follow s o (visiting a v e d) (next (record { result = b; end = None })) x y k (λ t shown.
-      let r = visited t shown in
-      record { state = r.state; is = ap (λ (o : Outcome (Further A)). then_do (then_do o (λ f u. walk_on visit (λ b rest u. walk visit b rest u) d f u)) next) r.is; good = r.good })
-
-  pub visit_stops : StepsFollow → (s : State) (o : Outcome B) (x : World) (a : A) (v e d : Value) (why : Stop) → EndsShown s o (visiting a v e d) x
-      → ((t : State) → ShowsState x t → StopsWith t (visit a v e t) why) → StopsWith s o why
-  visit_stops follow s o x a v e d why k visited = stops_on follow s o (visiting a v e d) why x k (λ t shown.
+  pub stops_at_pair : StepsFollow → AreWalksUnbounded A → GivesNoTurnsBack visit → (s : State) (o : Outcome B) (w x : World) (a : A) (at : Tagged) (p : Tagged × Tagged) (why : Stop) → EndsShown s o (walking a (value_of w.cells.cells at)) w
+      → HasParts w at (Some p) → TakesTurn w x
+      → ((t : State) → ShowsState x t → StopsWith t (visit a (value_of w.cells.cells at) (value_of w.cells.cells p.0) t) why) → StopsWith s o why
+  stops_at_pair follow law gives s o w x a at p why k parts takes visited =
+      let v = value_of w.cells.cells at in
+      let e = value_of w.cells.cells p.0 in
+      let d = value_of w.cells.cells p.1 in
+      stops_on follow s o (visiting a v e d) why x (reaches_pair follow law gives s o w x a at p k parts takes) (λ t shown.
       stops_then t (then_do (visit a v e t) (λ f u. walk_on visit (λ b rest u. walk visit b rest u) d f u)) next why (stops_then t (visit a v e t) _ why (visited t shown)))
 
   -- the end of the list

@@ -111,7 +111,7 @@ taken_leaves old new h = rw (ap (λ (c : WorldCounts). c.bound) h.same) (go old.
   where
     go : (o p : Option ℕ) (e f : Option counted.Expansion) → TakesTicks o p → TakesInExpansion e f → turns_left_at p f new.turns old.bound ≤ turns_left_at o e old.turns old.bound
     go None None None None t x = let l = h.turns in omega (arith, l)
-    go None None (Some e) (Some f) t x = let l = x.1.0 in omega (arith, l)
+    go None None (Some e) (Some f) t x = let l = x.1 in omega (arith, l)
     go (Some n) (Some m) e f t x = omega (arith, t)
     go None (Some m) e f t x = absurd t
     go (Some n) None e f t x = absurd t

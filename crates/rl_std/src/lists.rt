@@ -11,6 +11,7 @@ ghost use Rattle.rl_state.specs.Worlds.{IsWorld, WorldGrows, ObjectsAlone};
 ghost use Rattle.rl_state.specs.Ending.{IsAnswerLive, MeansAnswer};
 ghost use Rattle.rl_std.specs.Chains.{IsChain, MeansChain, chain_in};
 ghost use Rattle.rl_tags.specs.Tagged.{Number};
+ghost use Rattle.rl_world.specs.declared.stop.NStep.TheVariants as step;
 
 use rl_meaning::laws::walks_are_unbounded;
 use rl_state::laws::{objects_are_shown, steps_follow};

@@ -1,5 +1,5 @@
 //! Natives on pairs: CONS, CAR, CDR and what is composed of them, RPLACA and RPLACD.
-ghost use Rattle.std.specs.Prelude.{◌≡◌, IsTrue, None, [], ◌∷◌, ◌++◌};
+ghost use Rattle.std.specs.Prelude.{◌≡◌, IsTrue, IfOk, IfErr, None, [], ◌∷◌, if◌then◌else◌};
 ghost use Rattle.rl_cells.specs.Cell.{is_live};
 ghost use Rattle.rl_meaning.specs.State.{State};
 ghost use Rattle.rl_meaning.specs.Names.{Cons, Part, Rplaca, Rplacd};
@@ -8,7 +8,8 @@ ghost use Rattle.rl_syms.specs.Contents.{value_of};
 ghost use Rattle.rl_state.specs.ShownState.{ShowsState};
 ghost use Rattle.rl_state.specs.Worlds.{IsWorld, WorldGrows, ObjectsAlone};
 ghost use Rattle.rl_state.specs.Ending.{IsAnswerLive, MeansAnswer};
-ghost use Rattle.rl_std.specs.Paths.{is_car, letters_left, letters_of};
+ghost use Rattle.rl_meaning.specs.Lists.{part as reaching};
+ghost use Rattle.rl_std.specs.Paths.{ReachesPart, is_car, letters_left, letters_of};
 
 use rl_state::laws::steps_follow;
 use rl_state::{fail, pair, parts, set_car, set_cdr};
@@ -59,6 +60,27 @@ fn first_letter(path: Path) -> (Letter, Option<Path>)
     }
 }
 
+/// The part of a value along a path, or the atom of which a part is asked for.
+fn reached(w: &World, path: Path, v: Val) -> Result<Val, Val>
+    requires { IsTrue (is_live w.now.cells.cells v) }
+    ensures means { (s : State) → ShowsState w.now s → ReachesPart s (reaching (letters_of path) (value_of w.now.cells.cells v) s) result w.now }
+    ensures live { IfOk result (λ p. IsTrue (is_live w.now.cells.cells p)) }
+    ensures culprit_live { IfErr result (λ p. IsTrue (is_live w.now.cells.cells p)) }
+{
+    steps_follow();
+    let mut left = Some(path);
+    let mut at = v;
+    while let Some(here) = left {
+        let (letter, rest) = first_letter(here);
+        let Some(p) = parts(w, at) else {
+            return Err(at);
+        };
+        at = side(letter, p);
+        left = rest;
+    }
+    Ok(at)
+}
+
 /// CAR, CDR and all that is composed of two to four of them, as natives.
 pub fn part(w: &mut World, path: Path, v: Val) -> NStep
     requires world { IsWorld w.old }
@@ -69,17 +91,10 @@ pub fn part(w: &mut World, path: Path, v: Val) -> NStep
     ensures rest { ObjectsAlone w.old w.new }
 {
     steps_follow();
-    let mut left = Some(path);
-    let mut at = v;
-    while let Some(here) = left {
-        let Some(p) = parts(w, at) else {
-            return fail(w, 13, at);
-        };
-        let (letter, rest) = first_letter(here);
-        at = side(letter, p);
-        left = rest;
+    match reached(w, path, v) {
+        Ok(p) => NStep::Done(p),
+        Err(atom) => fail(w, 13, atom),
     }
-    NStep::Done(at)
 }
 
 /// One of two parts.
