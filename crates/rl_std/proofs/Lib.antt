@@ -4,3 +4,4 @@ pub mod Along
 pub mod Ways
 pub mod Visits
 pub mod Parting
+pub mod Listing
