@@ -12,7 +12,6 @@ pub mod Set
 pub mod HeldWords
 pub mod Steps
 pub mod Pairs
-pub mod Walking
 pub mod Once
 pub mod Totals
 pub mod Entered

@@ -16,16 +16,12 @@ use Rattle.rl_world.specs.Counts.{CountsAreTaken, TakesTurnsAndCells}
 use Rattle.rl_world.specs.declared.world.World.{World}
 use Rattle.rl_meaning.specs.State.{State}
 use Rattle.rl_cells.specs.Cell as cell
-use Rattle.rl_world.specs.declared.stop.NStep as steps
-use Rattle.rl_meaning.specs.Outcome.{Outcome}
-use Rattle.rl_meaning.specs.Lists.{with_pair}
 use Rattle.rl_meaning.specs.Symbols.{pair_at, parts_of, places_of, vector_at}
 use Rattle.rl_state.specs.ShownState.{ShowsState}
 use Rattle.rl_state.specs.Worlds.{IsWorld, ObjectsAlone, WorldGrows}
 use Rattle.rl_meaning.specs.Copying.{with_object}
 use Rattle.rl_state.proofs.Kept.{symbols_kept}
 use Rattle.rl_state.proofs.Made.{counts_changed, expanding_kept, running_changed, world_kept}
-use Rattle.rl_state.specs.Ending.{MeansAnswer}
 
 -- what a pair or a vector refers to
 pub pair_ref : (cells : List Cell) (p : Tagged) → is_pair cells p ≡ true → value_of cells p ≡ Ref (number_at cells (index_of p))
@@ -36,6 +32,10 @@ pair_ref cells (StrAt k) h = absurd (cc)
 pair_ref cells (VectorAt k) h = absurd (cc)
 pair_ref cells (BigAt k) h = absurd (cc)
 pair_ref cells (FunAt k) h = absurd (cc)
+
+-- a live place of a pair is one
+pub pair_by_place : (cells : List Cell) (v : Tagged) (k : ℕ) → v ≡ PairAt k → is_live cells v ≡ true → is_pair cells v ≡ true
+pair_by_place cells v k e h = subst (λ v. is_live cells v ≡ true → is_pair cells v ≡ true) (sym e) (λ h. h) h
 
 pub vector_ref : (cells : List Cell) (p : Tagged) → is_vector cells p ≡ true → value_of cells p ≡ Ref (number_at cells (index_of p))
 vector_ref cells (VectorAt k) h = refl
@@ -241,8 +241,3 @@ places_read read w v n h e s shown =
 
 pub no_places_read : (read : IsRead) (w : World) (v : Tagged) → is_live w.cells.cells v ≡ true → tag_of v ≢ tag.Vector → (s : State) → ShowsState w s → option_map length (vector_at s (value_of w.cells.cells v)) ≡ None
 no_places_read read w v h ne s shown = ap (option_map length) (no_vector_shown read w v h ne s shown)
-
--- ---- natives on a pair
-
-pub of_pair : (s : State) (v : Value) (next : Value × Value → State → Outcome Value) (o : Option (Value × Value)) (r : steps.NStep) (w : World) → pair_at s v ≡ o → MeansAnswer s (with_pair o v s next) r w → MeansAnswer s (with_pair (pair_at s v) v s next) r w
-of_pair s v next o r w e h = subst (λ o. MeansAnswer s (with_pair o v s next) r w) (sym e) h

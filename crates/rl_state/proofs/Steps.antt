@@ -81,6 +81,13 @@ shows_changing w (value.Id i) s h = h
 shows_changing w (value.Str b) s h = h
 shows_changing w (value.Fun f p) s h = h
 
+pub stays_changed : (u : Value) (o : value.Object) (s : State) → StaysBeside s (with_object u o s)
+stays_changed (value.Ref r) o s = stays_still s (with_object (value.Ref r) o s).store s.watched
+stays_changed (value.Int z) o s = stays_still s s.store s.watched
+stays_changed (value.Id i) o s = stays_still s s.store s.watched
+stays_changed (value.Str b) o s = stays_still s s.store s.watched
+stays_changed (value.Fun f p) o s = stays_still s s.store s.watched
+
 pub stays_changing : (u : Value) (o : value.Object) (s : State) → StaysBeside s (changing u (with_object u o s))
 stays_changing (value.Ref r) o s = stays_still s (with_object (value.Ref r) o s).store (changing (value.Ref r) (with_object (value.Ref r) o s)).watched
 stays_changing (value.Int z) o s = stays_still s s.store s.watched

@@ -1,7 +1,7 @@
 -- That a call ends as the definition says.
-use Rattle.std.specs.Prelude.{◌≡◌, true, List, Option, Some, None, Result, Ok, Err}
-use Rattle.rl_tags.specs.Tagged.{Tagged, number_of}
-use Rattle.rl_tree.specs.Value.{Value}
+use Rattle.std.specs.Prelude.{◌≡◌, ℤ, pos, true, List, Option, Some, None, Result, Ok, Err}
+use Rattle.rl_tags.specs.Tagged.{Tagged}
+use Rattle.rl_tree.specs.Value.{Value, Int}
 use Rattle.rl_cells.specs.Cell.{Cell, is_live}
 use Rattle.rl_world.specs.declared.stop.Stop as stops
 use Rattle.rl_world.specs.declared.stop.Stop.TheVariants as stop
@@ -55,9 +55,14 @@ abbrev pub MeansUnseen : State → Outcome (Unit {0}) → Result Tagged stops.St
 MeansUnseen s o (Ok v) w = EndsShown s o (λ t. Done tt t) w
 MeansUnseen s o (Err why) w = StopsWith s o (stop_in w.cells.cells why)
 
+-- the integer that a value is; 0 for any other
+abbrev pub integer_meant : Value → ℤ
+integer_meant (Int z) = z
+integer_meant v = pos 0
+
 abbrev pub MeansAnswer : State → Outcome Value → steps.NStep → World → Type 0
 MeansAnswer s o (step.Done v) w = EndsShown s o (λ t. Done (value_of w.cells.cells v) t) w
-MeansAnswer s o (step.Error n m) w = EndsShown s o (λ t. Failed (number_of n) (value_of w.cells.cells m) t) w
+MeansAnswer s o (step.Error n m) w = EndsShown s o (λ t. Failed (integer_meant (value_of w.cells.cells n)) (value_of w.cells.cells m) t) w
 MeansAnswer s o (step.Stop why) w = StopsWith s o (stop_in w.cells.cells why)
 
 abbrev pub parts_in : List Cell → Option (Tagged × Tagged) → Option (Value × Value)

@@ -10,3 +10,4 @@ pub mod BareStates
 pub mod TiesLaws
 pub mod Prints
 pub mod ReadsAs
+pub mod StepLaws

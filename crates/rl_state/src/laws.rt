@@ -1,6 +1,7 @@
 //! Laws of what a world means. A law is the contract of a function that does nothing.
 ghost use Rattle.rl_state.specs.Worlds.{WorldDetermines};
 ghost use Rattle.rl_state.specs.StateOfWorld.{WorldIsShown};
+ghost use Rattle.rl_state.specs.StepLaws.{ObjectsAreShown, StepsFollow};
 ghost use Rattle.std.specs.Prelude.{ℕ, List};
 ghost use Rattle.rl_meaning.specs.State.{State};
 ghost use Rattle.rl_state.specs.Ties.{EachWorldTies, ToldAtStart};
@@ -13,7 +14,7 @@ use rl_syms::laws::{
     functions_stand, identifiers_are_numbered, meaning_of_change, meaning_of_making,
     meaning_of_naming, meaning_of_reading, names_enter, others_leave_identifiers, table_is_kept,
 };
-use rl_world::laws::{bounds_are_kept, room_is_enough};
+use rl_world::laws::{bounds_are_kept, counts_are_taken, room_is_enough};
 use std::marker::Brand;
 
 /// What is known of cells.
@@ -47,6 +48,20 @@ pub fn a_world_shows_a_state()
     ensures { WorldIsShown }
 {
     identifiers_are_numbered();
+}
+
+/// What one call after another keeps, and that what is watched is not shown.
+pub fn steps_follow()
+    ensures { StepsFollow }
+{
+    counts_are_taken();
+}
+
+/// What a state has at a pair and at a vector of a world that shows it.
+pub fn objects_are_shown()
+    ensures { ObjectsAreShown }
+{
+    meaning_of_reading();
 }
 
 /// Each world has a state to which it ties, whatever is to come.

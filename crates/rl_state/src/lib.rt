@@ -9,7 +9,6 @@ pub mod laws;
 mod levels;
 mod lines;
 mod names;
-mod natives;
 mod objects;
 mod opening;
 mod outside;
@@ -26,8 +25,7 @@ pub use identifiers::{
 };
 pub use levels::{deeper, shallower, walk_pop, walk_push};
 pub use lines::{column, line_length, set_line_length};
-pub use names::{gensym, identifier, symbol};
-pub use natives::{car, cons, length, rplaca};
+pub use names::{gensym, identifier, identifier_or_nil, symbol};
 pub use objects::{
     integer, pair, parts, place, places, set_car, set_cdr, set_place, string, vector,
 };

@@ -6,16 +6,31 @@ ghost use Rattle.rl_syms.specs.Table.{IsFree, is_id};
 ghost use Rattle.rl_meaning.specs.State.{State};
 ghost use Rattle.rl_meaning.specs.Atoms.{gensym as making};
 ghost use Rattle.rl_meaning.specs.Outcome.{made_symbol};
-ghost use Rattle.rl_meaning.specs.Symbols.{interned, new_symbol};
+ghost use Rattle.rl_meaning.specs.Symbols.{interned, named_from, new_symbol, or_nil};
+ghost use Rattle.rl_syms.specs.Contents.{value_of};
 ghost use Rattle.rl_state.specs.ShownState.{ShowsState};
 ghost use Rattle.rl_state.specs.Worlds.{IsWorld, ObjectsAlone, WorldGrows};
 ghost use Rattle.rl_state.specs.Ending.{MeansValue};
 
 use crate::laws::cells_are_known;
 use rl_syms::laws::{identifiers_are_numbered, names_are_identifiers};
-use rl_tags::Val;
+use rl_tags::{NIL, Val};
 use rl_world::laws::counts_are_taken;
 use rl_world::{Stop, World};
+
+/// The interned identifier of this name, or NIL where there is none. It makes nothing.
+pub fn identifier_or_nil(w: &World, name: &[u8]) -> Val
+    requires { IsWorld w.now }
+    ensures means { (s : State) → ShowsState w.now s → or_nil (named_from 0 name.now s.symbols) ≡ value_of w.now.cells.cells result }
+    ensures live { IsTrue (is_live w.now.cells.cells result) }
+{
+    identifiers_are_numbered();
+    names_are_identifiers();
+    match w.syms.find(&w.cells, name) {
+        Some(id) => id,
+        None => NIL,
+    }
+}
 
 /// The interned identifier of this name of 1 to 255 bytes; where there is none yet it is made. After a stop the objects are
 /// as before.

@@ -36,6 +36,7 @@ pub fn pair(w: &mut World, a: Val, d: Val) -> Result<Val, Stop>
     requires d_live { IsTrue (is_live w.old.cells.cells d) }
     ensures means { (s : State) → ShowsState w.old s → MeansValue s (made_pair (value_of w.old.cells.cells a) (value_of w.old.cells.cells d) s) result w.new }
     ensures live { IfOk result (λ v. IsTrue (is_live w.new.cells.cells v)) }
+    ensures pair { IfOk result (λ v. IsTrue (is_pair w.new.cells.cells v)) }
     ensures grows { WorldGrows w.old w.new }
     ensures rest { ObjectsAlone w.old w.new }
 {

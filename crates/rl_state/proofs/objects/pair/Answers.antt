@@ -1,5 +1,6 @@
 use Rattle.std.proofs.Common.{refl, ◌∙◌, arith}
 use Rattle.rl_cells.specs.Cell.{PairCell}
+use Rattle.rl_state.proofs.Pairs.{pair_by_place}
 use Rattle.rl_state.proofs.Made.{has_counted, live_counted, made_ends, pair_ends, pair_stops, rest_made, rest_refl}
 use Rattle.rl_state.proofs.objects.pair.Goals as goal
 
@@ -30,3 +31,6 @@ returns-in-Err-clause-means c = pair_stops c.args.w.now c.room.new.self c.args.a
 
 pub returns-in-Err-clause-rest : goal.returns-in-Err-clause-rest
 returns-in-Err-clause-rest c = rest_refl c.counts_are_taken.ensures c.args.w.now c.room.new.self c.in-Err.ensures.err
+
+pub returns-in-Ok-clause-pair : goal.returns-in-Ok-clause-pair
+returns-in-Ok-clause-pair c = pair_by_place _ c.unwrap.result _ (rw c.unwrap.ensures at c.cons.ensures.names) (rw c.unwrap.ensures at c.cons.ensures.live)

@@ -5,9 +5,8 @@ use Rattle.rl_meaning.specs.Outcome.{Done}
 use Rattle.rl_meaning.specs.Constants.{changing}
 use Rattle.rl_meaning.specs.Copying.{with_object}
 use Rattle.rl_syms.specs.Contents.{value_of}
-use Rattle.rl_state.proofs.Pairs.{of_pair}
-use Rattle.rl_state.proofs.Steps.{shows_changing, stays_changing}
-use Rattle.rl_state.proofs.natives.rplaca.Goals as goal
+use Rattle.rl_std.proofs.Parting.{of_pair}
+use Rattle.rl_std.proofs.pairs.rplaca.Goals as goal
 
 pub returns-in-Some-clause-means : goal.returns-in-Some-clause-means
 returns-in-Some-clause-means c s shown =
@@ -16,7 +15,11 @@ returns-in-Some-clause-means c s shown =
     let d = value_of c.args.w.now.cells.cells c.in-Some._p.1 in
     let t = with_object u (Pair v d) s in
     of_pair s u (λ parts s. Done u (changing u (with_object u (Pair v parts.1) s))) _ (step.Done c.args.u) c.set_car.new.w (c.in-Some.ensures.means s shown)
-    (record { state = changing u t; is = ap (λ x. Done x (changing u t)) (sym (c.set_car.ensures.grows.values c.args.u c.requires.u_live)); good = record { shows = shows_changing c.set_car.new.w u t (c.set_car.ensures.shows s (value_of c.args.w.now.cells.cells c.in-Some._p.0) d shown (c.in-Some.ensures.means s shown)); stays = stays_changing u (Pair v d) s } })
+    (record {
+      state = changing u t;
+      is = ap (λ x. Done x (changing u t)) (sym (c.set_car.ensures.grows.values c.args.u c.requires.u_live));
+      good = c.steps_follow.ensures.changing c.set_car.new.w u (Pair v d) s (c.set_car.ensures.shows s (value_of c.args.w.now.cells.cells c.in-Some._p.0) d shown (c.in-Some.ensures.means s shown));
+    })
 
 pub returns-in-Some-clause-live : goal.returns-in-Some-clause-live
 returns-in-Some-clause-live c = c.set_car.ensures.grows.live c.args.u c.requires.u_live
