@@ -30,6 +30,5 @@ pub mod ListStands
 pub mod FramesStand
 pub mod ReadStands
 pub mod ReadIsDatum
-mod CellsKept
 mod WhatStands
 mod NamesFound

@@ -9,9 +9,9 @@ use rl_syms::laws::{
 };
 use rl_text::laws::{
     blank_text_has_none, related_makers_end_related, unreadable_at_first_byte,
-    what_is_found_is_spelled,
+    what_a_maker_keeps_stands, what_is_found_is_spelled,
 };
-use rl_world::laws::{bounds_are_kept, room_is_enough};
+use rl_world::laws::{bounds_are_kept, counts_are_taken, room_is_enough};
 use std::marker::Brand;
 
 /// What is read in a world is what Lisp text says: a form is read only where the bytes begin with a spelling, and what is
@@ -77,11 +77,13 @@ pub(crate) fn making_is_kept()
     room_is_enough();
 }
 
-/// Reading leaves the cells that stood as they were, however the text ends, also where it is refused or reading stops.
+/// Reading leaves the cells that stood as they were, and of the counts takes turns and cells alone: however the text ends, also
+/// where it is refused or reading stops, and behind each byte of it.
 pub fn reading_keeps_cells()
     ensures { ReadingKeepsCells }
 {
-    related_makers_end_related::<Brand>();
+    counts_are_taken();
+    what_a_maker_keeps_stands::<Brand>();
 }
 
 /// The name that reading looks for among identifiers is found where one has it, and only there.

@@ -19,6 +19,7 @@ ghost use Rattle.rl_world.specs.Walks.{IsSteady};
 
 use crate::bytes::Bytes;
 use crate::frames::{Group, leave};
+use crate::laws::reading_keeps_cells;
 use crate::step::{Ended, Step, read_byte, word_ended};
 use crate::word::{Mode, Word};
 use rl_tags::Val;
@@ -68,6 +69,7 @@ pub fn read_form<T: Bytes>(w: &mut World, text: &mut T) -> Result<Val, ReadFault
 {
     bounds_are_kept();
     counts_are_taken();
+    reading_keeps_cells();
     let base = w.walk_len();
     let mut word = Word::new();
     let mut mode = Mode::Gap;

@@ -7,6 +7,7 @@ pub mod Spelling
 pub mod Refusal
 pub mod Maker
 pub mod Makers
+pub mod Keeping
 pub mod Reader
 pub mod Stored
 pub mod Printed

@@ -1,4 +1,5 @@
 //! Laws of Lisp text. A law is the contract of a function that does nothing.
+ghost use Rattle.rl_text.specs.Keeping.{KeptAlongText, MakerKeeps, nothing_kept};
 ghost use Rattle.rl_text.specs.Makers.{EndRelated, MakerRelations, unrelated};
 ghost use Rattle.rl_text.specs.Laws.{FindsNone, FindsSpelled, PrintsData, RefusesFirst, SpellsOnce};
 
@@ -30,9 +31,11 @@ pub fn printing_is_of_data()
     ensures { PrintsData }
 {}
 
-/// What relates two makers: a caller picks it. It may rest on a number, or whatever else `Given` is.
+/// What relates two makers, under names that grow: a caller picks it. It may rest on a number, or whatever else `Given` is.
 pub trait RelatedMakers {
     ghost Given: { Type 0 };
+
+    ghost Names: { Type 0 };
 
     ghost FirstState: { Type 0 };
 
@@ -50,11 +53,13 @@ pub trait RelatedMakers {
 
     ghost SecondWant: { Type 0 };
 
-    ghost relations: { Self.Given → MakerRelations Self.FirstState Self.FirstValue Self.FirstList Self.FirstWant Self.SecondState Self.SecondValue Self.SecondList Self.SecondWant };
+    ghost relations: { Self.Given → MakerRelations Self.Names Self.FirstState Self.FirstValue Self.FirstList Self.FirstWant Self.SecondState Self.SecondValue Self.SecondList Self.SecondWant };
 }
 
 impl RelatedMakers for Brand {
     ghost Given = { Unit {0} };
+
+    ghost Names = { Unit {0} };
 
     ghost FirstState = { Unit {0} };
 
@@ -75,8 +80,43 @@ impl RelatedMakers for Brand {
     ghost relations = { λ _. unrelated };
 }
 
-/// Two makers whose operations keep relations of their states, values and lists end a text at the same byte, in states and
-/// with values that are related.
+/// Two makers whose operations keep relations of their states, values and lists, under names to which each may add, end a
+/// text at the same byte, in states and with values that are related under grown names; and so does each byte on the way.
 pub fn related_makers_end_related<M: RelatedMakers>()
     ensures { (given : M.Given) → EndRelated (M.relations given) }
+{}
+
+/// What a maker keeps: a caller picks it. It may rest on a number, or whatever else `Given` is.
+pub trait KeptMaking {
+    ghost Given: { Type 0 };
+
+    ghost State: { Type 0 };
+
+    ghost Value: { Type 0 };
+
+    ghost List: { Type 0 };
+
+    ghost Want: { Type 0 };
+
+    ghost keeps: { Self.Given → MakerKeeps Self.State Self.Value Self.List Self.Want };
+}
+
+impl KeptMaking for Brand {
+    ghost Given = { Unit {0} };
+
+    ghost State = { Unit {0} };
+
+    ghost Value = { Unit {0} };
+
+    ghost List = { Unit {0} };
+
+    ghost Want = { Unit {0} };
+
+    ghost keeps = { λ _. nothing_kept };
+}
+
+/// What each operation of a maker keeps of states, values and lists stands behind a text, behind each byte of it, and where
+/// something is wanting.
+pub fn what_a_maker_keeps_stands<K: KeptMaking>()
+    ensures { (given : K.Given) → KeptAlongText (K.keeps given) }
 {}

@@ -8,6 +8,7 @@ use Rattle.rl_meaning.proofs.laws.bounds_meet_nothing.Given as goal
 abbrev pub ghosts-related_makers_end_related : goal.ghosts-related_makers_end_related
 ghosts-related_makers_end_related a = record {
   Given = Unit {0};
+  Names = Unit {0};
   FirstState = ReadingPlace;
   FirstValue = Value;
   FirstList = Chain;

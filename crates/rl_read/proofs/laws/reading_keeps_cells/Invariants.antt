@@ -1,23 +1,8 @@
-use Rattle.std.specs.Prelude.{List}
-use Rattle.rl_cells.specs.Cell.{Cell}
 use Rattle.rl_tags.specs.Tagged.{Tagged}
-use Rattle.rl_text.specs.Datum.{Datum}
-use Rattle.rl_text.specs.Reading.{Items}
 use Rattle.rl_world.specs.declared.stop.Stop.{Stop}
+use Rattle.rl_read.specs.ReadingKeepsCells.{keeping_what_stood}
 use Rattle.rl_read.specs.Stock.{Stock, PairChain}
-use Rattle.rl_read.proofs.CellsKept.{leaving_beside}
 use Rattle.rl_read.proofs.laws.reading_keeps_cells.Given as goal
 
-abbrev pub ghosts-related_makers_end_related : goal.ghosts-related_makers_end_related
-ghosts-related_makers_end_related a = record {
-  Given = List Cell;
-  FirstState = Stock;
-  FirstValue = Tagged;
-  FirstList = PairChain;
-  FirstWant = Stop;
-  SecondState = Unit {0};
-  SecondValue = Datum;
-  SecondList = Items;
-  SecondWant = ⊥;
-  relations = leaving_beside;
-}
+abbrev pub ghosts-what_a_maker_keeps_stands : goal.ghosts-what_a_maker_keeps_stands
+ghosts-what_a_maker_keeps_stands a = record { Given = Stock; State = Stock; Value = Tagged; List = PairChain; Want = Stop; keeps = keeping_what_stood }

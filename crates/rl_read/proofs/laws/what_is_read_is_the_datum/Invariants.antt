@@ -9,6 +9,7 @@ use Rattle.rl_read.proofs.laws.what_is_read_is_the_datum.Given as goal
 abbrev pub ghosts-related_makers_end_related : goal.ghosts-related_makers_end_related
 ghosts-related_makers_end_related a = record {
   Given = Unit {0};
+  Names = Unit {0};
   FirstState = Stock;
   FirstValue = Tagged;
   FirstList = PairChain;

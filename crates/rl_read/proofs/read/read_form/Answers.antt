@@ -2,6 +2,7 @@ use Rattle.std.proofs.Common.{refl, sym, ap, ◌∙◌, subst, ◌≡◌, ℕ, B
 use Rattle.rl_io.specs.Told.{WhereTold}
 use Rattle.rl_read.specs.Taken.{TakesBytes}
 use Rattle.rl_cells.specs.Cell.{is_live}
+use Rattle.rl_text.specs.Keeping.{FramesKept}
 use Rattle.rl_text.specs.Reader as reader
 use Rattle.rl_text.specs.Reader.{NoneLeft, Read, Refused, Stopped, read_by}
 use Rattle.rl_world.specs.declared.stop.Stop.{Stop}
@@ -11,14 +12,14 @@ use Rattle.rl_read.specs.Stock.{Stock, in_stock, stock_of}
 use Rattle.rl_read.specs.Frames.{CanMake, frames_in, frames_kept}
 use Rattle.rl_read.specs.Steps.{IsStep, step_of, mode_of}
 use Rattle.rl_read.specs.Reads.{IsRefusedText, IsStoppedText}
-use Rattle.rl_read.specs.ReadingKeepsCells.{LeavesWhatStood}
+use Rattle.rl_read.specs.ReadingKeepsCells.{LeavesWhatStood, keeping_what_stood}
 use Rattle.rl_read.proofs.MakingStays.{steady_refl, steady_trans}
 use Rattle.rl_read.proofs.ToldByCalls.{told_first, told_same, told_same_cut, told_waits}
 use Rattle.rl_read.proofs.ReadingKeeps.{keeps_refl, keeps_trans, keeps_given, keeps_back, keeps_levels, keeps_read, levels_back, steady_as, read_input, read_waiting, left_input, left_waiting}
 use Rattle.rl_read.proofs.MakingTakesNoTurn.{goes_left, measure_falls, turns_fall}
 use Rattle.rl_read.proofs.ByteByByte.{going_first, kept_first, ready_first, passed_able, passed_levels, passed_ready, passed_same, told_on, told_done, told_before, told_refused, told_halted, told_whole, told_none, told_end_refused, told_end_stopped, told_wants, wanted_is_counted, not_a_read, not_a_write, stop_same}
 use Rattle.rl_read.proofs.TextEnds.{levels_left, same_place}
-use Rattle.rl_read.proofs.WhatStands.{AreFramesBehind, answer_stands, byte_stands, end_stands, given_stands, stood_levels, stood_refl}
+use Rattle.rl_read.proofs.WhatStands.{answer_stands, byte_stands, end_stands, fit_of, given_stands, stood_levels}
 use Rattle.rl_read.proofs.ElementEnds.{ok_mapped as ok_then}
 use Rattle.rl_read.proofs.read.read_form.Goals as goal
 use Rattle.rl_read.proofs.read.read_form.Goals.{then-not-used, else-not-used}
@@ -46,8 +47,8 @@ loop-b-init g c = record {
   writes = refl;
   kept = refl;
   keeps = keeps_refl c.args.w.now;
-  stands = stood_refl c.counts_are_taken.ensures (stock_of c.args.w.now);
-  behind = subst (λ ts. AreFramesBehind (stock_of c.args.w.now) (frames_kept ts)) (sym (kept_first c.walk_len-base.result c.args.w.now c.walk_len-base.ensures)) tt;
+  stands = c.reading_keeps_cells.ensures.first (stock_of c.args.w.now);
+  behind = subst (λ ts. FramesKept (keeping_what_stood (stock_of c.args.w.now)) (frames_kept ts)) (sym (kept_first c.walk_len-base.result c.args.w.now c.walk_len-base.ensures)) tt;
   steady = steady_refl c.walk_len-base.result c.args.w.now.levels;
 }
 
@@ -84,8 +85,8 @@ returns-in-Ok-None-clause-levels g c = λ whole. levels_back c.walk_len-base.res
 pub returns-in-Ok-None-clause-stands : goal.returns-in-Ok-None-clause-stands
 returns-in-Ok-None-clause-stands g c =
     let at = (given_stands c.counts_are_taken.ensures (stock_of c.args.w.now) (g.T.Bytes.takes_turns c.loop-b.text) c.walk_len-base.result c.loop-b.w c.next.new.w c.loop-b.group c.in-Ok-None.field-0 c.in-Ok-None.ensures.turn c.next.ensures.world (c.loop-b.invariant.stands, c.loop-b.invariant.behind)) in
-    answer_stands c.counts_are_taken.ensures (stock_of c.args.w.now) c.at_end.result (λ t. reader.at_end (in_stock t) (mode_of c.loop-b.mode c.loop-b.word.items) (frames_in c.walk_len-base.result c.next.new.w c.loop-b.group) (stock_of c.next.new.w)) c.at_end.new.w c.loop-b.k
-    (end_stands c.counts_are_taken.ensures (stock_of c.args.w.now) true (mode_of c.loop-b.mode c.loop-b.word.items) (frames_in c.walk_len-base.result c.next.new.w c.loop-b.group) (stock_of c.next.new.w) at.1 at.0)
+    answer_stands c.reading_keeps_cells.ensures (stock_of c.args.w.now) c.at_end.result (λ t. reader.at_end (in_stock t) (mode_of c.loop-b.mode c.loop-b.word.items) (frames_in c.walk_len-base.result c.next.new.w c.loop-b.group) (stock_of c.next.new.w)) c.at_end.new.w c.loop-b.k
+    (end_stands c.reading_keeps_cells.ensures (stock_of c.args.w.now) true (mode_of c.loop-b.mode c.loop-b.word.items) (frames_in c.walk_len-base.result c.next.new.w c.loop-b.group) (stock_of c.next.new.w) (fit_of c.loop-b.mode c.loop-b.word.items c.loop-b.invariant.word) at.1 at.0)
     c.at_end.ensures.ok c.at_end.ensures.syntax c.at_end.ensures.end c.at_end.ensures.stop
 
 pub returns-in-Ok-None-clause-keeps : goal.returns-in-Ok-None-clause-keeps
@@ -127,7 +128,7 @@ returns-in-Err-read_byte-clause-printed g c = λ not. told_waits (λ waiting. g.
 pub returns-in-Err-read_byte-clause-stands : goal.returns-in-Err-read_byte-clause-stands
 returns-in-Err-read_byte-clause-stands g c =
     let at = (given_stands c.counts_are_taken.ensures (stock_of c.args.w.now) (g.T.Bytes.takes_turns c.loop-b.text) c.walk_len-base.result c.loop-b.w c.next.new.w c.loop-b.group c.in-Ok-Some.field-0 c.in-Ok-Some.ensures.turn c.next.ensures.world (c.loop-b.invariant.stands, c.loop-b.invariant.behind)) in
-    byte_stands c.counts_are_taken.ensures (stock_of c.args.w.now) (g.T.Bytes.takes_turns c.args.text.now) (mode_of c.loop-b.mode c.loop-b.word.items) c.in-Ok-Some.b (frames_in c.walk_len-base.result c.next.new.w c.loop-b.group) (stock_of c.next.new.w) _ at.1 at.0 (c.in-Err-read_byte.ensures.stop (g.T.Bytes.takes_turns c.args.text.now))
+    byte_stands c.reading_keeps_cells.ensures (stock_of c.args.w.now) (g.T.Bytes.takes_turns c.args.text.now) (mode_of c.loop-b.mode c.loop-b.word.items) c.in-Ok-Some.b (frames_in c.walk_len-base.result c.next.new.w c.loop-b.group) (stock_of c.next.new.w) _ (fit_of c.loop-b.mode c.loop-b.word.items c.loop-b.invariant.word) at.1 at.0 (c.in-Err-read_byte.ensures.stop (g.T.Bytes.takes_turns c.args.text.now))
 
 pub returns-in-Err-read_byte-clause-keeps : goal.returns-in-Err-read_byte-clause-keeps
 returns-in-Err-read_byte-clause-keeps g c = (keeps_trans c.args.w.now c.next.new.w c.read_byte.new.w (keeps_trans c.args.w.now c.loop-b.w c.next.new.w c.loop-b.invariant.keeps (keeps_given c.loop-b.w c.next.new.w c.next.ensures.world)) (keeps_read c.walk_len-base.result c.next.new.w c.read_byte.new.w c.read_byte.ensures.reading))
@@ -180,7 +181,7 @@ pub returns-in-Done-clause-stands : goal.returns-in-Done-clause-stands
 returns-in-Done-clause-stands g c =
     let at = (given_stands c.counts_are_taken.ensures (stock_of c.args.w.now) (g.T.Bytes.takes_turns c.loop-b.text) c.walk_len-base.result c.loop-b.w c.next.new.w c.loop-b.group c.in-Ok-Some.field-0 c.in-Ok-Some.ensures.turn c.next.ensures.world (c.loop-b.invariant.stands, c.loop-b.invariant.behind)) in
     subst (λ (x : World). LeavesWhatStood (stock_of c.args.w.now) (stock_of x)) (sym (done_world g c))
-    (byte_stands c.counts_are_taken.ensures (stock_of c.args.w.now) (g.T.Bytes.takes_turns c.args.text.now) (mode_of c.loop-b.mode c.loop-b.word.items) c.in-Ok-Some.b (frames_in c.walk_len-base.result c.next.new.w c.loop-b.group) (stock_of c.next.new.w) _ at.1 at.0 (c.in-Ok.ensures.ok (g.T.Bytes.takes_turns c.args.text.now) ∙ ap (λ x. step_of c.walk_len-base.result c.read_byte.new.w c.read_byte.new.word.items x) c.in-Done.is))
+    (byte_stands c.reading_keeps_cells.ensures (stock_of c.args.w.now) (g.T.Bytes.takes_turns c.args.text.now) (mode_of c.loop-b.mode c.loop-b.word.items) c.in-Ok-Some.b (frames_in c.walk_len-base.result c.next.new.w c.loop-b.group) (stock_of c.next.new.w) _ (fit_of c.loop-b.mode c.loop-b.word.items c.loop-b.invariant.word) at.1 at.0 (c.in-Ok.ensures.ok (g.T.Bytes.takes_turns c.args.text.now) ∙ ap (λ x. step_of c.walk_len-base.result c.read_byte.new.w c.read_byte.new.word.items x) c.in-Done.is))
 
 pub returns-in-Done-clause-keeps : goal.returns-in-Done-clause-keeps
 returns-in-Done-clause-keeps g c = keeps_trans c.args.w.now c.read_byte.new.w c.if-not-used.w (keeps_trans c.args.w.now c.next.new.w c.read_byte.new.w (keeps_trans c.args.w.now c.loop-b.w c.next.new.w c.loop-b.invariant.keeps (keeps_given c.loop-b.w c.next.new.w c.next.ensures.world)) (keeps_read c.walk_len-base.result c.next.new.w c.read_byte.new.w c.read_byte.ensures.reading)) (keeps_back c.read_byte.new.w c.if-not-used.w (done_world g c))
@@ -198,7 +199,7 @@ pub returns-in-Refuses-clause-stands : goal.returns-in-Refuses-clause-stands
 returns-in-Refuses-clause-stands g c =
     let at = (given_stands c.counts_are_taken.ensures (stock_of c.args.w.now) (g.T.Bytes.takes_turns c.loop-b.text) c.walk_len-base.result c.loop-b.w c.next.new.w c.loop-b.group c.in-Ok-Some.field-0 c.in-Ok-Some.ensures.turn c.next.ensures.world (c.loop-b.invariant.stands, c.loop-b.invariant.behind)) in
     stood_levels (stock_of c.args.w.now) (stock_of c.read_byte.new.w) (stock_of c.refused.new.w) _ (levels_left c.read_byte.new.w c.refused.new.w c.refused.ensures.world)
-    (byte_stands c.counts_are_taken.ensures (stock_of c.args.w.now) (g.T.Bytes.takes_turns c.args.text.now) (mode_of c.loop-b.mode c.loop-b.word.items) c.in-Ok-Some.b (frames_in c.walk_len-base.result c.next.new.w c.loop-b.group) (stock_of c.next.new.w) _ at.1 at.0 (c.in-Ok.ensures.ok (g.T.Bytes.takes_turns c.args.text.now) ∙ ap (λ x. step_of c.walk_len-base.result c.read_byte.new.w c.read_byte.new.word.items x) c.in-Refuses.is))
+    (byte_stands c.reading_keeps_cells.ensures (stock_of c.args.w.now) (g.T.Bytes.takes_turns c.args.text.now) (mode_of c.loop-b.mode c.loop-b.word.items) c.in-Ok-Some.b (frames_in c.walk_len-base.result c.next.new.w c.loop-b.group) (stock_of c.next.new.w) _ (fit_of c.loop-b.mode c.loop-b.word.items c.loop-b.invariant.word) at.1 at.0 (c.in-Ok.ensures.ok (g.T.Bytes.takes_turns c.args.text.now) ∙ ap (λ x. step_of c.walk_len-base.result c.read_byte.new.w c.read_byte.new.word.items x) c.in-Refuses.is))
 
 pub returns-in-Refuses-clause-keeps : goal.returns-in-Refuses-clause-keeps
 returns-in-Refuses-clause-keeps g c = keeps_trans c.args.w.now c.read_byte.new.w c.refused.new.w (keeps_trans c.args.w.now c.next.new.w c.read_byte.new.w (keeps_trans c.args.w.now c.loop-b.w c.next.new.w c.loop-b.invariant.keeps (keeps_given c.loop-b.w c.next.new.w c.next.ensures.world)) (keeps_read c.walk_len-base.result c.next.new.w c.read_byte.new.w c.read_byte.ensures.reading)) (keeps_levels c.read_byte.new.w c.refused.new.w c.refused.ensures.world)
@@ -212,7 +213,7 @@ loop-b-smaller g c = measure_falls (g.T.Bytes.takes_turns c.loop-b.text) (g.T.By
 pub loop-b-preserved : goal.loop-b-preserved
 loop-b-preserved g c = let is = subst (λ x. IsStep c.walk_len-base.result c.read_byte.new.w c.read_byte.new.word.items x) c.in-Goes.is c.in-Ok.ensures.step in
     let at = (given_stands c.counts_are_taken.ensures (stock_of c.args.w.now) (g.T.Bytes.takes_turns c.loop-b.text) c.walk_len-base.result c.loop-b.w c.next.new.w c.loop-b.group c.in-Ok-Some.field-0 c.in-Ok-Some.ensures.turn c.next.ensures.world (c.loop-b.invariant.stands, c.loop-b.invariant.behind)) in
-    let on = byte_stands c.counts_are_taken.ensures (stock_of c.args.w.now) (g.T.Bytes.takes_turns c.args.text.now) (mode_of c.loop-b.mode c.loop-b.word.items) c.in-Ok-Some.b (frames_in c.walk_len-base.result c.next.new.w c.loop-b.group) (stock_of c.next.new.w) _ at.1 at.0 (c.in-Ok.ensures.ok (g.T.Bytes.takes_turns c.args.text.now) ∙ ap (λ x. step_of c.walk_len-base.result c.read_byte.new.w c.read_byte.new.word.items x) c.in-Goes.is) in
+    let on = byte_stands c.reading_keeps_cells.ensures (stock_of c.args.w.now) (g.T.Bytes.takes_turns c.args.text.now) (mode_of c.loop-b.mode c.loop-b.word.items) c.in-Ok-Some.b (frames_in c.walk_len-base.result c.next.new.w c.loop-b.group) (stock_of c.next.new.w) _ (fit_of c.loop-b.mode c.loop-b.word.items c.loop-b.invariant.word) at.1 at.0 (c.in-Ok.ensures.ok (g.T.Bytes.takes_turns c.args.text.now) ∙ ap (λ x. step_of c.walk_len-base.result c.read_byte.new.w c.read_byte.new.word.items x) c.in-Goes.is) in
     record {
       base = c.loop-b.invariant.base;
       ready = is.0;

@@ -5,8 +5,8 @@ use Rattle.rl_read.specs.Stock.{stock_of}
 use Rattle.rl_read.specs.Frames.{IsReadyToRead, frames_in}
 use Rattle.rl_read.specs.Steps.{IsMode, mode_of}
 use Rattle.rl_read.specs.Reads.{KeepsByReading}
-use Rattle.rl_read.specs.ReadingKeepsCells.{LeavesWhatStood}
-use Rattle.rl_read.proofs.WhatStands.{AreFramesBehind}
+use Rattle.rl_read.specs.ReadingKeepsCells.{LeavesWhatStood, keeping_what_stood}
+use Rattle.rl_text.specs.Keeping.{FramesKept}
 use Rattle.std.specs.Prelude.{if◌then◌else◌}
 use Rattle.rl_world.specs.Counts.{count_turns_left}
 use Rattle.rl_read.specs.Reads.{IsGoing}
@@ -26,7 +26,7 @@ invariant-loop-b g l = record {
   kept : g.T.Bytes.kept l.text ≡ g.T.Bytes.kept l.fn.text;
   keeps : KeepsByReading l.fn.w l.w;
   stands : LeavesWhatStood (stock_of l.fn.w) (stock_of l.w);
-  behind : AreFramesBehind (stock_of l.fn.w) (frames_in l.base l.w l.group);
+  behind : FramesKept (keeping_what_stood (stock_of l.fn.w)) (frames_in l.base l.w l.group);
   steady : IsSteady l.base l.fn.w.levels l.w.levels;
 }
 
