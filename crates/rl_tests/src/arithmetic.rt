@@ -7,7 +7,7 @@ use rl_num::{NumFault, less, make, minus, plus, power, quotient, remainder, time
 use rl_tags::Val;
 use std::test::Fail;
 
-#[derive(Clone, Copy, Debug)]
+#[derive(Clone, Copy)]
 enum Operation {
     Plus,
     Minus,
@@ -24,8 +24,10 @@ const GREATEST: i128 = 576_460_752_303_423_487;
 
 const LEAST: i128 = -576_460_752_303_423_488;
 
-/// What each operation answers of two integers.
-const ROWS: [(Operation, i128, i128, Result<i128, NumFault>); 54] = [
+/// An operation, two integers, and what it answers of them.
+type Row = (Operation, i128, i128, Result<i128, NumFault>);
+
+const ROWS: &[Row] = &[
     (Plus, 2, 3, Ok(5)),
     (Plus, GREATEST, LEAST, Ok(-1)),
     (Plus, 576_460_752_303_423_486, 1, Ok(GREATEST)),
@@ -105,22 +107,33 @@ fn answer(cells: &mut Cells, operation: Operation, m: i128, n: i128) -> Result<i
     Ok(value(cells, v))
 }
 
+/// Whether an operation answers as its row says, in cells with room for one integer.
+fn answers(rt: &HostRuntime, row: &Row) -> Result<bool, Fail> {
+    let mut cells = Cells::new(rt.alloc(), 1)?;
+    cells.settle();
+    Ok(answer(&mut cells, row.0, row.1, row.2) == row.3)
+}
+
+/// The first row that fails.
+fn first_wrong(rt: &HostRuntime, rows: &[Row]) -> Result<Option<usize>, Fail> {
+    for (i, row) in rows.iter().enumerate() {
+        if !answers(rt, row)? {
+            return Ok(Some(i));
+        }
+    }
+    Ok(None)
+}
+
 #[test]
 fn operations_answer(rt: HostRuntime) -> Result<(), Fail> {
-    for (operation, m, n, expected) in ROWS {
-        let mut cells = Cells::new(rt.alloc(), 1)?;
-        cells.settle();
-        assert_eq!(rt;
-            answer(&mut cells, operation, m, n),
-            expected,
-            "{operation:?} of {m} and {n}"
-        );
-    }
+    assert_eq!(rt; first_wrong(&rt, ROWS)?, None);
     Ok(())
 }
 
-/// Pairs of integers, and whether the first is less.
-const ORDERED: [(i128, i128, bool); 7] = [
+/// Two integers, and whether the first is less.
+type Ordered = (i128, i128, bool);
+
+const ORDERED: &[Ordered] = &[
     (LEAST, GREATEST, true),
     (GREATEST, LEAST, false),
     (-1, 0, true),
@@ -136,12 +149,25 @@ fn is_less(cells: &mut Cells, m: i128, n: i128) -> Result<bool, NumFault> {
     Ok(less(cells, a, b))
 }
 
+/// Whether two integers are ordered as their row says, in cells with room for one.
+fn are_ordered(rt: &HostRuntime, row: &Ordered) -> Result<bool, Fail> {
+    let mut cells = Cells::new(rt.alloc(), 1)?;
+    cells.settle();
+    Ok(is_less(&mut cells, row.0, row.1) == Ok(row.2))
+}
+
+/// The first row that fails.
+fn first_wrong_order(rt: &HostRuntime, rows: &[Ordered]) -> Result<Option<usize>, Fail> {
+    for (i, row) in rows.iter().enumerate() {
+        if !are_ordered(rt, row)? {
+            return Ok(Some(i));
+        }
+    }
+    Ok(None)
+}
+
 #[test]
 fn integers_are_ordered(rt: HostRuntime) -> Result<(), Fail> {
-    for (m, n, expected) in ORDERED {
-        let mut cells = Cells::new(rt.alloc(), 1)?;
-        cells.settle();
-        assert_eq!(rt; is_less(&mut cells, m, n), Ok(expected), "{m} and {n}");
-    }
+    assert_eq!(rt; first_wrong_order(&rt, ORDERED)?, None);
     Ok(())
 }

@@ -1,5 +1,6 @@
 //! The store of objects.
-ghost use Rattle.std.specs.Prelude.{◌≡◌, None, IsTrue};
+ghost use Rattle.std.specs.Prelude.{◌≡◌, [], None, IfOk, IsTrue};
+ghost use Rattle.rl_tags.specs.Ids.{nil_id};
 ghost use Rattle.rl_tags.specs.Tagged.{Tagged};
 ghost use Rattle.rl_cells.specs.Cell.{is_live};
 
@@ -10,7 +11,7 @@ use std::marker::Model;
 use std::test::Fail;
 
 /// What the cells are taken for.
-#[derive(Clone, Copy, Debug)]
+#[derive(Clone, Copy)]
 enum Stage {
     Opening,
     Run,
@@ -18,23 +19,29 @@ enum Stage {
 }
 
 /// The bound on a run, what is filled after one pair of opening, how many pairs fit, and how many cells count then.
-const FILLS: [(u16, Stage, u32, u32); 4] = [
+type FillRow = (u16, Stage, u32, u32);
+
+const FILLS: &[FillRow] = &[
     (1000, Stage::Run, 1000, 1000),
     (2, Stage::Run, 2, 2),
     (2, Stage::Opening, 65535, 0),
     (1, Stage::Spare, 1_000_000, 0),
 ];
 
-/// Strings, how many bytes each has, its last byte, and the cells that are taken then.
-const STRINGS: [(&[u8], u32, u8, u32); 4] = [
+/// A string, how many bytes it has, its last byte, and the cells that are taken then.
+type StringRow = (&'static [u8], u32, u8, u32);
+
+const STRINGS: &[StringRow] = &[
     (b"", 0, 0, 1),
     (b"fifteen letters", 15, b's', 3),
     (b"sixteen letters.", 16, b'.', 5),
     (b"seventeen letters", 17, b's', 8),
 ];
 
-/// The places of vectors, and the cells that are taken then.
-const VECTORS: [(u32, u32); 3] = [(0, 1), (1, 3), (2, 5)];
+/// The places of a vector, and the cells that are taken then.
+type VectorRow = (u32, u32);
+
+const VECTORS: &[VectorRow] = &[(0, 1), (1, 3), (2, 5)];
 
 /// Makes pairs until the store is full. How many.
 fn fill(cells: &mut Cells) -> u32 {
@@ -130,12 +137,23 @@ impl Model for Bench {
     ghost invariant = { λ b. IsTrue (is_live b.cells.cells nil_id) };
 }
 
+/// Makes NIL behind its name, the first objects of opening.
+fn make_nil(cells: &mut Cells) -> Result<(), Full>
+    requires empty { cells.old.cells ≡ [] }
+    requires opening { cells.old.count ≡ None }
+    ensures live { IfOk result (λ _. IsTrue (is_live cells.new.cells nil_id)) }
+    ensures opening { cells.new.count ≡ None }
+{
+    let _name = cells.string(b"sixteen letters.")?;
+    let _nil = cells.block(Tag::Id, 6)?;
+    Ok(())
+}
+
 impl Bench {
     /// NIL, made in opening, and this many cells after it.
     fn new(alloc: Global, cells: u16) -> Result<Bench, Fail> {
         let mut cells = Cells::new(alloc, u32::from(cells))?;
-        let _name = cells.string(b"sixteen letters.")?;
-        let _nil = cells.block(Tag::Id, 6)?;
+        make_nil(&mut cells)?;
         cells.settle();
         Ok(Bench { cells })
     }
@@ -192,65 +210,100 @@ impl Bench {
     }
 }
 
+/// The first row that fails.
+fn first_wrong_fill(alloc: Global, rows: &[FillRow]) -> Result<Option<usize>, Fail> {
+    for (i, row) in rows.iter().enumerate() {
+        if filled(alloc, row.0, row.1)? != (row.2, 0, row.3) {
+            return Ok(Some(i));
+        }
+    }
+    Ok(None)
+}
+
 #[test]
 fn pairs_fill_the_store(rt: HostRuntime) -> Result<(), Fail> {
-    for (bound, stage, fit, count) in FILLS {
-        let found = filled(rt.alloc(), bound, stage)?;
-        assert_eq!(rt; found, (fit, 0, count), "{stage:?}");
-    }
+    assert_eq!(rt; first_wrong_fill(rt.alloc(), FILLS)?, None);
     Ok(())
+}
+
+/// The first row that fails.
+fn first_wrong_string(bench: &mut Bench, rows: &[StringRow]) -> Option<usize> {
+    for (i, (bytes, long, last, used)) in rows.iter().enumerate() {
+        if bench.string(bytes) != Some((*long, *last)) || bench.used() != *used {
+            return Some(i);
+        }
+    }
+    None
 }
 
 #[test]
 fn strings_take_a_cell_for_16_bytes(rt: HostRuntime) -> Result<(), Fail> {
-    let mut bench = Bench::new(rt.alloc(), 4105)?;
-    for (bytes, long, last, used) in STRINGS {
-        assert_eq!(rt; bench.string(bytes), Some((long, last)));
-        assert_eq!(rt; bench.used(), used);
-    }
     let bytes = vec![in rt.alloc(); 7; 65535]?;
+    let mut bench = Bench::new(rt.alloc(), 4105)?;
+    assert_eq!(rt; first_wrong_string(&mut bench, STRINGS), None);
     assert_eq!(rt; bench.string(&bytes), Some((65535, 7)));
     assert_eq!(rt; bench.used(), 4105);
     assert_eq!(rt; bench.string(b""), None);
     Ok(())
 }
 
+/// The first row that fails.
+fn first_wrong_vector(bench: &mut Bench, rows: &[VectorRow]) -> Option<usize> {
+    for (i, (places, used)) in rows.iter().enumerate() {
+        let last = if *places > 0 { NIL } else { Val::small(-1) };
+        if bench.vector(*places) != Some((*places, last)) || bench.used() != *used {
+            return Some(i);
+        }
+    }
+    None
+}
+
 #[test]
 fn vectors_take_a_cell_for_two_places(rt: HostRuntime) -> Result<(), Fail> {
     let mut bench = Bench::new(rt.alloc(), 7)?;
-    for (places, used) in VECTORS {
-        let last = if places > 0 { NIL } else { Val::small(-1) };
-        assert_eq!(rt; bench.vector(places), Some((places, last)));
-        assert_eq!(rt; bench.used(), used);
-    }
+    assert_eq!(rt; first_wrong_vector(&mut bench, VECTORS), None);
     assert_eq!(rt; bench.put_second(), Some((NIL, Val::small(5))));
     assert_eq!(rt; bench.vector(0), None);
     Ok(())
 }
 
-#[test]
-fn two_pairs_see_the_change_of_a_third(rt: HostRuntime) -> Result<(), Fail> {
-    let mut cells = Cells::new(rt.alloc(), 1000)?;
+/// What two pairs tell of a third that they share, whose car became 7.
+fn told_by_two(cells: &mut Cells) -> Result<(Val, Val), Full> {
     let named = cells.cons(Val::small(1), Val::small(2))?;
     let one = cells.cons(named, Val::small(3))?;
     let other = cells.cons(Val::small(4), named)?;
-    change(&mut cells, named, Val::small(7));
-    let by_one = first(&cells, one);
-    let by_other = rest(&cells, other);
-    assert_eq!(rt; first(&cells, by_one), Val::small(7));
-    assert_eq!(rt; first(&cells, by_other), Val::small(7));
+    change(cells, named, Val::small(7));
+    let by_one = first(cells, one);
+    let by_other = rest(cells, other);
+    Ok((first(cells, by_one), first(cells, by_other)))
+}
+
+#[test]
+fn two_pairs_see_the_change_of_a_third(rt: HostRuntime) -> Result<(), Fail> {
+    let mut cells = Cells::new(rt.alloc(), 1000)?;
+    let told = told_by_two(&mut cells);
+    assert_eq!(rt; told, Ok((Val::small(7), Val::small(7))));
     Ok(())
+}
+
+/// Makes a pair after one that is kept, gives it back and makes another: the place of the pair that was given back, the cells
+/// that are used then, the car of what is kept, and the place of the last pair.
+fn released(cells: &mut Cells) -> Result<(Option<u64>, u32, Val, u64), Full>
+    requires { cells.old.mark ≡ None }
+{
+    let kept = cells.cons(Val::small(5), Val::small(6))?;
+    let place = make_and_release(cells);
+    let used = cells.used();
+    let car = first(cells, kept);
+    let next = cells.cons(Val::small(7), Val::small(8))?;
+    Ok((place, used, car, next.index()))
 }
 
 #[test]
 fn release_gives_back_what_came_after_the_mark(rt: HostRuntime) -> Result<(), Fail> {
     let mut cells = Cells::new(rt.alloc(), 1000)?;
     cells.settle();
-    let kept = cells.cons(Val::small(5), Val::small(6))?;
-    assert_eq!(rt; make_and_release(&mut cells), Some(1));
-    assert_eq!(rt; cells.used(), 1);
-    assert_eq!(rt; first(&cells, kept), Val::small(5));
-    let next = cells.cons(Val::small(7), Val::small(8))?;
-    assert_eq!(rt; next.index(), 1);
+    let told = released(&mut cells);
+    assert_eq!(rt; told, Ok((Some(1), 1, Val::small(5), 1)));
     Ok(())
 }

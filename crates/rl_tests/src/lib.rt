@@ -6,6 +6,8 @@ mod arithmetic;
 #[cfg(test)]
 mod cells;
 #[cfg(test)]
+mod edge;
+#[cfg(test)]
 mod names;
 #[cfg(test)]
 mod numbers;

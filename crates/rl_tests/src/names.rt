@@ -127,76 +127,122 @@ fn pair_name(number: u8) -> [u8; 2] {
     [b'a' + number / 20, b'a' + number % 20]
 }
 
+/// The first of the names of opening that is not found at its place.
+fn first_misplaced(bench: &Bench) -> Option<usize> {
+    for number in 0..OPENING_NAMES {
+        if bench.find(opening_name(number)) != Some(opening_id(number)) {
+            return Some(number);
+        }
+    }
+    None
+}
+
+/// The first byte that is no name.
+fn first_missing(bench: &Bench) -> Option<u8> {
+    for byte in 0..=255u8 {
+        if bench.find(&[byte]).is_none() {
+            return Some(byte);
+        }
+    }
+    None
+}
+
 #[test]
 fn opening_makes_the_constants(rt: HostRuntime) -> Result<(), Fail> {
     let bench = Bench::new(rt.alloc(), 1_000)?;
-    for number in 0..OPENING_NAMES {
-        let found = bench.find(opening_name(number));
-        assert_eq!(rt; found, Some(opening_id(number)));
-    }
-    for byte in 0..=255u8 {
-        assert!(rt; bench.find(&[byte]).is_some());
-    }
-    for (name, found) in [
-        (b"NIL".as_slice(), Some(NIL)),
-        (b"T", Some(T)),
-        (b"nil", None),
-        (b"", None),
-    ] {
-        assert_eq!(rt; bench.find(name), found);
-    }
+    assert_eq!(rt; first_misplaced(&bench), None);
+    assert_eq!(rt; first_missing(&bench), None);
+    assert_eq!(rt; bench.find(b"NIL"), Some(NIL));
+    assert_eq!(rt; bench.find(b"T"), Some(T));
+    assert_eq!(rt; bench.find(b"nil"), None);
+    assert_eq!(rt; bench.find(b""), None);
     Ok(())
+}
+
+/// The first of 200 names that is not made, each in five cells.
+fn first_unmade(bench: &mut Bench) -> Option<u8> {
+    for number in 0..200 {
+        let made = bench.intern(&pair_name(number));
+        if made.is_none() || bench.used() != 5 * (u32::from(number) + 1) {
+            return Some(number);
+        }
+    }
+    None
 }
 
 #[test]
 fn names_of_two_letters_fill_the_cells(rt: HostRuntime) -> Result<(), Fail> {
     let mut bench = Bench::new(rt.alloc(), 1_000)?;
-    for number in 0..200 {
-        assert!(rt; bench.intern(&pair_name(number)).is_some());
-        assert_eq!(rt; bench.used(), 5 * (u32::from(number) + 1));
-    }
+    assert_eq!(rt; first_unmade(&mut bench), None);
     let first = bench.find(b"aa");
     assert!(rt; first.is_some());
-    for (name, found) in [(b"ka".as_slice(), None), (b"aa", first)] {
-        assert_eq!(rt; bench.intern(name), found);
-        assert_eq!(rt; bench.used(), 1_000);
-    }
+    assert_eq!(rt; (bench.intern(b"ka"), bench.used()), (None, 1_000));
+    assert_eq!(rt; (bench.intern(b"aa"), bench.used()), (first, 1_000));
     Ok(())
+}
+
+/// Makes an identifier that is not interned, and then one of the same name that is: whether the first was made, whether it is
+/// found before the second, whether both are one, and the cells that are used then.
+fn loose_and_interned(bench: &mut Bench) -> (bool, bool, bool, u32) {
+    let loose = bench.loose(b"ab");
+    let found = bench.find(b"ab");
+    let interned = bench.intern(b"ab");
+    (
+        loose.is_some(),
+        found.is_some(),
+        interned == loose,
+        bench.used(),
+    )
 }
 
 #[test]
 fn a_loose_identifier_is_not_found(rt: HostRuntime) -> Result<(), Fail> {
     let mut bench = Bench::new(rt.alloc(), 1_000)?;
-    let loose = bench.loose(b"ab");
-    assert!(rt; loose.is_some());
-    assert_eq!(rt; bench.find(b"ab"), None);
-    assert!(rt; bench.intern(b"ab") != loose);
-    assert_eq!(rt; bench.used(), 10);
+    let told = loose_and_interned(&mut bench);
+    assert_eq!(rt; told, (true, false, false, 10));
     assert!(rt; bench.gensym().is_some());
     assert_eq!(rt; bench.naming(), (5, false));
     Ok(())
+}
+
+/// Sets the next field.
+fn set_field(bench: &mut Bench, step: u8) {
+    match step {
+        1 => bench.set_value(1),
+        2 => bench.set_plist(2),
+        3 => bench.set_kind(VarKind::Global),
+        _ => bench.undefine(),
+    }
+}
+
+/// The fields after so many steps.
+fn fields_after(step: u8) -> (Option<Val>, Val, bool, VarKind) {
+    let value = if step < 1 { None } else { Some(Val::small(1)) };
+    let plist = if step < 2 { NIL } else { Val::small(2) };
+    let kind = if step < 3 {
+        VarKind::Plain
+    } else {
+        VarKind::Global
+    };
+    (value, plist, false, kind)
+}
+
+/// The first step after which a field is not as it should be.
+fn first_wrong_field(bench: &mut Bench) -> Option<u8> {
+    for step in 0..5 {
+        set_field(bench, step);
+        if bench.fields() != fields_after(step) {
+            return Some(step);
+        }
+    }
+    None
 }
 
 #[test]
 fn each_field_is_set_alone(rt: HostRuntime) -> Result<(), Fail> {
     let mut bench = Bench::new(rt.alloc(), 1_000)?;
     let id = bench.intern(b"ID");
-    for step in 0..5 {
-        match step {
-            1 => bench.set_value(1),
-            2 => bench.set_plist(2),
-            3 => bench.set_kind(VarKind::Global),
-            _ => bench.undefine(),
-        }
-        let value = if step < 1 { None } else { Some(Val::small(1)) };
-        let plist = if step < 2 { NIL } else { Val::small(2) };
-        let kind = if step < 3 {
-            VarKind::Plain
-        } else {
-            VarKind::Global
-        };
-        assert_eq!(rt; bench.fields(), (value, plist, false, kind));
-    }
+    assert_eq!(rt; first_wrong_field(&mut bench), None);
     assert_eq!(rt; bench.find(b"ID"), id);
     assert_eq!(rt; bench.naming(), (2, true));
     Ok(())

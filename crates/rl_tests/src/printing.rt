@@ -1,9 +1,10 @@
 //! Values printed to objects in memory: tables of how each is made, and of the text that comes by PRIN1 and by PRIN2.
-ghost use Rattle.std.specs.Prelude.{IfOk, IsTrue};
+ghost use Rattle.std.specs.Prelude.{◌≡◌, IfOk, IsTrue};
 ghost use Rattle.rl_cells.specs.Cell.{is_wide};
 ghost use Rattle.rl_syms.specs.Table.{IsTable};
 
-use rl_io::{Io, MemFiles, MemSink, MemSource};
+use crate::edge::Edge;
+use rl_io::Io;
 use rl_print::{Style, print1, print2};
 use rl_syms::laws::{others_leave_identifiers, table_is_kept};
 use rl_tags::{NIL, Tag, Val};
@@ -45,7 +46,7 @@ type Pieces = &'static [(&'static [u8], usize)];
 /// How a value is made, and its text by PRIN1 and by PRIN2.
 type Texts = (&'static [Step], &'static [u8], &'static [u8]);
 
-const TEXTS: [Texts; 24] = [
+const TEXTS: &[Texts] = &[
     (&[Step::Name(b"NIL")], b"NIL", b"NIL"),
     (&[Step::Name(b"a1_+")], b"!a1_!+", b"a1_+"),
     (&[Step::Name(b"1A")], b"!1A", b"1A"),
@@ -208,10 +209,7 @@ struct Bench {
     world: World,
     value: Val,
     held: Val,
-    input: MemSource,
-    out: MemSink,
-    notes: MemSink,
-    files: MemFiles,
+    edge: Edge,
 }
 
 impl Model for Bench {
@@ -245,21 +243,30 @@ fn world_within(rt: &HostRuntime, turns: Option<u64>, nest: u32) -> Result<World
     Ok(world)
 }
 
+/// Makes this the line length, where it is short enough. Whether it is.
+fn set_line(world: &mut World, line: u64) -> bool
+    ensures cells { world.new.cells ≡ world.old.cells }
+    ensures names { world.new.syms ≡ world.old.syms }
+{
+    if line == 0 || line > 1_000 {
+        return false;
+    }
+    world.set_line_length(line);
+    true
+}
+
 impl Bench {
-    fn new(rt: &HostRuntime, (turns, nest, line, write_fails): &Bounds) -> Result<Bench, Fail> {
-        let mut world = world_within(rt, *turns, *nest)?;
-        if *line == 0 || *line > 1_000 {
+    fn new(rt: &HostRuntime, bounds: &Bounds) -> Result<Bench, Fail> {
+        let edge = Edge::new(rt, (b"", &[]), (60_000, bounds.3), (0, &[]))?;
+        let mut world = world_within(rt, bounds.0, bounds.1)?;
+        if !set_line(&mut world, bounds.2) {
             return Err(Fail::new("lines of no such length"));
         }
-        world.set_line_length(*line);
         Ok(Bench {
             world,
             value: Val::small(0),
             held: Val::small(0),
-            input: MemSource::new(rt.alloc(), b"", &[])?,
-            out: MemSink::new(rt.alloc(), 60_000, write_fails)?,
-            notes: MemSink::new(rt.alloc(), 0, &[])?,
-            files: MemFiles::new(rt.alloc(), 0, &[])?,
+            edge,
         })
     }
 
@@ -431,30 +438,30 @@ impl Bench {
 
     fn prin1(&mut self) -> Result<(), Stop> {
         let io = &mut Io {
-            input: &mut self.input,
-            out: &mut self.out,
-            notes: &mut self.notes,
-            files: &mut self.files,
+            input: &mut self.edge.input,
+            out: &mut self.edge.out,
+            notes: &mut self.edge.notes,
+            files: &mut self.edge.files,
         };
         print1(&mut self.world, self.value, io)
     }
 
     fn prin2(&mut self) -> Result<(), Stop> {
         let io = &mut Io {
-            input: &mut self.input,
-            out: &mut self.out,
-            notes: &mut self.notes,
-            files: &mut self.files,
+            input: &mut self.edge.input,
+            out: &mut self.edge.out,
+            notes: &mut self.edge.notes,
+            files: &mut self.edge.files,
         };
         print2(&mut self.world, self.value, io)
     }
 
     fn flush(&mut self) -> Result<(), Stop> {
         let io = &mut Io {
-            input: &mut self.input,
-            out: &mut self.out,
-            notes: &mut self.notes,
-            files: &mut self.files,
+            input: &mut self.edge.input,
+            out: &mut self.edge.out,
+            notes: &mut self.edge.notes,
+            files: &mut self.edge.files,
         };
         self.world.flush(io)
     }
@@ -464,7 +471,7 @@ impl Bench {
     }
 
     fn bytes(&self) -> &[u8] {
-        self.out.bytes()
+        self.edge.out.bytes()
     }
 }
 
@@ -508,7 +515,7 @@ fn other_text(rt: &HostRuntime, rows: &[Texts]) -> Result<Option<usize>, Fail> {
 
 #[test]
 fn values_have_their_texts(rt: HostRuntime) -> Result<(), Fail> {
-    assert_eq!(rt; other_text(&rt, &TEXTS)?, None);
+    assert_eq!(rt; other_text(&rt, TEXTS)?, None);
     Ok(())
 }
 
@@ -556,23 +563,35 @@ fn texts_of_names(rt: &HostRuntime) -> Result<Vec<u8>, Fail> {
     Ok(text)
 }
 
+/// Whether the names of one byte are printed as this text.
+fn names_print(rt: &HostRuntime, text: &[u8]) -> Result<bool, Fail> {
+    let mut bench = Bench::new(rt, &(None, 10, 1_000, &[]))?;
+    Ok(print_names(&mut bench) && bench.bytes() == text)
+}
+
 /// Names of one byte in a line, which none of them breaks.
 #[test]
 fn names_of_one_byte(rt: HostRuntime) -> Result<(), Fail> {
-    let mut bench = Bench::new(&rt, &(None, 10, 1_000, &[]))?;
-    assert!(rt; print_names(&mut bench));
     let text = texts_of_names(&rt)?;
-    assert_eq!(rt; bench.bytes(), text.as_slice());
+    assert!(rt; names_print(&rt, text.as_slice())?);
     Ok(())
+}
+
+/// Makes a string and prints it by PRIN2. Whether all ends well.
+fn print_text(bench: &mut Bench, bytes: &[u8]) -> bool {
+    bench.text(bytes) && bench.print(Style::Prin2).is_ok()
+}
+
+/// Whether two strings, printed in lines of 80 bytes, come to this text.
+fn strings_print(rt: &HostRuntime, one: &[u8], other: &[u8], text: &[u8]) -> Result<bool, Fail> {
+    let mut bench = Bench::new(rt, &(None, 10, 80, &[]))?;
+    Ok(print_text(&mut bench, one) && print_text(&mut bench, other) && bench.bytes() == text)
 }
 
 /// What was printed before counts in the length of the line.
 #[test]
 fn a_line_of_79_and_two_more(rt: HostRuntime) -> Result<(), Fail> {
-    let mut bench = Bench::new(&rt, &(None, 10, 80, &[]))?;
-    assert!(rt; bench.text(&[b'x'; 79]) && bench.print(Style::Prin2).is_ok());
-    assert!(rt; bench.text(b"yy") && bench.print(Style::Prin2).is_ok());
     let text = bytes_of(&rt, &[(b"x", 79), (b"\nyy", 1)])?;
-    assert_eq!(rt; bench.bytes(), text.as_slice());
+    assert!(rt; strings_print(&rt, &[b'x'; 79], b"yy", text.as_slice())?);
     Ok(())
 }

@@ -4,6 +4,7 @@ ghost use Rattle.std.specs.Prelude.{◌≡◌, IsTrue};
 ghost use Rattle.rl_cells.specs.Cell.{is_live, is_str};
 ghost use Rattle.rl_syms.specs.Table.{IsTable};
 
+use crate::edge::sources;
 use rl_io::{Io, MemFiles, MemSource, NullSink};
 use rl_read::laws::opened_worlds_make;
 use rl_read::{Bytes, ReadFault, SliceBytes, read_form};
@@ -421,34 +422,60 @@ fn say_atom(w: &World, v: Val, said: &mut Text)
     }
 }
 
+/// Says what a text spells, and how many bytes are left.
+fn say_text(bench: &mut Bench, text: &str, said: &mut Text) {
+    let mut bytes = SliceBytes::new(text.as_bytes());
+    bench.say(&mut bytes, 100, said);
+    said.put(b' ');
+    said.put_number(bench.left(&mut bytes));
+}
+
+/// Whether what is said of a text is so.
+fn spells(rt: &HostRuntime, bench: &mut Bench, row: &Row) -> bool {
+    let mut said = Text::new(rt);
+    say_text(bench, row.0, &mut said);
+    said.bytes.as_slice() == row.1.as_bytes()
+}
+
 /// The first row of which something else is said.
 fn first_wrong(rt: &HostRuntime, rows: &[Row]) -> Result<Option<usize>, Fail> {
     let mut bench = Bench::open(rt, 10_000, 10)?;
-    for (i, (text, want)) in rows.iter().enumerate() {
-        let mut said = Text::new(rt);
-        let mut bytes = SliceBytes::new(text.as_bytes());
-        bench.say(&mut bytes, 100, &mut said);
-        said.put(b' ');
-        said.put_number(bench.left(&mut bytes));
-        if said.bytes.as_slice() != want.as_bytes() {
+    for (i, row) in rows.iter().enumerate() {
+        if !spells(rt, &mut bench, row) {
             return Ok(Some(i));
         }
     }
     Ok(None)
 }
 
+/// A text of pieces.
+fn text_of(rt: &HostRuntime, pieces: &[(&str, usize)]) -> Text {
+    let mut text = Text::new(rt);
+    for (piece, times) in pieces {
+        text.put_times(piece, *times);
+    }
+    text
+}
+
+/// Says whether a form was read, and the cells that are used then.
+fn say_size(bench: &mut Bench, bytes: &[u8], said: &mut Text) {
+    bench.say(&mut SliceBytes::new(bytes), 0, said);
+    said.put(b' ');
+    said.put_number(u64::from(bench.world.cells.used()));
+}
+
+/// Whether what is said of a text is so.
+fn has_length(rt: &HostRuntime, row: &Long) -> Result<bool, Fail> {
+    let mut bench = Bench::open(rt, row.1, row.2)?;
+    let text = text_of(rt, row.0);
+    let mut said = Text::new(rt);
+    say_size(&mut bench, text.bytes.as_slice(), &mut said);
+    Ok(said.bytes.as_slice() == row.3.as_bytes())
+}
+
 fn first_wrong_length(rt: &HostRuntime, rows: &[Long]) -> Result<Option<usize>, Fail> {
-    for (i, (pieces, cells, nest, want)) in rows.iter().enumerate() {
-        let mut text = Text::new(rt);
-        for (piece, times) in *pieces {
-            text.put_times(piece, *times);
-        }
-        let mut bench = Bench::open(rt, *cells, *nest)?;
-        let mut said = Text::new(rt);
-        bench.say(&mut SliceBytes::new(&text.bytes), 0, &mut said);
-        said.put(b' ');
-        said.put_number(u64::from(bench.world.cells.used()));
-        if said.bytes.as_slice() != want.as_bytes() {
+    for (i, row) in rows.iter().enumerate() {
+        if !has_length(rt, row)? {
             return Ok(Some(i));
         }
     }
@@ -466,16 +493,31 @@ fn say_next(bench: &mut Bench, input: &mut MemSource, files: &mut MemFiles, said
     bench.say_counted(&mut io, said);
 }
 
+/// Says what so many forms of an input are.
+fn say_forms(
+    bench: &mut Bench,
+    input: &mut MemSource,
+    files: &mut MemFiles,
+    forms: u32,
+    said: &mut Text,
+) {
+    for _ in 0..forms {
+        say_next(bench, input, files, said);
+    }
+}
+
+/// Whether what is said of an input is so.
+fn is_told(rt: &HostRuntime, row: &Told) -> Result<bool, Fail> {
+    let (mut input, mut files) = sources(rt, row.0, row.1)?;
+    let mut bench = Bench::open(rt, 10_000, 10)?;
+    let mut said = Text::new(rt);
+    say_forms(&mut bench, &mut input, &mut files, row.2, &mut said);
+    Ok(said.bytes.as_slice() == row.3)
+}
+
 fn first_wrong_input(rt: &HostRuntime, rows: &[Told]) -> Result<Option<usize>, Fail> {
-    for (i, (text, fails, forms, want)) in rows.iter().enumerate() {
-        let mut bench = Bench::open(rt, 10_000, 10)?;
-        let mut input = MemSource::new(rt.alloc(), text, fails)?;
-        let mut files = MemFiles::new(rt.alloc(), 0, &[])?;
-        let mut said = Text::new(rt);
-        for _ in 0..*forms {
-            say_next(&mut bench, &mut input, &mut files, &mut said);
-        }
-        if said.bytes.as_slice() != *want {
+    for (i, row) in rows.iter().enumerate() {
+        if !is_told(rt, row)? {
             return Ok(Some(i));
         }
     }

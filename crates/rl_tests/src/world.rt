@@ -4,6 +4,7 @@ ghost use Rattle.rl_world.specs.Counts.{counts_at_opening};
 ghost use Rattle.rl_world.specs.Errors.{AreTexts};
 ghost use Rattle.rl_world.specs.Input.{ended_after, given_after};
 
+use crate::edge::{Edge, sources};
 use rl_io::{Failed, Files, Io, MemFiles, MemSink, MemSource, Sink, Source};
 use rl_tags::{NIL, T, Val};
 use rl_world::{Limits, Stop, World};
@@ -148,10 +149,7 @@ enum CountCall {
 #[derive(Drop)]
 struct Run {
     world: World,
-    input: MemSource,
-    out: MemSink,
-    notes: MemSink,
-    files: MemFiles,
+    edge: Edge,
     at: u32,
 }
 
@@ -162,10 +160,10 @@ impl Run {
         self.world.put_byte(
             b,
             &mut Io {
-                input: &mut self.input,
-                out: &mut self.out,
-                notes: &mut self.notes,
-                files: &mut self.files,
+                input: &mut self.edge.input,
+                out: &mut self.edge.out,
+                notes: &mut self.edge.notes,
+                files: &mut self.edge.files,
             },
         )
     }
@@ -176,20 +174,20 @@ impl Run {
         self.world.note_byte(
             b,
             &mut Io {
-                input: &mut self.input,
-                out: &mut self.out,
-                notes: &mut self.notes,
-                files: &mut self.files,
+                input: &mut self.edge.input,
+                out: &mut self.edge.out,
+                notes: &mut self.edge.notes,
+                files: &mut self.edge.files,
             },
         )
     }
 
     fn flush(&mut self) -> Result<(), Stop> {
         self.world.flush(&mut Io {
-            input: &mut self.input,
-            out: &mut self.out,
-            notes: &mut self.notes,
-            files: &mut self.files,
+            input: &mut self.edge.input,
+            out: &mut self.edge.out,
+            notes: &mut self.edge.notes,
+            files: &mut self.edge.files,
         })
     }
 
@@ -197,10 +195,10 @@ impl Run {
         ensures { IfOk result (λ b. self.new.world.input ≡ record { back = None; given = given_after b self.old.world.input.given; ended = ended_after b self.old.world.input.ended }) }
     {
         self.world.input_byte(&mut Io {
-            input: &mut self.input,
-            out: &mut self.out,
-            notes: &mut self.notes,
-            files: &mut self.files,
+            input: &mut self.edge.input,
+            out: &mut self.edge.out,
+            notes: &mut self.edge.notes,
+            files: &mut self.edge.files,
         })
     }
 
@@ -242,7 +240,7 @@ impl Run {
     fn first_wrong(&mut self, rows: &[MoveRow]) -> Option<usize> {
         for (i, row) in rows.iter().enumerate() {
             let answer = self.answer(row.0);
-            if answer != row.1 || !holds(&self.out, row.2) || !holds(&self.notes, row.3) {
+            if answer != row.1 || !holds(&self.edge.out, row.2) || !holds(&self.edge.notes, row.3) {
                 return Some(i);
             }
         }
@@ -417,24 +415,40 @@ const MOVES: &[MoveScript] = &[
     },
 ];
 
+/// The objects around a world of a script.
+fn edge_of(rt: &HostRuntime, script: &MoveScript) -> Result<Edge, Fail> {
+    Ok(Edge::new(
+        rt,
+        (b"abc", script.read_fails),
+        (10_000, script.write_fails),
+        (10_000, script.note_fails),
+    )?)
+}
+
 /// The first row of a script that fails.
 fn wrong_move(rt: &HostRuntime, script: &MoveScript) -> Result<Option<usize>, Fail> {
-    let mut run = Run {
-        world: opening(rt)?,
-        input: MemSource::new(rt.alloc(), b"abc", script.read_fails)?,
-        out: MemSink::new(rt.alloc(), 10_000, script.write_fails)?,
-        notes: MemSink::new(rt.alloc(), 10_000, script.note_fails)?,
-        files: MemFiles::new(rt.alloc(), 0, &[])?,
-        at: 0,
-    };
+    let edge = edge_of(rt, script)?;
+    let world = opening(rt)?;
+    let mut run = Run { world, edge, at: 0 };
     Ok(run.first_wrong(script.rows))
+}
+
+/// The first script that fails, and its row.
+fn first_wrong_move(
+    rt: &HostRuntime,
+    scripts: &[MoveScript],
+) -> Result<Option<(usize, usize)>, Fail> {
+    for (i, script) in scripts.iter().enumerate() {
+        if let Some(row) = wrong_move(rt, script)? {
+            return Ok(Some((i, row)));
+        }
+    }
+    Ok(None)
 }
 
 #[test]
 fn bytes_move_as_the_scripts_say(rt: HostRuntime) -> Result<(), Fail> {
-    for (i, script) in MOVES.iter().enumerate() {
-        assert_eq!(rt; wrong_move(&rt, script)?, None, "script {i}");
-    }
+    assert_eq!(rt; first_wrong_move(&rt, MOVES)?, None);
     Ok(())
 }
 
@@ -642,11 +656,22 @@ fn wrong_count(rt: &HostRuntime, script: &CountScript) -> Result<Option<usize>, 
     Ok(first_wrong(&mut world, script.rows))
 }
 
+/// The first script that fails, and its row.
+fn first_wrong_count(
+    rt: &HostRuntime,
+    scripts: &[CountScript],
+) -> Result<Option<(usize, usize)>, Fail> {
+    for (i, script) in scripts.iter().enumerate() {
+        if let Some(row) = wrong_count(rt, script)? {
+            return Ok(Some((i, row)));
+        }
+    }
+    Ok(None)
+}
+
 #[test]
 fn counts_go_as_the_scripts_say(rt: HostRuntime) -> Result<(), Fail> {
-    for (i, script) in COUNTS.iter().enumerate() {
-        assert_eq!(rt; wrong_count(&rt, script)?, None, "script {i}");
-    }
+    assert_eq!(rt; first_wrong_count(&rt, COUNTS)?, None);
     Ok(())
 }
 
@@ -757,12 +782,12 @@ impl Sink for Stamped<'_> {
     }
 }
 
-/// When the output was written, and when the notes.
+/// How writing ends, when the output was written, and when the notes.
 fn times_of_writing(
-    mut world: World,
-    mut input: MemSource,
-    mut files: MemFiles,
-) -> Result<(u32, u32), Stop> {
+    world: &mut World,
+    input: &mut MemSource,
+    files: &mut MemFiles,
+) -> (Result<(), Stop>, u32, u32) {
     let clock = Cell::new(1);
     let mut out = Stamped {
         clock: &clock,
@@ -773,22 +798,25 @@ fn times_of_writing(
         at: 0,
     };
     let mut io = Io {
-        input: &mut input,
+        input,
         out: &mut out,
         notes: &mut notes,
-        files: &mut files,
+        files,
     };
-    note_and_print(&mut world, &mut io)?;
-    Ok((out.at, notes.at))
+    let end = note_and_print(world, &mut io);
+    (end, out.at, notes.at)
+}
+
+/// These times in a world of opening.
+fn times_in_opening(rt: &HostRuntime) -> Result<(Result<(), Stop>, u32, u32), Fail> {
+    let (mut input, mut files) = sources(rt, b"", &[])?;
+    let mut world = opening(rt)?;
+    Ok(times_of_writing(&mut world, &mut input, &mut files))
 }
 
 #[test]
 fn the_output_is_written_before_the_notes(rt: HostRuntime) -> Result<(), Fail> {
-    let world = opening(&rt)?;
-    let input = MemSource::new(rt.alloc(), b"", &[])?;
-    let files = MemFiles::new(rt.alloc(), 0, &[])?;
-    let times = times_of_writing(world, input, files);
-    assert_eq!(rt; times, Ok((1, 2)));
+    assert_eq!(rt; times_in_opening(&rt)?, (Ok(()), 1, 2));
     Ok(())
 }
 
@@ -812,16 +840,30 @@ fn has_text(world: &World, n: u8, bytes: &[u8]) -> bool
     true
 }
 
+/// An error, and the bytes of its text.
+type TextRow = (u8, &'static [u8]);
+
+const ERROR_TEXTS: &[TextRow] = &[
+    (10, b"is unbound"),
+    (13, b"is of a wrong type"),
+    (23, b"is the byte where the text is unreadable"),
+];
+
+/// The first error whose text is another.
+fn first_wrong_text(world: &World, rows: &[TextRow]) -> Option<u8>
+    requires { AreTexts world.now.cells.cells world.now.texts 14 }
+{
+    for (n, bytes) in rows {
+        if !has_text(world, *n, bytes) {
+            return Some(*n);
+        }
+    }
+    None
+}
+
 #[test]
 fn errors_have_their_texts(rt: HostRuntime) -> Result<(), Fail> {
     let world = opening(&rt)?;
-    let rows: [(u8, &[u8]); 3] = [
-        (10, b"is unbound"),
-        (13, b"is of a wrong type"),
-        (23, b"is the byte where the text is unreadable"),
-    ];
-    for (n, bytes) in rows {
-        assert!(rt; has_text(&world, n, bytes), "{n}");
-    }
+    assert_eq!(rt; first_wrong_text(&world, ERROR_TEXTS), None);
     Ok(())
 }
