@@ -1,16 +1,14 @@
 -- What `)` and the end of what it closes come to.
-use Rattle.std.proofs.Common.{◌≡◌, ◌≢◌, ℕ, suc, ◌-◌, Bool, List, [], ◌∷◌, length, take, true, refl, sym, ap, ap₂, ◌∙◌, subst, arith}
-use Rattle.std.specs.Prelude.{Option, Some}
-use Rattle.rl_tags.specs.Tagged.{Tagged, PairAt}
-use Rattle.rl_cells.specs.Cell.{Cell, is_live}
-use Rattle.rl_syms.specs.Table.{IsTable}
+use Rattle.std.proofs.Common.{◌≡◌, ◌≢◌, ℕ, suc, ◌-◌, Bool, List, ◌∷◌, refl, sym, ap, ap₂, ◌∙◌, subst, arith}
+use Rattle.std.specs.Prelude.{Some}
+use Rattle.rl_tags.specs.Tagged.{Tagged}
 use Rattle.rl_text.specs.Maker.{Has, Wants}
 use Rattle.rl_text.specs.Reader.{ReaderFrame, Vectoring, Listing, Gap, Goes, Shut, goes_after, goes_with, left}
 use Rattle.rl_text.specs.Reader as reader
 use Rattle.rl_world.specs.declared.world.World.{World}
 use Rattle.rl_world.specs.declared.stop.Stop.{Stop}
 use Rattle.rl_read.specs.Stock.{Stock, PairChain, in_stock, stock_of, first_of_chain, vector_made}
-use Rattle.rl_read.specs.Frames.{CanMake, IsChain, IsGroup, IsMaking, IsReadyToRead, chain_of, phase_of, frames_in, frames_around, frames_kept, group_admits, vector_in_group}
+use Rattle.rl_read.specs.Frames.{CanMake, IsGroup, IsMaking, IsReadyToRead, chain_of, phase_of, frames_in, frames_around, frames_kept, vector_in_group}
 use Rattle.rl_read.specs.Steps.{inner_ended}
 use Rattle.rl_read.specs.declared.frames.Chain.TheVariants as chain
 use Rattle.rl_read.specs.declared.frames.Phase.{Phase}
@@ -20,18 +18,13 @@ use Rattle.rl_read.specs.declared.frames.Group.TheVariants as group
 use Rattle.rl_read.proofs.MakingStays.{chain_stays, ready_made}
 use Rattle.std.proofs.lemmas.Option.{same_Some}
 use Rattle.rl_read.proofs.ElementEnds.{around_same, kept_same}
+use Rattle.rl_read.proofs.WalkKept.{root_keeps_none}
 use Rattle.rl_world.specs.Walks.{kept_above}
 
 -- a list, a vector or a quote has ended, and its level is left
 pub bracket_around : (t : Bool) (base : ℕ) (old new : World) (v : Tagged) (g h : Group) → frames_in base new h ≡ frames_around base old g → stock_of new ≡ left (in_stock t) (frames_around base old g) (stock_of old)
     → reader.value_ended (in_stock t) v (frames_around base old g) (left (in_stock t) (frames_around base old g) (stock_of old)) ≡ reader.value_ended (in_stock t) v (frames_in base new h) (stock_of new)
 bracket_around t base old new v g h frames stock = ap₂ (λ fs k. reader.value_ended (in_stock t) v fs k) (sym frames) (sym stock)
-
--- the first pair of a list, or NIL, is live
-pub first_is_live : (cells : List Cell) (head : Option Tagged) (c : chain.the_data) → IsTable cells head → IsChain cells c → is_live cells (first_of_chain (chain_of c)) ≡ true
-first_is_live cells head chain.Empty table is = table.nil
-first_is_live cells head (chain.Pairs (PairAt k) last) table is = is.0
-first_is_live cells head (chain.Pairs first last) table is = absurd (let pair = is.0 in cc)
 
 -- a list of which nothing is owed
 pub list_closes : (t : Bool) (p : Phase) → p ≢ phase.Dotted → (c : PairChain) (fs : List (ReaderFrame PairChain)) (k : Stock)
@@ -74,12 +67,6 @@ rest_is_ready base old new g c n p is r m able =
     (chain_stays old.cells.cells new.cells.cells c m.live list.0, omega (arith, list.1, m.longer))
     (λ e. absurd cc)
 
--- where nothing has begun, nothing is kept
-pub root_keeps_none : (base : ℕ) (w : World) → IsReadyToRead base w group.Root → kept_above base w.levels ≡ []
-root_keeps_none base w r =
-    let nothing : length w.levels.walk - base ≡ 0 = omega (arith, r.root refl) in
-    ap (λ n. take n w.levels.walk) nothing
-
 -- nothing but a list is closed
 pub no_list_closes : (t : Bool) (base : ℕ) (w : World) (g : Group) → IsReadyToRead base w g → ((c : chain.the_data) (n : ℕ) (p : Phase) → g ≡ group.List c n p → ⊥) → reader.close_list (in_stock t) (frames_in base w g) (stock_of w) ≡ reader.Refuses (stock_of w)
 no_list_closes t base w group.Root r not = ap (λ ts. reader.close_list (in_stock t) (frames_kept ts) (stock_of w)) (root_keeps_none base w r)
@@ -88,18 +75,6 @@ no_list_closes t base w (group.Vector c) r not = refl
 no_list_closes t base w (group.List c n p) r not = absurd (not c n p refl)
 no_list_closes t base w (group.QuoteBehind c n) r not = refl
 no_list_closes t base w (group.VectorBehind v c n) r not = refl
-
--- whether a spelling may stand here is told by the newest that has begun
-pub admits_frames : (base : ℕ) (w : World) (g : Group) → IsReadyToRead base w g → reader.admits (frames_in base w g) ≡ group_admits g
-admits_frames base w group.Root r = ap (λ ts. reader.admits (frames_kept ts)) (root_keeps_none base w r)
-admits_frames base w group.Quote r = refl
-admits_frames base w (group.Vector c) r = refl
-admits_frames base w (group.List c n phase.Begun) r = refl
-admits_frames base w (group.List c n phase.Going) r = refl
-admits_frames base w (group.List c n phase.Dotted) r = refl
-admits_frames base w (group.List c n phase.Shut) r = refl
-admits_frames base w (group.QuoteBehind c n) r = refl
-admits_frames base w (group.VectorBehind v c n) r = refl
 
 -- ---- vectors
 

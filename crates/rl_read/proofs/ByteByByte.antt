@@ -1,6 +1,6 @@
 -- A text byte by byte, and what it comes to.
 use Rattle.std.proofs.Common.{◌≡◌, ◌≢◌, ℕ, suc, ◌+◌, ◌-◌, ◌^◌, Bool, true, false, List, [], ◌∷◌, length, take, refl, sym, ap, ap₂, ◌∙◌, subst, arith, ◌⊎◌, inl, inr}
-use Rattle.std.specs.Prelude.{Option, Some, None, min, Result, Err}
+use Rattle.std.specs.Prelude.{Option, Some, None, min}
 use Rattle.rl_tags.specs.Tagged.{Tagged}
 use Rattle.rl_text.specs.Maker.{Has, Wants}
 use Rattle.rl_text.specs.Reader.{ReaderFrame, Gap, Mode, ReaderStep, Goes, Done, Refuses, Halts, NoneLeft, Read, Refused, Stopped, after_step, after_turn, at_end, read_by, read_from, reader_step}
@@ -21,8 +21,6 @@ use Rattle.rl_read.specs.Reads.{ReadAnswer, IsGoing, IsRefusal, IsRefusedText, I
 use Rattle.rl_read.specs.Stock.{Stock, PairChain, in_stock, stock_of, turned, turned_at}
 use Rattle.rl_read.specs.declared.frames.Group.{Group}
 use Rattle.rl_read.specs.declared.frames.Group.TheVariants as group
-use Rattle.rl_read.specs.declared.read.ReadFault.{ReadFault}
-use Rattle.rl_read.specs.declared.read.ReadFault.TheVariants as fault
 use Rattle.std.specs.List.{AllByRecursion}
 use Rattle.rl_read.proofs.StopsAreCounted.{tick_counted}
 use Rattle.rl_read.proofs.TakenByCalls.{takes_first, takes_then}
@@ -275,8 +273,3 @@ ready_first base w e able = record {
   group_is = tt;
   root = λ r. sym e;
 }
-
--- ---- stops
-
-pub stop_same : (a b : Stop) → ◌≡◌ {A = Result Tagged ReadFault} (Err (fault.Stop a)) (Err (fault.Stop b)) → a ≡ b
-stop_same a b e = cc

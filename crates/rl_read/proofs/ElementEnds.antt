@@ -1,17 +1,16 @@
 -- What the end of an element comes to, by what was made for it and what is around it.
-use Rattle.std.proofs.Common.{◌≡◌, ◌≢◌, ℕ, ◌-◌, Bool, List, [], ◌∷◌, length, take, true, false, refl, sym, ap, ap₂, ◌∙◌, subst, arith}
-use Rattle.std.specs.Prelude.{Result, Ok, Err, IfOk, IfErr}
+use Rattle.std.proofs.Common.{◌≡◌, ◌≢◌, ℕ, Bool, List, [], ◌∷◌, true, false, refl, sym, ap, ap₂, ◌∙◌, subst}
+use Rattle.std.specs.Prelude.{Result, Ok, Err, IfOk}
 use Rattle.rl_tags.specs.Tagged.{Tagged}
-use Rattle.rl_text.specs.Maker.{Has, Wants}
+use Rattle.rl_text.specs.Maker.{Has}
 use Rattle.rl_text.specs.Reader.{ReaderFrame, Listing, Vectoring, Quoting, Going, Shut, left, ended_with}
 use Rattle.rl_text.specs.Reader as reader
 use Rattle.rl_text.specs.Word as word
 use Rattle.rl_world.specs.declared.world.World.{World}
-use Rattle.rl_world.specs.declared.stop.Stop.{Stop}
 use Rattle.rl_read.specs.Stock.{Stock, PairChain, in_stock, stock_of, quote_made, chain_extended, atom_made}
 use Rattle.rl_read.specs.Frames.{IsChain, IsGroup, IsMaking, IsReading, IsReadyToRead, chain_of, phase_of, frames_in, frames_around, frames_kept, is_quote_group, owes}
 use Rattle.rl_text.specs.Byte as byte
-use Rattle.rl_read.specs.Steps.{IsHalting, IsLacking, ended_of, may_end, step_of}
+use Rattle.rl_read.specs.Steps.{may_end}
 use Rattle.rl_read.specs.declared.word.Mode.{Mode}
 use Rattle.rl_read.specs.declared.word.Mode.TheVariants as mode
 use Rattle.rl_read.specs.declared.frames.Chain as declared
@@ -20,6 +19,7 @@ use Rattle.rl_read.specs.declared.frames.Phase.TheVariants as phase
 use Rattle.rl_read.specs.declared.frames.Group.{Group}
 use Rattle.rl_read.specs.declared.frames.Group.TheVariants as group
 use Rattle.rl_read.proofs.MakingStays.{making_levels}
+use Rattle.rl_read.proofs.WalkKept.{root_frames as alone}
 use Rattle.rl_world.specs.Walks.{kept_above}
 
 -- ---- answers
@@ -27,20 +27,6 @@ use Rattle.rl_world.specs.Walks.{kept_above}
 pub ok_mapped : {A E : Type 0} (r : Result A E) (P Q : A → Type 0) → ((a : A) → P a → Q a) → IfOk r P → IfOk r Q
 ok_mapped (Ok a) P Q f h = f a h
 ok_mapped (Err e) P Q f h = tt
-
-pub err_mapped : {A E : Type 0} (r : Result A E) (P Q : E → Type 0) → ((e : E) → P e → Q e) → IfErr r P → IfErr r Q
-err_mapped (Ok a) P Q f h = tt
-err_mapped (Err e) P Q f h = f e h
-
--- what is said of one end is said of an equal one
-pub ends_same : (base : ℕ) (w : World) (r : Result (Rattle.rl_read.specs.declared.step.Ended.TheVariants.the_data) Stop) (one other : Bool → reader.Ended Stock Tagged PairChain Stop) → ((t : Bool) → other t ≡ one t) → IfOk r (λ e. (t : Bool) → one t ≡ ended_of base w e) → IfOk r (λ e. (t : Bool) → other t ≡ ended_of base w e)
-ends_same base w r one other same h = ok_mapped r (λ e. (t : Bool) → one t ≡ ended_of base w e) (λ e. (t : Bool) → other t ≡ ended_of base w e) (λ e is t. same t ∙ is t) h
-
-pub lacking_same : {k : Stock} → (one other : Bool → reader.Ended Stock Tagged PairChain Stop) (s : Stop) → ((t : Bool) → other t ≡ one t) → IsLacking one s k → IsLacking other s k
-lacking_same one other s same h t = same t ∙ h t
-
-pub lacks_same : {A : Type 0} (r : Result A Stop) (k : Stock) (one other : Bool → reader.Ended Stock Tagged PairChain Stop) → ((t : Bool) → other t ≡ one t) → IfErr r (λ s. IsLacking one s k) → IfErr r (λ s. IsLacking other s k)
-lacks_same r k one other same h = err_mapped r (λ s. IsLacking one s k) (λ s. IsLacking other s k) (λ s is. lacking_same one other s same is) h
 
 -- ---- what is around stays as objects are made
 
@@ -55,19 +41,13 @@ around_same base old new g m = ap (λ fs. Rattle.rl_read.specs.Frames.behind_it 
 
 -- ---- an element of a list
 
-pub list_ended : (p : Phase) → (p ≡ phase.Dotted → ⊥) → (t : Bool) (v : Tagged) (c l : PairChain) (n : ℕ) (fs : List (ReaderFrame PairChain)) (k made : Stock) → chain_extended c v k ≡ Has l made
-    → reader.value_ended (in_stock t) v (Listing c n (phase_of p) ∷ fs) k ≡ reader.Inside (Listing l n Going ∷ fs) made
-list_ended phase.Begun not t v c l n fs k made e = ap (λ m. ended_with m (λ l s. reader.Inside (Listing l n Going ∷ fs) s)) e
-list_ended phase.Going not t v c l n fs k made e = ap (λ m. ended_with m (λ l s. reader.Inside (Listing l n Going ∷ fs) s)) e
-list_ended phase.Dotted not t v c l n fs k made e = absurd (not refl)
-list_ended phase.Shut not t v c l n fs k made e = ap (λ m. ended_with m (λ l s. reader.Inside (Listing l n Going ∷ fs) s)) e
-
-pub list_lacks : (p : Phase) → (p ≡ phase.Dotted → ⊥) → (t : Bool) (v : Tagged) (c : PairChain) (n : ℕ) (fs : List (ReaderFrame PairChain)) (s : Stop) (k made : Stock) → chain_extended c v k ≡ Wants s made
-    → reader.value_ended (in_stock t) v (Listing c n (phase_of p) ∷ fs) k ≡ reader.Lacks s made
-list_lacks phase.Begun not t v c n fs s k made e = ap (λ m. ended_with m (λ l s. reader.Inside (Listing l n Going ∷ fs) s)) e
-list_lacks phase.Going not t v c n fs s k made e = ap (λ m. ended_with m (λ l s. reader.Inside (Listing l n Going ∷ fs) s)) e
-list_lacks phase.Dotted not t v c n fs s k made e = absurd (not refl)
-list_lacks phase.Shut not t v c n fs s k made e = ap (λ m. ended_with m (λ l s. reader.Inside (Listing l n Going ∷ fs) s)) e
+-- an element of a list hangs a pair, where nothing stands behind its dot
+pub list_element : (p : Phase) → p ≢ phase.Dotted → (t : Bool) (v : Tagged) (c : PairChain) (n : ℕ) (fs : List (ReaderFrame PairChain)) (k : Stock)
+    → reader.value_ended (in_stock t) v (Listing c n (phase_of p) ∷ fs) k ≡ ended_with (chain_extended c v k) (λ l s. reader.Inside (Listing l n Going ∷ fs) s)
+list_element phase.Begun not t v c n fs k = refl
+list_element phase.Going not t v c n fs k = refl
+list_element phase.Dotted not t v c n fs k = absurd (not refl)
+list_element phase.Shut not t v c n fs k = refl
 
 -- ---- a quoted element
 
@@ -79,21 +59,20 @@ quote_frames base w (group.Vector c) e = cc
 quote_frames base w (group.List c owed p) e = cc
 quote_frames base w (group.VectorBehind v c owed) e = cc
 
+-- a quoted element is made a quote, which is an element of what is around
+pub quote_ends : (t : Bool) (base : ℕ) (w : World) (v : Tagged) (g : Group) → is_quote_group g ≡ true
+    → reader.value_ended (in_stock t) v (frames_in base w g) (stock_of w) ≡ ended_with (quote_made v (stock_of w)) (λ q k. reader.value_ended (in_stock t) q (frames_around base w g) (left (in_stock t) (frames_around base w g) k))
+quote_ends t base w v g is = ap (λ fs. reader.value_ended (in_stock t) v fs (stock_of w)) (quote_frames base w g is)
+
 pub quote_goes : (t : Bool) (base : ℕ) (old made new : World) (v q : Tagged) (g h : Group) → is_quote_group g ≡ true → quote_made v (stock_of old) ≡ Has q (stock_of made) → IsMaking old made
     → frames_in base new h ≡ frames_around base made g → stock_of new ≡ left (in_stock t) (frames_around base made g) (stock_of made)
     → reader.value_ended (in_stock t) v (frames_in base old g) (stock_of old) ≡ reader.value_ended (in_stock t) q (frames_in base new h) (stock_of new)
 quote_goes t base old made new v q g h is made_is m frames stock =
     let around = around_same base old made g m in
-    ap (λ fs. reader.value_ended (in_stock t) v fs (stock_of old)) (quote_frames base old g is)
+    quote_ends t base old v g is
     ∙ ap (λ x. ended_with x (λ q s. reader.value_ended (in_stock t) q (frames_around base old g) (left (in_stock t) (frames_around base old g) s))) made_is
     ∙ ap (λ fs. reader.value_ended (in_stock t) q fs (left (in_stock t) fs (stock_of made))) (sym around)
     ∙ ap₂ (λ fs k. reader.value_ended (in_stock t) q fs k) (sym frames) (sym stock)
-
-pub quote_lacks : (t : Bool) (base : ℕ) (old : World) (v : Tagged) (g : Group) (s : Stop) (k : Stock) → is_quote_group g ≡ true → quote_made v (stock_of old) ≡ Wants s k
-    → reader.value_ended (in_stock t) v (frames_in base old g) (stock_of old) ≡ reader.Lacks s k
-quote_lacks t base old v g s k is e =
-    ap (λ fs. reader.value_ended (in_stock t) v fs (stock_of old)) (quote_frames base old g is)
-    ∙ ap (λ x. ended_with x (λ q s. reader.value_ended (in_stock t) q (frames_around base old g) (left (in_stock t) (frames_around base old g) s))) e
 
 -- a quote is not the root
 pub quote_is_inside : (g : Group) → is_quote_group g ≡ true → g ≢ group.Root
@@ -109,11 +88,7 @@ root_frames base w (group.QuoteBehind c n) r is v l b = cc
 root_frames base w (group.VectorBehind v c n) r is w' l b = absurd (b v c n refl)
 
 pub root_ended : (t : Bool) (base : ℕ) (w : World) (v : Tagged) (g : Group) → IsReadyToRead base w g → g ≡ group.Root → reader.value_ended (in_stock t) v (frames_in base w g) (stock_of w) ≡ reader.Whole v (stock_of w)
-root_ended t base w v g r root =
-    let nothing : length w.levels.walk - base ≡ 0 = omega (arith, r.root root) in
-    let none : kept_above base w.levels ≡ [] = ap (λ n. take n w.levels.walk) nothing in
-    ap (λ (g : Group). reader.value_ended (in_stock t) v (frames_in base w g) (stock_of w)) root
-    ∙ ap (λ ts. reader.value_ended (in_stock t) v (frames_kept ts) (stock_of w)) none
+root_ended t base w v g r root = ap (λ fs. reader.value_ended (in_stock t) v fs (stock_of w)) (alone base w g r root)
 
 pub group_in_place : (base : ℕ) (w : World) (g h : Group) → IsReadyToRead base w g → g ≡ h → IsGroup w.cells.cells h
 group_in_place base w g h r e = subst (λ (g : Group). IsGroup w.cells.cells g) e r.group_is
@@ -127,17 +102,6 @@ atom_goes t base old made a v g e m =
     ∙ ap (λ fs. reader.value_ended (in_stock t) v fs (stock_of made)) (sym (frames_same base old made g m))
 
 -- ---- steps
-
--- what is said of one step is said of an equal one
-pub steps_same : (base : ℕ) (w : World) (bytes : List ℕ) (r : Result (Rattle.rl_read.specs.declared.step.Step.TheVariants.the_data) Stop) (one other : Bool → reader.ReaderStep Stock Tagged PairChain Stop) → ((t : Bool) → other t ≡ one t) → IfOk r (λ x. (t : Bool) → one t ≡ step_of base w bytes x) → IfOk r (λ x. (t : Bool) → other t ≡ step_of base w bytes x)
-steps_same base w bytes r one other same h = ok_mapped r (λ x. (t : Bool) → one t ≡ step_of base w bytes x) (λ x. (t : Bool) → other t ≡ step_of base w bytes x) (λ x is t. same t ∙ is t) h
-
--- the word that was cleared has no bytes
-pub steps_with : (base : ℕ) (w : World) (bytes : List ℕ) (r : Result (Rattle.rl_read.specs.declared.step.Step.TheVariants.the_data) Stop) (one : Bool → reader.ReaderStep Stock Tagged PairChain Stop) → bytes ≡ [] → IfOk r (λ x. (t : Bool) → one t ≡ step_of base w [] x) → IfOk r (λ x. (t : Bool) → one t ≡ step_of base w bytes x)
-steps_with base w bytes r one e h = subst (λ (bytes : List ℕ). IfOk r (λ x. (t : Bool) → one t ≡ step_of base w bytes x)) (sym e) h
-
-pub halts_same : {A : Type 0} (r : Result A Stop) (k : Stock) (one other : Bool → reader.ReaderStep Stock Tagged PairChain Stop) → ((t : Bool) → other t ≡ one t) → IfErr r (λ s. IsHalting one s k) → IfErr r (λ s. IsHalting other s k)
-halts_same r k one other same h = err_mapped r (λ s. IsHalting one s k) (λ s. IsHalting other s k) (λ s is t. same t ∙ is t) h
 
 -- one special is an identifier, where a spelling may stand
 pub special_taken : (t : Bool) (b : ℕ) (fs : List (ReaderFrame PairChain)) (k : Stock) → reader.admits fs ≡ true → reader.at_class (in_stock t) byte.Special b fs k ≡ reader.goes_after (reader.atom_ended (in_stock t) (word.Identifier (b ∷ [])) fs k)

@@ -9,7 +9,6 @@ use Rattle.rl_world.specs.declared.stop.Stop.TheVariants as stop
 use Rattle.rl_read.specs.Stock.{Stock, in_stock, stock_of}
 use Rattle.rl_read.specs.Stock as stock
 use Rattle.rl_read.specs.Frames.{IsReadyToRead, frame_of, frames_in, frames_kept, frames_of, group_in, is_inner_group, opening_frame}
-use Rattle.rl_read.specs.Steps.{IsHalting}
 use Rattle.rl_read.specs.declared.frames.Group.{Group}
 use Rattle.rl_read.specs.declared.frames.Group.TheVariants as group
 use Rattle.rl_read.specs.declared.frames.Opening.{Opening}
@@ -64,9 +63,9 @@ opened_pushed base old new t o g h may e above is inner frames turns =
     ∙ ap (λ fs. Goes Gap fs (stock_of new)) (sym (frames (frames_kept (kept_above base new.levels)) ∙ ap (λ fs. frame_of o ∷ fs) kept)))
 
 -- nothing begins where no level may be entered
-pub opened_stops : (base : ℕ) (w : World) (o : Opening) (g : Group) (s : Stop) → enter_stop w.levels 1 ≡ Some s → is_inner_group g ≡ true → IsHalting (λ t. opening_frame (in_stock t) o (frames_in base w g) (stock_of w)) s (stock_of w)
-opened_stops base w o g s wants inner =
-    λ t. opened_halts t o (frames_in base w g) (stock_of w) (inner_frames g (frames_kept (kept_above base w.levels)) inner) (no_level w.levels s wants) ∙ ap (λ s. Halts s (stock_of w)) (sym (stops_depth w.levels s wants))
+pub opened_stops : (base : ℕ) (w : World) (o : Opening) (g : Group) (s : Stop) → enter_stop w.levels 1 ≡ Some s → is_inner_group g ≡ true → (t : Bool) → opening_frame (in_stock t) o (frames_in base w g) (stock_of w) ≡ Halts s (stock_of w)
+opened_stops base w o g s wants inner t =
+    opened_halts t o (frames_in base w g) (stock_of w) (inner_frames g (frames_kept (kept_above base w.levels)) inner) (no_level w.levels s wants) ∙ ap (λ s. Halts s (stock_of w)) (sym (stops_depth w.levels s wants))
 
 -- with nothing around it no level is entered
 pub opened_alone : (t : Bool) (o : Opening) (k : Stock) → opening_frame (in_stock t) o [] k ≡ Goes Gap (frame_of o ∷ []) k

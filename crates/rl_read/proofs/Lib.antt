@@ -1,4 +1,5 @@
 pub mod MakingStays
+pub mod CallsFollow
 pub mod WalkKept
 pub mod GroupBegins
 pub mod GroupAdmits

@@ -6,6 +6,7 @@ use Rattle.rl_cells.specs.Cell.{Cell, is_live, is_pair}
 use Rattle.rl_world.specs.Levels.{WorldLevels}
 use Rattle.rl_world.specs.declared.world.World.{World}
 use Rattle.rl_read.specs.Frames.{CanMake, IsChain, IsGroup, IsKeptByReading, IsMaking, IsReading, IsReadyToRead, group_in}
+use Rattle.rl_read.specs.Calls.{ChangesLevels}
 use Rattle.rl_read.specs.declared.frames.Chain.{Chain}
 use Rattle.rl_read.specs.declared.frames.Chain.TheVariants as chain
 use Rattle.rl_read.specs.declared.frames.Group.{Group}
@@ -89,11 +90,15 @@ reading_of_making base a b m =
       steady = subst (λ (l : WorldLevels). IsSteady base a.levels l) (sym levels) (steady_refl base a.levels);
     }
 
+-- no level has changed
+pub levels_same : (base : ℕ) (w : World) → ChangesLevels base w w
+levels_same base w = record { world = refl; steady = steady_refl base w.levels }
+
 -- levels alone have changed
-pub reading_of_levels : (base : ℕ) (a b : World) → b ≡ record a { levels = b.levels } → IsSteady base a.levels b.levels → IsReading base a b
-reading_of_levels base a b e steady = record {
-  making = rw (← e) (making_refl b);
-  steady = steady;
+pub reading_of_levels : (base : ℕ) (a b : World) → ChangesLevels base a b → IsReading base a b
+reading_of_levels base a b l = record {
+  making = rw (← l.world) (making_refl b);
+  steady = l.steady;
 }
 
 pub reading_trans : (base : ℕ) (a b c : World) → IsReading base a b → IsReading base b c → IsReading base a c

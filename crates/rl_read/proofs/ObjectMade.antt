@@ -8,7 +8,6 @@ use Rattle.rl_text.specs.Maker.{Has, Wants}
 use Rattle.rl_world.specs.Counts.{room_stop, roomed}
 use Rattle.rl_world.specs.declared.stop.Stop.{Stop}
 use Rattle.rl_read.specs.Stock.{Stock, identifier_at, object_made, with_room}
-use Rattle.rl_read.specs.Steps.{Lacks}
 
 -- the counts do not allow it
 pub room_stopped : (cost : ℕ) (k : Stock) (s : Stop) → room_stop k.counts k.cells cost ≡ Some s → with_room cost k ≡ Wants s k
@@ -19,7 +18,7 @@ pub room_had : (cost : ℕ) (k : Stock) → room_stop k.counts k.cells cost ≡ 
 room_had cost k e = rw e
 
 -- no object is made where the counts do not allow it
-pub object_stopped : (at : ℕ → Tagged) (c : Cell) (k : Stock) (s : Stop) → room_stop k.counts k.cells (cost_of c) ≡ Some s → Lacks (object_made at c k) s k
+pub object_stopped : (at : ℕ → Tagged) (c : Cell) (k : Stock) (s : Stop) → room_stop k.counts k.cells (cost_of c) ≡ Some s → object_made at c k ≡ Wants s k
 object_stopped at c k s e = rw (room_stopped (cost_of c) k s e)
 
 -- where there is room it stands behind the cells
@@ -31,7 +30,7 @@ pub id_cost_is : (name : List ℕ) → 4 + (length name + 15) / 16 ≡ id_cost n
 id_cost_is name = omega arith
 
 -- no identifier is made where the counts do not allow it
-pub identifier_stopped : (name : List ℕ) (k : Stock) (s : Stop) → room_stop k.counts k.cells (id_cost name) ≡ Some s → Lacks (identifier_at None name k) s k
+pub identifier_stopped : (name : List ℕ) (k : Stock) (s : Stop) → room_stop k.counts k.cells (id_cost name) ≡ Some s → identifier_at None name k ≡ Wants s k
 identifier_stopped name k s e = rw (room_stopped (id_cost name) k s e)
 
 -- where there is room it begins the chain of names

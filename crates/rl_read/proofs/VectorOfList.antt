@@ -15,7 +15,6 @@ use Rattle.rl_read.specs.Frames.{IsChain, chain_of}
 use Rattle.rl_text.specs.Maker.{Wants}
 use Rattle.rl_world.specs.declared.stop.Stop.{Stop}
 use Rattle.rl_world.specs.declared.stop.Stop.TheVariants as stop
-use Rattle.rl_read.specs.Steps.{Lacks}
 use Rattle.rl_read.specs.Stock.{Stock, elements_from, first_of_chain, object_made, vector_made, vector_with}
 use Rattle.rl_read.specs.Stock as stock
 use Rattle.rl_read.specs.declared.frames.Chain.{Chain}
@@ -77,7 +76,7 @@ vector_filled added s list most n e =
     rw (elements_counted added most n (replicate n nil_id) s.cells list e) (vector_changed s (elements_from most s.cells list) (replicate n nil_id) (length-replicate n nil_id ∙ e))
 
 -- a pair lives
-pair_live : (cells : List Cell) (v : Tagged) → is_pair cells v ≡ true → is_live cells v ≡ true
+pub pair_live : (cells : List Cell) (v : Tagged) → is_pair cells v ≡ true → is_live cells v ≡ true
 pair_live cells (PairAt k) h = h
 pair_live cells v h = absurd cc
 
@@ -118,10 +117,10 @@ pub vector_few : (c : stock.PairChain) (k : Stock) (list : Tagged) (n : ℕ) →
 vector_few c k list n is count few = counted_made c k list true is (below (length (elements_from (2 ^ 31 + 1) k.cells.cells list)) (2 ^ 31) (omega arith))
 
 -- of more there is none
-pub vector_many : (c : stock.PairChain) (k : Stock) (list : Tagged) (n : ℕ) → list ≡ first_of_chain c → n ≡ length (elements_from (2 ^ 31 + 1) k.cells.cells list) → 2 ^ 31 < n → Lacks (vector_made c k) stop.Cells k
+pub vector_many : (c : stock.PairChain) (k : Stock) (list : Tagged) (n : ℕ) → list ≡ first_of_chain c → n ≡ length (elements_from (2 ^ 31 + 1) k.cells.cells list) → 2 ^ 31 < n → vector_made c k ≡ Wants stop.Cells k
 vector_many c k list n is count many = counted_made c k list false is (above (length (elements_from (2 ^ 31 + 1) k.cells.cells list)) (2 ^ 31) (omega arith))
 
 -- something is wanting for it
 pub vector_lacks : (c : stock.PairChain) (k made : Stock) (list : Tagged) (n : ℕ) (s : Stop) → list ≡ first_of_chain c → n ≡ length (elements_from (2 ^ 31 + 1) k.cells.cells list) → n ≤ 2 ^ 31
-    → Lacks (object_made (λ n. VectorAt n) (VectorCell (elements_from (2 ^ 31 + 1) k.cells.cells list)) k) s made → Lacks (vector_made c k) s made
+    → object_made (λ n. VectorAt n) (VectorCell (elements_from (2 ^ 31 + 1) k.cells.cells list)) k ≡ Wants s made → vector_made c k ≡ Wants s made
 vector_lacks c k made list n s is count few h = vector_few c k list n is count few ∙ h

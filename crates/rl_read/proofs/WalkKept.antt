@@ -1,5 +1,5 @@
 -- What reading keeps on the walk.
-use Rattle.std.proofs.Common.{◌≡◌, ◌≢◌, ℕ, suc, ◌-◌, ◌≤◌, Bool, true, List, [], ◌∷◌, length, refl, sym, ap, subst, ◌∙◌, arith}
+use Rattle.std.proofs.Common.{◌≡◌, ◌≢◌, ℕ, suc, ◌-◌, ◌≤◌, Bool, true, List, [], ◌∷◌, length, take, refl, sym, ap, subst, ◌∙◌, arith}
 use Rattle.std.specs.List.{AllByRecursion}
 use Rattle.rl_cells.specs.Cell.{Cell}
 use Rattle.rl_tags.specs.Tagged.{Tagged}
@@ -87,7 +87,7 @@ popped_left base old new t above inner made turns =
 -- ---- what is ready
 
 -- where levels alone have changed, objects may be made as before
-able_left : (old new : World) → new ≡ record old { levels = new.levels } → CanMake old → CanMake new
+pub able_left : (old new : World) → new ≡ record old { levels = new.levels } → CanMake old → CanMake new
 able_left old new e able = subst CanMake (sym e) able
 
 -- all is ready for what was kept
@@ -118,10 +118,15 @@ ready_pushed base old new t g h r world walk above is inner kept group_is inside
 
 -- ---- nothing is around it
 
+-- where nothing has begun, nothing is kept
+pub root_keeps_none : (base : ℕ) (w : World) → IsReadyToRead base w group.Root → kept_above base w.levels ≡ []
+root_keeps_none base w r =
+    let nothing : length w.levels.walk - base ≡ 0 = omega (arith, r.root refl) in
+    ap (λ n. take n w.levels.walk) nothing
+
 -- a group with nothing around it is alone
 pub root_frames : (base : ℕ) (w : World) (g : Group) → IsReadyToRead base w g → g ≡ group.Root → frames_in base w g ≡ []
-root_frames base w g r e =
-    let none : length w.levels.walk - base ≡ 0 = omega (arith, r.root e) in rw (e, none) refl
+root_frames base w g r e = rw e (ap frames_kept (root_keeps_none base w (rw e at r)))
 
 -- ---- what is around a group
 

@@ -3,6 +3,7 @@ pub mod Taken
 pub mod Given
 pub mod Frames
 pub mod Steps
+pub mod Calls
 pub mod Reads
 pub mod Data
 pub mod Laws

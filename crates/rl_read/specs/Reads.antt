@@ -1,11 +1,13 @@
 -- How reading a form ends.
-use Rattle.std.specs.Prelude.{◌≡◌, ℕ, ◌-◌, ◌≤◌, ◌^◌, Bool, true, List, length, drop, min, Result, Ok, Err}
+use Rattle.std.specs.Prelude.{◌≡◌, ℕ, ◌-◌, ◌≤◌, ◌^◌, Bool, true, List, [], length, drop, min, Result, Ok, Err, IfOk}
 use Rattle.rl_tags.specs.Tagged.{Tagged}
 use Rattle.rl_cells.specs.Cell.{is_live}
 use Rattle.rl_syms.specs.Table.{IsNamed}
-use Rattle.rl_text.specs.Reader.{ReaderFrame, Mode, ReaderOutcome, at_end_between, Refused, Stopped, read_by, read_from}
+use Rattle.rl_text.specs.Reader.{ReaderFrame, Mode, ReaderOutcome, at_end_between, Read, NoneLeft, Refused, Stopped, read_by, read_from}
 use Rattle.rl_world.specs.declared.world.World.{World}
 use Rattle.rl_world.specs.declared.stop.Stop.{Stop}
+use Rattle.rl_read.specs.Given.{is_counted}
+use Rattle.rl_read.specs.Frames.{CanMake, IsReading}
 use Rattle.rl_read.specs.Stock.{PairChain, Stock, in_stock, stock_of}
 use Rattle.rl_read.specs.declared.read.ReadFault.{ReadFault}
 use Rattle.rl_read.specs.declared.read.ReadFault.TheVariants as fault
@@ -31,6 +33,18 @@ pub record IsRefusal (w : World) (answer : Bool → ReadAnswer) (from : List ℕ
 
 abbrev pub IsStopped : (Bool → ReadAnswer) → Stop → List ℕ → Stock → Type 0
 IsStopped answer s rest made = (t : Bool) → answer t ≡ Stopped s made rest
+
+-- the end of a text: a form has ended with it, or only blanks and comments are there, or it is refused where so many bytes were given, or something that is counted is wanting
+pub record EndsText (base : ℕ) (old new : World) (meant : Bool → ReadAnswer) (given : ℕ) (result : Result Tagged ReadFault) : Type 0 where
+  pub ok : IfOk result (λ v. (t : Bool) → meant t ≡ Read v (stock_of new) [])
+  pub syntax : (k : ℕ) → result ≡ Err (fault.Syntax k) → (k ≡ given) × IsRefusal new meant []
+  pub end : result ≡ Err fault.End → (t : Bool) → meant t ≡ NoneLeft (stock_of new)
+  pub stop : (s : Stop) → result ≡ Err (fault.Stop s) → IsStopped meant s [] (stock_of new)
+  pub counted : (s : Stop) → result ≡ Err (fault.Stop s) → is_counted s ≡ true
+  pub live : IfOk result (λ v. is_live new.cells.cells v ≡ true)
+  pub able : CanMake new
+  pub left : NotStopped result → length new.levels.walk ≡ base
+  pub reading : IsReading base old new
 
 -- from here on reading comes to what it comes to from the start, and so many bytes were given
 pub record IsGoing (turns : Bool) (start : World) (m : Mode) (fs : List (ReaderFrame PairChain)) (k : Stock) (given : ℕ) (before now : List ℕ) : Type 0 where

@@ -3,7 +3,7 @@ use Rattle.std.specs.Prelude.{◌≡◌, ℕ, ◌^◌, ◌<◌, ◌≤◌, Bool,
 use Rattle.rl_tags.specs.Tagged.{Tagged}
 use Rattle.rl_cells.specs.Cell.{is_live}
 use Rattle.rl_text.specs.Word as word
-use Rattle.rl_text.specs.Maker.{Made, Maker, Has, Wants}
+use Rattle.rl_text.specs.Maker.{Made, Maker, Has}
 use Rattle.rl_text.specs.Reader as reader
 use Rattle.rl_world.specs.declared.world.World.{World}
 use Rattle.rl_world.specs.declared.stop.Stop.{Stop}
@@ -91,18 +91,6 @@ opens_at m o fs k = if reader.admits fs then opening_frame m o fs k else reader.
 abbrev pub inner_ended : Phase → PairChain → Stock → Made Stock PairChain Stop
 inner_ended phase.Shut c k = Has c k
 inner_ended p c k = chain_ended c nil_value k
-
--- ---- what was wanting
-
--- it stops for want of this
-abbrev pub Lacks : {A : Type 0} → Made Stock A Stop → Stop → Stock → Type 0
-Lacks made s k = made ≡ Wants s k
-
-abbrev pub IsLacking : (Bool → reader.Ended Stock Tagged PairChain Stop) → Stop → Stock → Type 0
-IsLacking chain_ended s k = (t : Bool) → chain_ended t ≡ reader.Lacks s k
-
-abbrev pub IsHalting : (Bool → reader.ReaderStep Stock Tagged PairChain Stop) → Stop → Stock → Type 0
-IsHalting step s k = (t : Bool) → step t ≡ reader.Halts s k
 
 -- ---- what it comes to
 

@@ -1,18 +1,17 @@
 //! What has begun and is not whole yet: the newest part beside the loop, the others in the world's walk.
-ghost use Rattle.std.specs.Prelude.{◌≡◌, ◌≢◌, ◌*◌, ◌/◌, ◌<◌, ◌≤◌, ◌^◌, ℕ, Bool, List, ◌∷◌, length, true, IfOk, IfErr};
+ghost use Rattle.std.specs.Prelude.{◌≡◌, ◌≢◌, ◌*◌, ◌/◌, ◌<◌, ◌≤◌, ◌^◌, ℕ, Bool, List, ◌∷◌, length, true, IfErr};
 ghost use Rattle.std.specs.List.{AllByRecursion};
 ghost use Rattle.rl_cells.specs.Cell.{Cell};
 ghost use Rattle.rl_text.specs.Reader.{ReaderFrame, Goes, Gap, left};
 ghost use Rattle.rl_text.specs.Reader as reader;
-ghost use Rattle.rl_world.specs.declared.stop.Stop.TheVariants as stop;
 ghost use Rattle.rl_read.specs.Given.{is_counted};
 ghost use Rattle.rl_read.specs.Stock.{in_stock, stock_of};
 ghost use Rattle.rl_read.specs.Stock as stock;
 ghost use Rattle.rl_read.specs.Frames.{CanMake, IsChain, IsGroup, IsKeptByReading, IsReadyToRead, chain_in, chain_of, frame_of, frames_around, frames_in, frames_kept, frames_of, group_admits, group_in, is_inner_group, kind_of_phase, opening_frame, weight_of_group};
-ghost use Rattle.rl_read.specs.Steps.{IsHalting};
+ghost use Rattle.rl_read.specs.Calls.{BeginsGroup, ChangesLevels};
 ghost use Rattle.rl_read.specs.declared.frames.Group.TheVariants as rl_group;
 ghost use Rattle.rl_read.specs.declared.frames.Phase.TheVariants as phase;
-ghost use Rattle.rl_world.specs.Walks.{IsSteady, kept_above};
+ghost use Rattle.rl_world.specs.Walks.{kept_above};
 
 use rl_tags::{NIL, Tag, Val};
 use rl_world::{Stop, World};
@@ -157,11 +156,8 @@ pub(crate) fn admits(group: &Group) -> bool
 /// A list, a vector or a quote begins: as an element it enters a level, behind a dot it stands with its list.
 pub(crate) fn begin(w: &mut World, opening: Opening, outer: &Group) -> Result<Group, Stop>
     requires { IsGroup w.old.cells.cells outer.now }
-    ensures ok { (base : ℕ) → IsReadyToRead base w.old outer.now → IfOk result (λ g. (t : Bool) → opening_frame (in_stock t) opening (frames_in base w.old outer.now) (stock_of w.old) ≡ Goes Gap (frames_in base w.new g) (stock_of w.new)) }
-    ensures stop { (base : ℕ) → IsReadyToRead base w.old outer.now → IfErr result (λ s. IsHalting (λ t. opening_frame (in_stock t) opening (frames_in base w.old outer.now) (stock_of w.old)) s (stock_of w.new)) }
+    ensures begins { (base : ℕ) → IsReadyToRead base w.old outer.now → BeginsGroup base w.old outer.now w.new opening result }
     ensures counted { IfErr result (λ s. is_counted s ≡ true) }
-    ensures ready { (base : ℕ) → IsReadyToRead base w.old outer.now → IfOk result (λ g. IsReadyToRead base w.new g) }
-    ensures steady { (base : ℕ) → IsReadyToRead base w.old outer.now → IsSteady base w.old.levels w.new.levels }
     ensures world { w.new ≡ record w.old { levels = w.new.levels } }
 {
     match outer {
@@ -209,11 +205,8 @@ fn behind(w: &World, opening: Opening, l: &Chain, owed: u32) -> Group
 fn keep(w: &mut World, opening: Opening, outer: &Group) -> Result<Group, Stop>
     requires group { IsGroup w.old.cells.cells outer.now }
     requires inner { is_inner_group outer.now ≡ true }
-    ensures ok { (base : ℕ) → IsReadyToRead base w.old outer.now → IfOk result (λ g. (t : Bool) → opening_frame (in_stock t) opening (frames_in base w.old outer.now) (stock_of w.old) ≡ Goes Gap (frames_in base w.new g) (stock_of w.new)) }
-    ensures stop { (base : ℕ) → IsReadyToRead base w.old outer.now → IfErr result (λ s. IsHalting (λ t. opening_frame (in_stock t) opening (frames_in base w.old outer.now) (stock_of w.old)) s (stock_of w.new)) }
+    ensures begins { (base : ℕ) → IsReadyToRead base w.old outer.now → BeginsGroup base w.old outer.now w.new opening result }
     ensures counted { IfErr result (λ s. is_counted s ≡ true) }
-    ensures ready { (base : ℕ) → IsReadyToRead base w.old outer.now → IfOk result (λ g. IsReadyToRead base w.new g) }
-    ensures steady { (base : ℕ) → IsReadyToRead base w.old outer.now → IsSteady base w.old.levels w.new.levels }
     ensures world { w.new ≡ record w.old { levels = w.new.levels } }
 {
     let (a, b, c) = words_of(w, outer);
@@ -231,8 +224,7 @@ pub(crate) fn around(w: &mut World, group: &Group, base: u64) -> Group
     ensures left { (t : Bool) → stock_of w.new ≡ left (in_stock t) (frames_around base w.old group.now) (stock_of w.old) }
     ensures less { weight_of_group w.new result < weight_of_group w.old group.now }
     ensures ready { IsReadyToRead base w.new result }
-    ensures steady { IsSteady base w.old.levels w.new.levels }
-    ensures world { w.new ≡ record w.old { levels = w.new.levels } }
+    ensures levels { ChangesLevels base w.old w.new }
 {
     match group {
         Group::QuoteBehind(l, owed) => Group::List(*l, *owed, Phase::Dotted),
@@ -250,8 +242,7 @@ fn outer(w: &mut World, base: u64) -> Group
     ensures left { (t : Bool) → stock_of w.new ≡ left (in_stock t) (frames_kept (kept_above base w.old.levels)) (stock_of w.old) }
     ensures less { weight_of_group w.new result ≤ 3 * length w.old.levels.walk }
     ensures ready { IsReadyToRead base w.new result }
-    ensures steady { IsSteady base w.old.levels w.new.levels }
-    ensures world { w.new ≡ record w.old { levels = w.new.levels } }
+    ensures levels { ChangesLevels base w.old w.new }
 {
     if w.walk_len() == base {
         return Group::Root;
@@ -264,8 +255,7 @@ fn outer(w: &mut World, base: u64) -> Group
 pub(crate) fn leave(w: &mut World, base: u64)
     requires { base ≤ length w.old.levels.walk }
     ensures left { length w.new.levels.walk ≡ base }
-    ensures steady { IsSteady base w.old.levels w.new.levels }
-    ensures world { w.new ≡ record w.old { levels = w.new.levels } }
+    ensures levels { ChangesLevels base w.old w.new }
 {
     while w.walk_len() > base {
         w.walk_pop();

@@ -1,14 +1,14 @@
 //! What a text makes: each object asks for room first.
-ghost use Rattle.std.specs.Prelude.{◌≡◌, ◌+◌, ◌≤◌, ◌^◌, None, length, IsTrue, IfOk, IfErr, true};
+ghost use Rattle.std.specs.Prelude.{◌≡◌, ◌+◌, ◌≤◌, ◌^◌, None, length, IsTrue, IfOk};
 ghost use Rattle.rl_tags.specs.Tagged.{StrAt};
 ghost use Rattle.rl_cells.specs.Cell.{StrCell, VectorCell, changed_at, is_live, is_pair, is_vector, vector_of};
 ghost use Rattle.rl_syms.specs.Table.{IsFree};
 ghost use Rattle.rl_text.specs.Maker.{Has};
-ghost use Rattle.rl_read.specs.Given.{is_counted};
 ghost use Rattle.rl_read.specs.Stock.{atom_made, elements_from, chain_ended, chain_hung, identifier_at, identifier_made, object_made, pair_made, quote_made, stock_of, vector_made};
 ghost use Rattle.rl_read.specs.Stock as stock;
-ghost use Rattle.rl_read.specs.Frames.{CanMake, IsChain, IsMaking, chain_of};
-ghost use Rattle.rl_read.specs.Steps.{IsAtom, Lacks, atom_meant};
+ghost use Rattle.rl_read.specs.Calls.{Makes, MakesNoObject, MakesObject};
+ghost use Rattle.rl_read.specs.Frames.{CanMake, IsChain, chain_of};
+ghost use Rattle.rl_read.specs.Steps.{IsAtom, atom_meant};
 
 use crate::frames::{Chain, first_of};
 use crate::laws::making_is_kept;
@@ -30,13 +30,8 @@ pub(crate) fn pair(w: &mut World, car: Val, cdr: Val) -> Result<Val, Stop>
     requires able { CanMake w.old }
     requires car { IsTrue (is_live w.old.cells.cells car) }
     requires cdr { IsTrue (is_live w.old.cells.cells cdr) }
-    ensures ok { IfOk result (λ v. pair_made car cdr (stock_of w.old) ≡ Has v (stock_of w.new)) }
-    ensures stop { IfErr result (λ s. Lacks (pair_made car cdr (stock_of w.old)) s (stock_of w.new)) }
-    ensures counted { IfErr result (λ s. is_counted s ≡ true) }
-    ensures pair { IfOk result (λ v. IsTrue (is_pair w.new.cells.cells v)) }
+    ensures made { MakesObject is_pair w.old w.new (λ k. pair_made car cdr k) result }
     ensures longer { IfOk result (λ v. length w.old.cells.cells + 1 ≤ length w.new.cells.cells) }
-    ensures able { CanMake w.new }
-    ensures making { IsMaking w.old w.new }
 {
     making_is_kept();
     if let Err(s) = w.room(1) {
@@ -48,12 +43,7 @@ pub(crate) fn pair(w: &mut World, car: Val, cdr: Val) -> Result<Val, Stop>
 fn string(w: &mut World, bytes: &[u8]) -> Result<Val, Stop>
     requires able { CanMake w.old }
     requires short { length bytes.now ≤ 65535 }
-    ensures ok { IfOk result (λ v. object_made (λ n. StrAt n) (StrCell bytes.now) (stock_of w.old) ≡ Has v (stock_of w.new)) }
-    ensures stop { IfErr result (λ s. Lacks (object_made (λ n. StrAt n) (StrCell bytes.now) (stock_of w.old)) s (stock_of w.new)) }
-    ensures counted { IfErr result (λ s. is_counted s ≡ true) }
-    ensures live { IfOk result (λ v. IsTrue (is_live w.new.cells.cells v)) }
-    ensures able { CanMake w.new }
-    ensures making { IsMaking w.old w.new }
+    ensures { MakesObject is_live w.old w.new (λ k. object_made (λ n. StrAt n) (StrCell bytes.now) k) result }
 {
     making_is_kept();
     let cost = 1 + (bytes.len() as u32 + 15) / 16;
@@ -68,12 +58,7 @@ fn identifier(w: &mut World, name: &[u8]) -> Result<Val, Stop>
     requires able { CanMake w.old }
     requires some { 1 ≤ length name.now }
     requires short { length name.now ≤ 255 }
-    ensures ok { IfOk result (λ v. identifier_made name.now (stock_of w.old) ≡ Has v (stock_of w.new)) }
-    ensures stop { IfErr result (λ s. Lacks (identifier_made name.now (stock_of w.old)) s (stock_of w.new)) }
-    ensures counted { IfErr result (λ s. is_counted s ≡ true) }
-    ensures live { IfOk result (λ v. IsTrue (is_live w.new.cells.cells v)) }
-    ensures able { CanMake w.new }
-    ensures making { IsMaking w.old w.new }
+    ensures { MakesObject is_live w.old w.new (λ k. identifier_made name.now k) result }
 {
     if let Some(id) = w.syms.find(&w.cells, name) {
         return Ok(id);
@@ -87,12 +72,7 @@ fn new_identifier(w: &mut World, name: &[u8]) -> Result<Val, Stop>
     requires some { 1 ≤ length name.now }
     requires short { length name.now ≤ 255 }
     requires free { IsFree w.old.cells.cells w.old.syms.head name.now }
-    ensures ok { IfOk result (λ v. identifier_at None name.now (stock_of w.old) ≡ Has v (stock_of w.new)) }
-    ensures stop { IfErr result (λ s. Lacks (identifier_at None name.now (stock_of w.old)) s (stock_of w.new)) }
-    ensures counted { IfErr result (λ s. is_counted s ≡ true) }
-    ensures live { IfOk result (λ v. IsTrue (is_live w.new.cells.cells v)) }
-    ensures able { CanMake w.new }
-    ensures making { IsMaking w.old w.new }
+    ensures { MakesObject is_live w.old w.new (λ k. identifier_at None name.now k) result }
 {
     making_is_kept();
     let cost = 4 + (name.len() as u32 + 15) / 16;
@@ -105,12 +85,7 @@ fn new_identifier(w: &mut World, name: &[u8]) -> Result<Val, Stop>
 pub(crate) fn make_atom(w: &mut World, a: Atom<'_>) -> Result<Val, Stop>
     requires able { CanMake w.old }
     requires atom { IsAtom a }
-    ensures ok { IfOk result (λ v. atom_made (atom_meant a.entry) (stock_of w.old) ≡ Has v (stock_of w.new)) }
-    ensures stop { IfErr result (λ s. Lacks (atom_made (atom_meant a.entry) (stock_of w.old)) s (stock_of w.new)) }
-    ensures counted { IfErr result (λ s. is_counted s ≡ true) }
-    ensures live { IfOk result (λ v. IsTrue (is_live w.new.cells.cells v)) }
-    ensures able { CanMake w.new }
-    ensures making { IsMaking w.old w.new }
+    ensures { MakesObject is_live w.old w.new (λ k. atom_made (atom_meant a.entry) k) result }
 {
     match a {
         Atom::Identifier(name) => identifier(w, name),
@@ -123,13 +98,8 @@ pub(crate) fn extended(w: &mut World, chain: &Chain, v: Val) -> Result<Chain, St
     requires able { CanMake w.old }
     requires chain { IsChain w.old.cells.cells chain.now }
     requires live { IsTrue (is_live w.old.cells.cells v) }
-    ensures ok { IfOk result (λ c. stock.chain_extended (chain_of chain.now) v (stock_of w.old) ≡ Has (chain_of c) (stock_of w.new)) }
-    ensures stop { IfErr result (λ s. Lacks (stock.chain_extended (chain_of chain.now) v (stock_of w.old)) s (stock_of w.new)) }
-    ensures counted { IfErr result (λ s. is_counted s ≡ true) }
-    ensures chain { IfOk result (λ c. IsChain w.new.cells.cells c) }
+    ensures made { Makes w.old w.new (λ c. chain_of c) (λ c. IsChain w.new.cells.cells c) (λ k. stock.chain_extended (chain_of chain.now) v k) result }
     ensures longer { IfOk result (λ c. length w.old.cells.cells + 1 ≤ length w.new.cells.cells) }
-    ensures able { CanMake w.new }
-    ensures making { IsMaking w.old w.new }
 {
     let p = match pair(w, v, NIL) {
         Ok(p) => p,
@@ -145,9 +115,7 @@ fn hang(w: &mut World, chain: &Chain, p: Val) -> Chain
     requires pair { IsTrue (is_pair w.old.cells.cells p) }
     ensures hung { chain_hung (chain_of chain.now) p (stock_of w.old) ≡ Has (chain_of result) (stock_of w.new) }
     ensures chain { IsChain w.new.cells.cells result }
-    ensures same { length w.new.cells.cells ≡ length w.old.cells.cells }
-    ensures able { CanMake w.new }
-    ensures making { IsMaking w.old w.new }
+    ensures none { MakesNoObject w.old w.new }
 {
     match chain {
         Chain::Empty => Chain::Pairs(p, p),
@@ -163,9 +131,7 @@ fn set_cdr(w: &mut World, p: Val, v: Val)
     requires pair { IsTrue (is_pair w.old.cells.cells p) }
     requires live { IsTrue (is_live w.old.cells.cells v) }
     ensures stock { stock_of w.new ≡ stock.stock_with_cdr p v (stock_of w.old) }
-    ensures same { length w.new.cells.cells ≡ length w.old.cells.cells }
-    ensures able { CanMake w.new }
-    ensures making { IsMaking w.old w.new }
+    ensures none { MakesNoObject w.old w.new }
 {
     making_is_kept();
     w.cells.set_cdr(p, v);
@@ -177,9 +143,7 @@ pub(crate) fn end_with(w: &mut World, chain: &Chain, v: Val)
     requires chain { IsChain w.old.cells.cells chain.now }
     requires live { IsTrue (is_live w.old.cells.cells v) }
     ensures ended { chain_ended (chain_of chain.now) v (stock_of w.old) ≡ Has (chain_of chain.now) (stock_of w.new) }
-    ensures same { length w.new.cells.cells ≡ length w.old.cells.cells }
-    ensures able { CanMake w.new }
-    ensures making { IsMaking w.old w.new }
+    ensures none { MakesNoObject w.old w.new }
 {
     match chain {
         Chain::Empty => {}
@@ -209,8 +173,7 @@ fn fill(w: &mut World, v: Val, list: Val, n: u32)
     requires list { IsTrue (is_live w.old.cells.cells list) }
     requires elements { length (elements_from n w.old.cells.cells list) ≡ n }
     ensures filled { w.new ≡ record w.old { cells = record w.old.cells { cells = changed_at w.old.cells.cells v (VectorCell (elements_from n w.old.cells.cells list)) } } }
-    ensures able { CanMake w.new }
-    ensures making { IsMaking w.old w.new }
+    ensures none { MakesNoObject w.old w.new }
 {
     making_is_kept();
     let mut at = list;
@@ -225,12 +188,7 @@ fn fill(w: &mut World, v: Val, list: Val, n: u32)
 pub(crate) fn vector(w: &mut World, chain: &Chain) -> Result<Val, Stop>
     requires able { CanMake w.old }
     requires chain { IsChain w.old.cells.cells chain.now }
-    ensures ok { IfOk result (λ v. vector_made (chain_of chain.now) (stock_of w.old) ≡ Has v (stock_of w.new)) }
-    ensures stop { IfErr result (λ s. Lacks (vector_made (chain_of chain.now) (stock_of w.old)) s (stock_of w.new)) }
-    ensures counted { IfErr result (λ s. is_counted s ≡ true) }
-    ensures live { IfOk result (λ v. IsTrue (is_live w.new.cells.cells v)) }
-    ensures able { CanMake w.new }
-    ensures making { IsMaking w.old w.new }
+    ensures { MakesObject is_live w.old w.new (λ k. vector_made (chain_of chain.now) k) result }
 {
     making_is_kept();
     objects_are_added();
@@ -251,12 +209,7 @@ pub(crate) fn vector(w: &mut World, chain: &Chain) -> Result<Val, Stop>
 pub(crate) fn quoted(w: &mut World, e: Val) -> Result<Val, Stop>
     requires able { CanMake w.old }
     requires live { IsTrue (is_live w.old.cells.cells e) }
-    ensures ok { IfOk result (λ v. quote_made e (stock_of w.old) ≡ Has v (stock_of w.new)) }
-    ensures stop { IfErr result (λ s. Lacks (quote_made e (stock_of w.old)) s (stock_of w.new)) }
-    ensures counted { IfErr result (λ s. is_counted s ≡ true) }
-    ensures live { IfOk result (λ v. IsTrue (is_live w.new.cells.cells v)) }
-    ensures able { CanMake w.new }
-    ensures making { IsMaking w.old w.new }
+    ensures { MakesObject is_live w.old w.new (λ k. quote_made e k) result }
 {
     let quote = match identifier(w, b"QUOTE") {
         Ok(id) => id,

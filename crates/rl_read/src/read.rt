@@ -10,12 +10,12 @@ ghost use Rattle.rl_world.specs.declared.stop.Stop.TheVariants as stop;
 ghost use Rattle.rl_read.specs.Taken.{TakesBytes};
 ghost use Rattle.rl_read.specs.Given.{FrontIsLeft, is_counted, is_fault};
 ghost use Rattle.rl_read.specs.Stock.{Stock, in_stock, stock_of};
-ghost use Rattle.rl_read.specs.Frames.{CanMake, IsReading, IsReadyToRead, frames_in};
+ghost use Rattle.rl_read.specs.Calls.{ChangesLevels};
+ghost use Rattle.rl_read.specs.Frames.{CanMake, IsReadyToRead, frames_in};
 ghost use Rattle.rl_read.specs.Steps.{IsMode, may_end, mode_of, word_atom};
 ghost use Rattle.rl_read.specs.ReadingKeepsCells.{LeavesWhatStood};
-ghost use Rattle.rl_read.specs.Reads.{IsRefusal, IsRefusedText, IsStopped, IsStoppedText, KeepsByReading, NotStopped, ended_between};
+ghost use Rattle.rl_read.specs.Reads.{EndsText, IsRefusedText, IsStoppedText, KeepsByReading, NotStopped, ended_between};
 ghost use Rattle.rl_read.specs.declared.read.ReadFault.TheVariants as fault;
-ghost use Rattle.rl_world.specs.Walks.{IsSteady};
 
 use crate::bytes::Bytes;
 use crate::frames::{Group, leave};
@@ -107,8 +107,7 @@ fn refused(w: &mut World, base: u64, k: u64) -> Result<Val, ReadFault>
     requires { base ≤ length w.old.levels.walk }
     ensures syntax { result ≡ Err (fault.Syntax k) }
     ensures left { length w.new.levels.walk ≡ base }
-    ensures steady { IsSteady base w.old.levels w.new.levels }
-    ensures world { w.new ≡ record w.old { levels = w.new.levels } }
+    ensures levels { ChangesLevels base w.old w.new }
 {
     leave(w, base);
     Err(ReadFault::Syntax(k))
@@ -125,15 +124,7 @@ fn at_end(
 ) -> Result<Val, ReadFault>
     requires ready { IsReadyToRead base w.old group }
     requires word { IsMode mode word.now.items }
-    ensures ok { IfOk result (λ v. (t : Bool) → reader.at_end (in_stock t) (mode_of mode word.now.items) (frames_in base w.old group) (stock_of w.old) ≡ Read v (stock_of w.new) []) }
-    ensures syntax { (j : ℕ) → result ≡ Err (fault.Syntax j) → (j ≡ k) × IsRefusal w.new (λ t. reader.at_end (in_stock t) (mode_of mode word.now.items) (frames_in base w.old group) (stock_of w.old)) [] }
-    ensures end { result ≡ Err fault.End → (t : Bool) → reader.at_end (in_stock t) (mode_of mode word.now.items) (frames_in base w.old group) (stock_of w.old) ≡ NoneLeft (stock_of w.new) }
-    ensures stop { (s : Stop) → result ≡ Err (fault.Stop s) → IsStopped (λ t. reader.at_end (in_stock t) (mode_of mode word.now.items) (frames_in base w.old group) (stock_of w.old)) s [] (stock_of w.new) }
-    ensures counted { (s : Stop) → result ≡ Err (fault.Stop s) → is_counted s ≡ true }
-    ensures live { IfOk result (λ v. IsTrue (is_live w.new.cells.cells v)) }
-    ensures able { CanMake w.new }
-    ensures left { NotStopped result → length w.new.levels.walk ≡ base }
-    ensures reading { IsReading base w.old w.new }
+    ensures { EndsText base w.old w.new (λ t. reader.at_end (in_stock t) (mode_of mode word.now.items) (frames_in base w.old group) (stock_of w.old)) k result }
 {
     match mode {
         Mode::Gap | Mode::Comment => gap_at_end(w, group, base, k),
@@ -145,13 +136,10 @@ fn at_end(
 /// The text ends between spellings.
 fn gap_at_end(w: &mut World, group: Group, base: u64, k: u64) -> Result<Val, ReadFault>
     requires ready { IsReadyToRead base w.old group }
+    ensures ends { EndsText base w.old w.new (λ t. ended_between (frames_in base w.old group) (stock_of w.old)) k result }
     ensures none { IsErr result }
-    ensures syntax { (j : ℕ) → result ≡ Err (fault.Syntax j) → (j ≡ k) × IsRefusal w.new (λ t. ended_between (frames_in base w.old group) (stock_of w.old)) [] }
-    ensures end { result ≡ Err fault.End → ended_between (frames_in base w.old group) (stock_of w.old) ≡ NoneLeft (stock_of w.new) }
     ensures stop { (s : Stop) → result ≢ Err (fault.Stop s) }
-    ensures left { length w.new.levels.walk ≡ base }
-    ensures steady { IsSteady base w.old.levels w.new.levels }
-    ensures world { w.new ≡ record w.old { levels = w.new.levels } }
+    ensures levels { ChangesLevels base w.old w.new }
 {
     match group {
         Group::Root => Err(ReadFault::End),
@@ -171,15 +159,8 @@ fn word_at_end(
     requires ready { IsReadyToRead base w.old group }
     requires word { IsMode mode word.now.items }
     requires may_end { may_end mode ≡ true }
-    ensures ok { IfOk result (λ v. (t : Bool) → reader.ends_after (reader.atom_ended (in_stock t) (word_atom mode word.now.items) (frames_in base w.old group) (stock_of w.old)) ≡ Read v (stock_of w.new) []) }
-    ensures syntax { (j : ℕ) → result ≡ Err (fault.Syntax j) → (j ≡ k) × IsRefusal w.new (λ t. reader.ends_after (reader.atom_ended (in_stock t) (word_atom mode word.now.items) (frames_in base w.old group) (stock_of w.old))) [] }
-    ensures end { result ≢ Err fault.End }
-    ensures stop { (s : Stop) → result ≡ Err (fault.Stop s) → IsStopped (λ t. reader.ends_after (reader.atom_ended (in_stock t) (word_atom mode word.now.items) (frames_in base w.old group) (stock_of w.old))) s [] (stock_of w.new) }
-    ensures counted { (s : Stop) → result ≡ Err (fault.Stop s) → is_counted s ≡ true }
-    ensures live { IfOk result (λ v. IsTrue (is_live w.new.cells.cells v)) }
-    ensures able { CanMake w.new }
-    ensures left { NotStopped result → length w.new.levels.walk ≡ base }
-    ensures reading { IsReading base w.old w.new }
+    ensures ends { EndsText base w.old w.new (λ t. reader.ends_after (reader.atom_ended (in_stock t) (word_atom mode word.now.items) (frames_in base w.old group) (stock_of w.old))) k result }
+    ensures some { result ≢ Err fault.End }
 {
     let ended = match word_ended(w, mode, group, word, base) {
         Ok(ended) => ended,

@@ -1,6 +1,6 @@
 //! One byte of a text.
-ghost use Rattle.std.specs.Prelude.{◌≡◌, ◌≢◌, ◌≤◌, ◌<◌, ◌+◌, ◌-◌, ◌*◌, ℕ, Bool, true, false, List, [], ◌∷◌, ◌++◌, Some, length, IsTrue, IfOk, IfErr};
-ghost use Rattle.rl_tags.specs.Tagged.{Number};
+ghost use Rattle.std.specs.Prelude.{◌≡◌, ◌≢◌, ◌≤◌, ◌<◌, ◌+◌, ◌-◌, ◌*◌, ℕ, true, false, List, [], ◌∷◌, ◌++◌, Ok, Some, length, IsTrue};
+ghost use Rattle.rl_tags.specs.Tagged.{Number, Tagged};
 ghost use Rattle.rl_cells.specs.Cell.{is_live};
 ghost use Rattle.rl_tree.specs.Bytes.{is_digit};
 ghost use Rattle.rl_text.specs.Reader as reader;
@@ -9,10 +9,11 @@ ghost use Rattle.rl_text.specs.ByteClass.{mark_of};
 ghost use Rattle.rl_text.specs.Word as word;
 ghost use Rattle.rl_text.specs.Maker.{Has};
 ghost use Rattle.rl_world.specs.declared.world.World.{World};
-ghost use Rattle.rl_read.specs.Given.{is_counted};
-ghost use Rattle.rl_read.specs.Stock.{in_stock, stock_of};
-ghost use Rattle.rl_read.specs.Frames.{CanMake, IsChain, IsGroup, IsMaking, IsReading, IsReadyToRead, chain_of, frames_around, frames_in, is_quote_group, vector_in_group};
-ghost use Rattle.rl_read.specs.Steps.{IsAtom, IsEnded, IsHalting, IsLacking, IsMode, IsNumber, IsStep, atom_meant, ended_of, inner_ended, is_digits_mode, is_text_mode, may_end, mode_of, opens_at, step_of, word_atom};
+ghost use Rattle.rl_world.specs.declared.stop.Stop.{Stop};
+ghost use Rattle.rl_read.specs.Stock.{PairChain, Stock, stock_of};
+ghost use Rattle.rl_read.specs.Calls.{EndsElement, MakesNoObject, OfReader, TakesStep};
+ghost use Rattle.rl_read.specs.Frames.{CanMake, IsChain, IsGroup, IsMaking, IsReadyToRead, chain_of, frames_around, frames_in, is_quote_group, vector_in_group};
+ghost use Rattle.rl_read.specs.Steps.{IsAtom, IsMode, IsNumber, IsStep, atom_meant, inner_ended, is_digits_mode, is_text_mode, may_end, mode_of, opens_at, step_of, word_atom};
 ghost use Rattle.rl_read.specs.declared.frames.Group.TheVariants as rl_group;
 ghost use Rattle.rl_read.specs.declared.frames.Phase.TheVariants as rl_phase;
 ghost use Rattle.rl_read.specs.declared.word.Mode.TheVariants as mode;
@@ -46,12 +47,7 @@ pub(crate) enum Ended {
 pub(crate) fn value_ended(w: &mut World, v: Val, group: Group, base: u64) -> Result<Ended, Stop>
     requires ready { IsReadyToRead base w.old group }
     requires live { IsTrue (is_live w.old.cells.cells v) }
-    ensures ok { IfOk result (λ e. (t : Bool) → reader.value_ended (in_stock t) v (frames_in base w.old group) (stock_of w.old) ≡ ended_of base w.new e) }
-    ensures stop { IfErr result (λ s. IsLacking (λ t. reader.value_ended (in_stock t) v (frames_in base w.old group) (stock_of w.old)) s (stock_of w.new)) }
-    ensures counted { IfErr result (λ s. is_counted s ≡ true) }
-    ensures ended { IfOk result (λ e. IsEnded base w.new e) }
-    ensures able { CanMake w.new }
-    ensures reading { IsReading base w.old w.new }
+    ensures { EndsElement base w.old group w.new (λ m fs k. reader.value_ended m v fs k) result }
 {
     let mut v = v;
     let mut group = group;
@@ -81,11 +77,7 @@ fn in_place(w: &mut World, v: Val, group: Group) -> Result<Ended, Stop>
     requires group { IsGroup w.old.cells.cells group }
     requires place { is_quote_group group ≡ false }
     requires live { IsTrue (is_live w.old.cells.cells v) }
-    ensures ok { (base : ℕ) → IsReadyToRead base w.old group → IfOk result (λ e. (t : Bool) → reader.value_ended (in_stock t) v (frames_in base w.old group) (stock_of w.old) ≡ ended_of base w.new e) }
-    ensures stop { (base : ℕ) → IsReadyToRead base w.old group → IfErr result (λ s. IsLacking (λ t. reader.value_ended (in_stock t) v (frames_in base w.old group) (stock_of w.old)) s (stock_of w.new)) }
-    ensures counted { IfErr result (λ s. is_counted s ≡ true) }
-    ensures ended { (base : ℕ) → IsReadyToRead base w.old group → IfOk result (λ e. IsEnded base w.new e) }
-    ensures able { CanMake w.new }
+    ensures ends { (base : ℕ) → IsReadyToRead base w.old group → EndsElement base w.old group w.new (λ m fs k. reader.value_ended m v fs k) result }
     ensures making { IsMaking w.old w.new }
 {
     match group {
@@ -107,11 +99,7 @@ fn in_list(w: &mut World, v: Val, l: Chain, owed: u32, phase: Phase) -> Result<E
     requires able { CanMake w.old }
     requires group { IsGroup w.old.cells.cells (rl_group.List l owed phase) }
     requires live { IsTrue (is_live w.old.cells.cells v) }
-    ensures ok { (base : ℕ) → IsReadyToRead base w.old (rl_group.List l owed phase) → IfOk result (λ e. (t : Bool) → reader.value_ended (in_stock t) v (frames_in base w.old (rl_group.List l owed phase)) (stock_of w.old) ≡ ended_of base w.new e) }
-    ensures stop { (base : ℕ) → IsReadyToRead base w.old (rl_group.List l owed phase) → IfErr result (λ s. IsLacking (λ t. reader.value_ended (in_stock t) v (frames_in base w.old (rl_group.List l owed phase)) (stock_of w.old)) s (stock_of w.new)) }
-    ensures counted { IfErr result (λ s. is_counted s ≡ true) }
-    ensures ended { (base : ℕ) → IsReadyToRead base w.old (rl_group.List l owed phase) → IfOk result (λ e. IsEnded base w.new e) }
-    ensures able { CanMake w.new }
+    ensures ends { (base : ℕ) → IsReadyToRead base w.old (rl_group.List l owed phase) → EndsElement base w.old (rl_group.List l owed phase) w.new (λ m fs k. reader.value_ended m v fs k) result }
     ensures making { IsMaking w.old w.new }
 {
     match phase {
@@ -131,12 +119,7 @@ fn bracket_ended(w: &mut World, v: Val, group: &Group, base: u64) -> Result<Step
     requires ready { IsReadyToRead base w.old group.now }
     requires inside { group.now ≢ rl_group.Root }
     requires live { IsTrue (is_live w.old.cells.cells v) }
-    ensures ok { IfOk result (λ r. (t : Bool) → reader.goes_after (reader.value_ended (in_stock t) v (frames_around base w.old group.now) (reader.left (in_stock t) (frames_around base w.old group.now) (stock_of w.old))) ≡ step_of base w.new [] r) }
-    ensures stop { IfErr result (λ s. IsHalting (λ t. reader.goes_after (reader.value_ended (in_stock t) v (frames_around base w.old group.now) (reader.left (in_stock t) (frames_around base w.old group.now) (stock_of w.old)))) s (stock_of w.new)) }
-    ensures counted { IfErr result (λ s. is_counted s ≡ true) }
-    ensures step { IfOk result (λ r. IsStep base w.new [] r) }
-    ensures able { CanMake w.new }
-    ensures reading { IsReading base w.old w.new }
+    ensures { TakesStep base w.old group.now w.new [] (λ m _ k. reader.goes_after (reader.value_ended m v (frames_around base w.old group.now) (reader.left m (frames_around base w.old group.now) k))) result }
 {
     let outer = around(w, group, base);
     match value_ended(w, v, outer, base) {
@@ -147,8 +130,7 @@ fn bracket_ended(w: &mut World, v: Val, group: &Group, base: u64) -> Result<Step
 
 /// An element has ended with this byte.
 fn goes_after(ended: Ended) -> Step
-    ensures step { (base : ℕ) (w : World) (bytes : List ℕ) → reader.goes_after (ended_of base w ended) ≡ step_of base w bytes result }
-    ensures ready { (base : ℕ) (w : World) (bytes : List ℕ) → IsEnded base w ended → IsStep base w bytes result }
+    ensures { (base : ℕ) (old new : World) (outer : Group) (bytes : List ℕ) (element : OfReader (reader.Ended Stock Tagged PairChain Stop)) → EndsElement base old outer new element (Ok ended) → TakesStep base old outer new bytes (λ m fs k. reader.goes_after (element m fs k)) (Ok result) }
 {
     match ended {
         Ended::Whole(v) => Step::Done(v, true),
@@ -159,12 +141,7 @@ fn goes_after(ended: Ended) -> Step
 /// `)`.
 fn close_list(w: &mut World, group: &Group, base: u64) -> Result<Step, Stop>
     requires ready { IsReadyToRead base w.old group.now }
-    ensures ok { IfOk result (λ r. (t : Bool) → reader.close_list (in_stock t) (frames_in base w.old group.now) (stock_of w.old) ≡ step_of base w.new [] r) }
-    ensures stop { IfErr result (λ s. IsHalting (λ t. reader.close_list (in_stock t) (frames_in base w.old group.now) (stock_of w.old)) s (stock_of w.new)) }
-    ensures counted { IfErr result (λ s. is_counted s ≡ true) }
-    ensures step { IfOk result (λ r. IsStep base w.new [] r) }
-    ensures able { CanMake w.new }
-    ensures reading { IsReading base w.old w.new }
+    ensures { TakesStep base w.old group.now w.new [] (λ m fs k. reader.close_list m fs k) result }
 {
     match group {
         Group::List(l, owed, phase) => close_at(w, l, *owed, phase, group, base),
@@ -182,12 +159,7 @@ fn close_at(
 ) -> Result<Step, Stop>
     requires ready { IsReadyToRead base w.old group.now }
     requires list { group.now ≡ rl_group.List l.now owed phase.now }
-    ensures ok { IfOk result (λ r. (t : Bool) → reader.close_list (in_stock t) (frames_in base w.old group.now) (stock_of w.old) ≡ step_of base w.new [] r) }
-    ensures stop { IfErr result (λ s. IsHalting (λ t. reader.close_list (in_stock t) (frames_in base w.old group.now) (stock_of w.old)) s (stock_of w.new)) }
-    ensures counted { IfErr result (λ s. is_counted s ≡ true) }
-    ensures step { IfOk result (λ r. IsStep base w.new [] r) }
-    ensures able { CanMake w.new }
-    ensures reading { IsReading base w.old w.new }
+    ensures { TakesStep base w.old group.now w.new [] (λ m fs k. reader.close_list m fs k) result }
 {
     match phase {
         Phase::Dotted => Ok(Step::Refuses),
@@ -207,12 +179,7 @@ fn close_level(
     requires ready { IsReadyToRead base w.old group.now }
     requires list { group.now ≡ rl_group.List l.now owed phase.now }
     requires undotted { phase.now ≢ rl_phase.Dotted }
-    ensures ok { IfOk result (λ r. (t : Bool) → reader.close_list (in_stock t) (frames_in base w.old group.now) (stock_of w.old) ≡ step_of base w.new [] r) }
-    ensures stop { IfErr result (λ s. IsHalting (λ t. reader.close_list (in_stock t) (frames_in base w.old group.now) (stock_of w.old)) s (stock_of w.new)) }
-    ensures counted { IfErr result (λ s. is_counted s ≡ true) }
-    ensures step { IfOk result (λ r. IsStep base w.new [] r) }
-    ensures able { CanMake w.new }
-    ensures reading { IsReading base w.old w.new }
+    ensures { TakesStep base w.old group.now w.new [] (λ m fs k. reader.close_list m fs k) result }
 {
     if owed == 0 {
         bracket_ended(w, first_of(l), group, base)
@@ -227,9 +194,7 @@ fn end_inner(w: &mut World, l: &Chain, phase: &Phase)
     requires able { CanMake w.old }
     requires chain { IsChain w.old.cells.cells l.now }
     ensures ended { inner_ended phase.now (chain_of l.now) (stock_of w.old) ≡ Has (chain_of l.now) (stock_of w.new) }
-    ensures same { length w.new.cells.cells ≡ length w.old.cells.cells }
-    ensures able { CanMake w.new }
-    ensures making { IsMaking w.old w.new }
+    ensures none { MakesNoObject w.old w.new }
 {
     match phase {
         Phase::Shut => {}
@@ -240,12 +205,7 @@ fn end_inner(w: &mut World, l: &Chain, phase: &Phase)
 /// `]`.
 fn close_vector(w: &mut World, group: &Group, base: u64) -> Result<Step, Stop>
     requires ready { IsReadyToRead base w.old group.now }
-    ensures ok { IfOk result (λ r. (t : Bool) → reader.close_vector (in_stock t) (frames_in base w.old group.now) (stock_of w.old) ≡ step_of base w.new [] r) }
-    ensures stop { IfErr result (λ s. IsHalting (λ t. reader.close_vector (in_stock t) (frames_in base w.old group.now) (stock_of w.old)) s (stock_of w.new)) }
-    ensures counted { IfErr result (λ s. is_counted s ≡ true) }
-    ensures step { IfOk result (λ r. IsStep base w.new [] r) }
-    ensures able { CanMake w.new }
-    ensures reading { IsReading base w.old w.new }
+    ensures { TakesStep base w.old group.now w.new [] (λ m fs k. reader.close_vector m fs k) result }
 {
     match group {
         Group::Vector(c) => vector_closed(w, c, group, base),
@@ -257,12 +217,7 @@ fn close_vector(w: &mut World, group: &Group, base: u64) -> Result<Step, Stop>
 fn vector_closed(w: &mut World, c: &Chain, group: &Group, base: u64) -> Result<Step, Stop>
     requires ready { IsReadyToRead base w.old group.now }
     requires vector { vector_in_group group.now ≡ Some c.now }
-    ensures ok { IfOk result (λ r. (t : Bool) → reader.close_vector (in_stock t) (frames_in base w.old group.now) (stock_of w.old) ≡ step_of base w.new [] r) }
-    ensures stop { IfErr result (λ s. IsHalting (λ t. reader.close_vector (in_stock t) (frames_in base w.old group.now) (stock_of w.old)) s (stock_of w.new)) }
-    ensures counted { IfErr result (λ s. is_counted s ≡ true) }
-    ensures step { IfOk result (λ r. IsStep base w.new [] r) }
-    ensures able { CanMake w.new }
-    ensures reading { IsReading base w.old w.new }
+    ensures { TakesStep base w.old group.now w.new [] (λ m fs k. reader.close_vector m fs k) result }
 {
     let v = match vector(w, c) {
         Ok(v) => v,
@@ -273,8 +228,7 @@ fn vector_closed(w: &mut World, c: &Chain, group: &Group, base: u64) -> Result<S
 
 /// `.`.
 fn dot(group: &Group) -> Step
-    ensures step { (base : ℕ) (w : World) (t : Bool) → IsReadyToRead base w group.now → reader.dot (in_stock t) (frames_in base w group.now) (stock_of w) ≡ step_of base w [] result }
-    ensures ready { (base : ℕ) (w : World) → IsReadyToRead base w group.now → IsStep base w [] result }
+    ensures { (base : ℕ) (w : World) → IsReadyToRead base w group.now → TakesStep base w group.now w [] (λ m fs k. reader.dot m fs k) (Ok result) }
 {
     match group {
         Group::List(l, owed, phase) => match phase {
@@ -287,12 +241,7 @@ fn dot(group: &Group) -> Step
 
 fn at_mark(w: &mut World, mark: Mark, group: &Group, base: u64) -> Result<Step, Stop>
     requires ready { IsReadyToRead base w.old group.now }
-    ensures ok { IfOk result (λ r. (t : Bool) → reader.at_mark (in_stock t) (mark_of mark) (frames_in base w.old group.now) (stock_of w.old) ≡ step_of base w.new [] r) }
-    ensures stop { IfErr result (λ s. IsHalting (λ t. reader.at_mark (in_stock t) (mark_of mark) (frames_in base w.old group.now) (stock_of w.old)) s (stock_of w.new)) }
-    ensures counted { IfErr result (λ s. is_counted s ≡ true) }
-    ensures step { IfOk result (λ r. IsStep base w.new [] r) }
-    ensures able { CanMake w.new }
-    ensures reading { IsReading base w.old w.new }
+    ensures { TakesStep base w.old group.now w.new [] (λ m fs k. reader.at_mark m (mark_of mark) fs k) result }
 {
     match mark {
         Mark::Close => close_list(w, group, base),
@@ -308,12 +257,7 @@ fn at_mark(w: &mut World, mark: Mark, group: &Group, base: u64) -> Result<Step, 
 fn opens(w: &mut World, opening: Opening, group: &Group) -> Result<Step, Stop>
     requires able { CanMake w.old }
     requires group { IsGroup w.old.cells.cells group.now }
-    ensures ok { (base : ℕ) → IsReadyToRead base w.old group.now → IfOk result (λ r. (t : Bool) → opens_at (in_stock t) opening (frames_in base w.old group.now) (stock_of w.old) ≡ step_of base w.new [] r) }
-    ensures stop { (base : ℕ) → IsReadyToRead base w.old group.now → IfErr result (λ s. IsHalting (λ t. opens_at (in_stock t) opening (frames_in base w.old group.now) (stock_of w.old)) s (stock_of w.new)) }
-    ensures counted { IfErr result (λ s. is_counted s ≡ true) }
-    ensures step { (base : ℕ) → IsReadyToRead base w.old group.now → IfOk result (λ r. IsStep base w.new [] r) }
-    ensures able { CanMake w.new }
-    ensures reading { (base : ℕ) → IsReadyToRead base w.old group.now → IsReading base w.old w.new }
+    ensures { (base : ℕ) → IsReadyToRead base w.old group.now → TakesStep base w.old group.now w.new [] (λ m fs k. opens_at m opening fs k) result }
 {
     if !admits(group) {
         return Ok(Step::Refuses);
@@ -326,8 +270,7 @@ fn opens(w: &mut World, opening: Opening, group: &Group) -> Result<Step, Stop>
 
 /// A word begins.
 fn in_word(mode: Mode, group: Group) -> Step
-    ensures step { (base : ℕ) (w : World) (bytes : List ℕ) → IsReadyToRead base w group → reader.in_word (mode_of mode bytes) (frames_in base w group) (stock_of w) ≡ step_of base w bytes result }
-    ensures ready { (base : ℕ) (w : World) (bytes : List ℕ) → IsReadyToRead base w group → IsMode mode bytes → IsStep base w bytes result }
+    ensures { (base : ℕ) (w : World) (bytes : List ℕ) → IsReadyToRead base w group → IsMode mode bytes → TakesStep base w group w bytes (λ m fs k. reader.in_word (mode_of mode bytes) fs k) (Ok result) }
 {
     if admits(&group) {
         Step::Goes(mode, group)
@@ -339,12 +282,7 @@ fn in_word(mode: Mode, group: Group) -> Step
 /// A byte in a gap. The word that comes begins anew.
 fn at_gap(w: &mut World, b: u8, group: Group, word: &mut Word, base: u64) -> Result<Step, Stop>
     requires ready { IsReadyToRead base w.old group }
-    ensures ok { IfOk result (λ r. (t : Bool) → reader.at_gap (in_stock t) b (frames_in base w.old group) (stock_of w.old) ≡ step_of base w.new word.new.items r) }
-    ensures stop { IfErr result (λ s. IsHalting (λ t. reader.at_gap (in_stock t) b (frames_in base w.old group) (stock_of w.old)) s (stock_of w.new)) }
-    ensures counted { IfErr result (λ s. is_counted s ≡ true) }
-    ensures step { IfOk result (λ r. IsStep base w.new word.new.items r) }
-    ensures able { CanMake w.new }
-    ensures reading { IsReading base w.old w.new }
+    ensures { TakesStep base w.old group w.new word.new.items (λ m fs k. reader.at_gap m b fs k) result }
 {
     word.clear();
     match class_of(b) {
@@ -367,12 +305,7 @@ fn at_gap(w: &mut World, b: u8, group: Group, word: &mut Word, base: u64) -> Res
 /// One special is an identifier.
 fn at_special(w: &mut World, b: u8, group: Group, base: u64) -> Result<Step, Stop>
     requires ready { IsReadyToRead base w.old group }
-    ensures ok { IfOk result (λ r. (t : Bool) → reader.at_class (in_stock t) byte.Special b (frames_in base w.old group) (stock_of w.old) ≡ step_of base w.new [] r) }
-    ensures stop { IfErr result (λ s. IsHalting (λ t. reader.at_class (in_stock t) byte.Special b (frames_in base w.old group) (stock_of w.old)) s (stock_of w.new)) }
-    ensures counted { IfErr result (λ s. is_counted s ≡ true) }
-    ensures step { IfOk result (λ r. IsStep base w.new [] r) }
-    ensures able { CanMake w.new }
-    ensures reading { IsReading base w.old w.new }
+    ensures { TakesStep base w.old group w.new [] (λ m fs k. reader.at_class m byte.Special b fs k) result }
 {
     if !admits(&group) {
         return Ok(Step::Refuses);
@@ -387,12 +320,7 @@ fn at_special(w: &mut World, b: u8, group: Group, base: u64) -> Result<Step, Sto
 fn atom_ended(w: &mut World, a: Atom<'_>, group: Group, base: u64) -> Result<Ended, Stop>
     requires ready { IsReadyToRead base w.old group }
     requires atom { IsAtom a }
-    ensures ok { IfOk result (λ e. (t : Bool) → reader.atom_ended (in_stock t) (atom_meant a.entry) (frames_in base w.old group) (stock_of w.old) ≡ ended_of base w.new e) }
-    ensures stop { IfErr result (λ s. IsLacking (λ t. reader.atom_ended (in_stock t) (atom_meant a.entry) (frames_in base w.old group) (stock_of w.old)) s (stock_of w.new)) }
-    ensures counted { IfErr result (λ s. is_counted s ≡ true) }
-    ensures ended { IfOk result (λ e. IsEnded base w.new e) }
-    ensures able { CanMake w.new }
-    ensures reading { IsReading base w.old w.new }
+    ensures { EndsElement base w.old group w.new (λ m fs k. reader.atom_ended m (atom_meant a.entry) fs k) result }
 {
     match make_atom(w, a) {
         Ok(v) => value_ended(w, v, group, base),
@@ -411,12 +339,7 @@ pub(crate) fn word_ended(
     requires ready { IsReadyToRead base w.old group }
     requires word { IsMode mode word.now.items }
     requires may_end { may_end mode ≡ true }
-    ensures ok { IfOk result (λ e. (t : Bool) → reader.atom_ended (in_stock t) (word_atom mode word.now.items) (frames_in base w.old group) (stock_of w.old) ≡ ended_of base w.new e) }
-    ensures stop { IfErr result (λ s. IsLacking (λ t. reader.atom_ended (in_stock t) (word_atom mode word.now.items) (frames_in base w.old group) (stock_of w.old)) s (stock_of w.new)) }
-    ensures counted { IfErr result (λ s. is_counted s ≡ true) }
-    ensures ended { IfOk result (λ e. IsEnded base w.new e) }
-    ensures able { CanMake w.new }
-    ensures reading { IsReading base w.old w.new }
+    ensures { EndsElement base w.old group w.new (λ m fs k. reader.atom_ended m (word_atom mode word.now.items) fs k) result }
 {
     match mode {
         Mode::Sign(c) => atom_ended(w, Atom::Identifier(&[c]), group, base),
@@ -430,12 +353,7 @@ pub(crate) fn word_ended(
 fn number_ended(w: &mut World, minus: bool, n: u64, group: Group, base: u64) -> Result<Ended, Stop>
     requires ready { IsReadyToRead base w.old group }
     requires number { IsNumber minus n }
-    ensures ok { IfOk result (λ e. (t : Bool) → reader.atom_ended (in_stock t) (word.Integer (word.signed minus n)) (frames_in base w.old group) (stock_of w.old) ≡ ended_of base w.new e) }
-    ensures stop { IfErr result (λ s. IsLacking (λ t. reader.atom_ended (in_stock t) (word.Integer (word.signed minus n)) (frames_in base w.old group) (stock_of w.old)) s (stock_of w.new)) }
-    ensures counted { IfErr result (λ s. is_counted s ≡ true) }
-    ensures ended { IfOk result (λ e. IsEnded base w.new e) }
-    ensures able { CanMake w.new }
-    ensures reading { IsReading base w.old w.new }
+    ensures { EndsElement base w.old group w.new (λ m fs k. reader.atom_ended m (word.Integer (word.signed minus n)) fs k) result }
 {
     value_ended(w, number(minus, n), group, base)
 }
@@ -464,12 +382,7 @@ fn before(
     requires ready { IsReadyToRead base w.old group }
     requires word { IsMode mode word.old.items }
     requires may_end { may_end mode ≡ true }
-    ensures ok { IfOk result (λ r. (t : Bool) → reader.atom_before (in_stock t) (word_atom mode word.old.items) b (frames_in base w.old group) (stock_of w.old) ≡ step_of base w.new word.new.items r) }
-    ensures stop { IfErr result (λ s. IsHalting (λ t. reader.atom_before (in_stock t) (word_atom mode word.old.items) b (frames_in base w.old group) (stock_of w.old)) s (stock_of w.new)) }
-    ensures counted { IfErr result (λ s. is_counted s ≡ true) }
-    ensures step { IfOk result (λ r. IsStep base w.new word.new.items r) }
-    ensures able { CanMake w.new }
-    ensures reading { IsReading base w.old w.new }
+    ensures { TakesStep base w.old group w.new word.new.items (λ m fs k. reader.atom_before m (word_atom mode word.old.items) b fs k) result }
 {
     let ended = match word_ended(w, mode, group, word, base) {
         Ok(ended) => ended,
@@ -484,8 +397,7 @@ fn before(
 /// A byte of a name or a string that has at most so many.
 fn grown(word: &mut Word, most: usize, b: u8, mode: Mode, group: Group) -> Step
     requires { most ≤ 65535 }
-    ensures step { (base : ℕ) (w : World) → reader.grown_to most word.old.items (mode_of mode (word.old.items ++ b ∷ [])) (frames_in base w group) (stock_of w) ≡ step_of base w word.new.items result }
-    ensures ready { (base : ℕ) (w : World) → IsReadyToRead base w group → (length word.old.items < most → IsMode mode (word.old.items ++ b ∷ [])) → IsStep base w word.new.items result }
+    ensures { (base : ℕ) (w : World) → IsReadyToRead base w group → (length word.old.items < most → IsMode mode (word.old.items ++ b ∷ [])) → TakesStep base w group w word.new.items (λ m fs k. reader.grown_to most word.old.items (mode_of mode (word.old.items ++ b ∷ [])) fs k) (Ok result) }
 {
     if word.len() >= most {
         return Step::Refuses;
@@ -498,12 +410,7 @@ fn grown(word: &mut Word, most: usize, b: u8, mode: Mode, group: Group) -> Step
 fn in_name(w: &mut World, b: u8, group: Group, word: &mut Word, base: u64) -> Result<Step, Stop>
     requires ready { IsReadyToRead base w.old group }
     requires word { IsMode mode.Name word.old.items }
-    ensures ok { IfOk result (λ r. (t : Bool) → reader.reader_step (in_stock t) (reader.InName word.old.items) b (frames_in base w.old group) (stock_of w.old) ≡ step_of base w.new word.new.items r) }
-    ensures stop { IfErr result (λ s. IsHalting (λ t. reader.reader_step (in_stock t) (reader.InName word.old.items) b (frames_in base w.old group) (stock_of w.old)) s (stock_of w.new)) }
-    ensures counted { IfErr result (λ s. is_counted s ≡ true) }
-    ensures step { IfOk result (λ r. IsStep base w.new word.new.items r) }
-    ensures able { CanMake w.new }
-    ensures reading { IsReading base w.old w.new }
+    ensures { TakesStep base w.old group w.new word.new.items (λ m fs k. reader.reader_step m (reader.InName word.old.items) b fs k) result }
 {
     if is_name_byte(b) {
         return Ok(grown(word, LONGEST_NAME, raised(b), Mode::Name, group));
@@ -543,12 +450,7 @@ fn in_text(
     requires ready { IsReadyToRead base w.old group }
     requires word { IsMode mode word.old.items }
     requires text { is_text_mode mode ≡ true }
-    ensures ok { IfOk result (λ r. (t : Bool) → reader.reader_step (in_stock t) (mode_of mode word.old.items) b (frames_in base w.old group) (stock_of w.old) ≡ step_of base w.new word.new.items r) }
-    ensures stop { IfErr result (λ s. IsHalting (λ t. reader.reader_step (in_stock t) (mode_of mode word.old.items) b (frames_in base w.old group) (stock_of w.old)) s (stock_of w.new)) }
-    ensures counted { IfErr result (λ s. is_counted s ≡ true) }
-    ensures step { IfOk result (λ r. IsStep base w.new word.new.items r) }
-    ensures able { CanMake w.new }
-    ensures reading { IsReading base w.old w.new }
+    ensures { TakesStep base w.old group w.new word.new.items (λ m fs k. reader.reader_step m (mode_of mode word.old.items) b fs k) result }
 {
     match mode {
         Mode::Text => {
@@ -578,12 +480,7 @@ fn in_digits(
     requires ready { IsReadyToRead base w.old group }
     requires word { IsMode mode word.old.items }
     requires digits { is_digits_mode mode ≡ true }
-    ensures ok { IfOk result (λ r. (t : Bool) → reader.reader_step (in_stock t) (mode_of mode word.old.items) b (frames_in base w.old group) (stock_of w.old) ≡ step_of base w.new word.new.items r) }
-    ensures stop { IfErr result (λ s. IsHalting (λ t. reader.reader_step (in_stock t) (mode_of mode word.old.items) b (frames_in base w.old group) (stock_of w.old)) s (stock_of w.new)) }
-    ensures counted { IfErr result (λ s. is_counted s ≡ true) }
-    ensures step { IfOk result (λ r. IsStep base w.new word.new.items r) }
-    ensures able { CanMake w.new }
-    ensures reading { IsReading base w.old w.new }
+    ensures { TakesStep base w.old group w.new word.new.items (λ m fs k. reader.reader_step m (mode_of mode word.old.items) b fs k) result }
 {
     if !b.is_ascii_digit() {
         return before(w, b, mode, group, word, base);
@@ -606,12 +503,7 @@ pub(crate) fn read_byte(
 ) -> Result<Step, Stop>
     requires ready { IsReadyToRead base w.old group }
     requires word { IsMode mode word.old.items }
-    ensures ok { IfOk result (λ r. (t : Bool) → reader.reader_step (in_stock t) (mode_of mode word.old.items) b (frames_in base w.old group) (stock_of w.old) ≡ step_of base w.new word.new.items r) }
-    ensures stop { IfErr result (λ s. IsHalting (λ t. reader.reader_step (in_stock t) (mode_of mode word.old.items) b (frames_in base w.old group) (stock_of w.old)) s (stock_of w.new)) }
-    ensures counted { IfErr result (λ s. is_counted s ≡ true) }
-    ensures step { IfOk result (λ r. IsStep base w.new word.new.items r) }
-    ensures able { CanMake w.new }
-    ensures reading { IsReading base w.old w.new }
+    ensures { TakesStep base w.old group w.new word.new.items (λ m fs k. reader.reader_step m (mode_of mode word.old.items) b fs k) result }
 {
     match mode {
         Mode::Gap => at_gap(w, b, group, word, base),
@@ -628,8 +520,7 @@ pub(crate) fn read_byte(
 
 /// A comment ends with its line.
 fn in_comment(b: u8, group: Group) -> Step
-    ensures step { (base : ℕ) (w : World) (t : Bool) (bytes : List ℕ) → reader.reader_step (in_stock t) reader.Comment b (frames_in base w group) (stock_of w) ≡ step_of base w bytes result }
-    ensures ready { (base : ℕ) (w : World) (bytes : List ℕ) → IsReadyToRead base w group → IsStep base w bytes result }
+    ensures { (base : ℕ) (w : World) (bytes : List ℕ) → IsReadyToRead base w group → TakesStep base w group w bytes (λ m fs k. reader.reader_step m reader.Comment b fs k) (Ok result) }
 {
     if b == b'\n' {
         Step::Goes(Mode::Gap, group)

@@ -1,5 +1,6 @@
 use Rattle.std.proofs.Common.{arith}
 use Rattle.rl_read.specs.Frames.{frames_kept}
+use Rattle.rl_read.proofs.MakingStays.{levels_same}
 use Rattle.rl_read.proofs.WalkKept.{around_kept, weight_inside}
 use Rattle.rl_read.proofs.frames.around.Goals as goal
 use Rattle.rl_world.specs.Walks.{kept_above}
@@ -12,6 +13,11 @@ returns-in_default c =
       left = rw same c.outer.ensures.left;
       less = omega (arith, c.outer.ensures.less, weight_inside c.args.group.now c.requires.inside);
       ready = c.outer.ensures.ready;
-      steady = c.outer.ensures.steady;
-      world = c.outer.ensures.world;
+      levels = c.outer.ensures.levels;
     }
+
+pub returns-in-QuoteBehind-clause-levels : goal.returns-in-QuoteBehind-clause-levels
+returns-in-QuoteBehind-clause-levels c = levels_same c.args.base c.args.w.now
+
+pub returns-in-VectorBehind-clause-levels : goal.returns-in-VectorBehind-clause-levels
+returns-in-VectorBehind-clause-levels c = levels_same c.args.base c.args.w.now

@@ -12,3 +12,6 @@ loop-w-preserved c =
       steady = steady_trans c.args.base c.args.w.now.levels c.loop-w.w.levels c.walk_pop.new.self.levels c.loop-w.invariant.steady (c.walk_pop.ensures.steady c.args.base above);
       world = levels_again c.args.w.now c.loop-w.w c.walk_pop.new.self _ c.loop-w.invariant.world c.walk_pop.ensures.left;
     }
+
+pub returns-clause-levels : goal.returns-clause-levels
+returns-clause-levels c = record { world = c.loop-w.invariant.world; steady = c.loop-w.invariant.steady }

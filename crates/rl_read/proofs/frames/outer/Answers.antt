@@ -1,4 +1,5 @@
 use Rattle.std.proofs.Common.{arith}
+use Rattle.rl_read.proofs.MakingStays.{levels_same}
 use Rattle.rl_read.proofs.WalkKept.{frames_popped, kept_first, left_more, levels_alone, none_left, popped_left, ready_popped, stock_popped}
 use Rattle.rl_read.proofs.frames.outer.Goals as goal
 
@@ -26,7 +27,10 @@ returns-clause-ready c =
     let l = left_more c.args.base c.args.w.now.levels c.walk_pop-a.new.self.levels _ c.requires.above (λ e. c.if-walk_len-base.false (omega (arith, c.walk_len.ensures, e))) c.walk_pop-a.ensures.popped in
     ready_popped c.args.base c.args.w.now c.walk_pop-a.new.self _ c.group_of.result c.requires.able c.requires.kept (levels_alone c.args.w.now c.walk_pop-a.new.self _ c.walk_pop-a.ensures.left) (c.walk_pop-a.ensures.above c.args.base l) l c.group_of.ensures
 
-pub returns-clause-steady : goal.returns-clause-steady
-returns-clause-steady c =
+pub returns-clause-levels : goal.returns-clause-levels
+returns-clause-levels c =
     let l = left_more c.args.base c.args.w.now.levels c.walk_pop-a.new.self.levels _ c.requires.above (λ e. c.if-walk_len-base.false (omega (arith, c.walk_len.ensures, e))) c.walk_pop-a.ensures.popped in
-    c.walk_pop-a.ensures.steady c.args.base l
+    record { world = levels_alone c.args.w.now c.walk_pop-a.new.self _ c.walk_pop-a.ensures.left; steady = c.walk_pop-a.ensures.steady c.args.base l }
+
+pub returns-then-walk_len-base-clause-levels : goal.returns-then-walk_len-base-clause-levels
+returns-then-walk_len-base-clause-levels c = levels_same c.args.base c.args.w.now

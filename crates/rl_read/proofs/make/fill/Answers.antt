@@ -4,7 +4,7 @@ use Rattle.rl_tags.specs.Tagged.{Tagged}
 use Rattle.rl_cells.specs.Cell.{VectorCell, car_of, cdr_of, changed_at, is_pair, vector_of}
 use Rattle.rl_read.specs.Stock.{elements_from}
 use Rattle.rl_read.proofs.VectorFilled.{car_was, cdr_was, changed_same, filled_all, filled_more, left_is_pair, left_pair, vector_here, vector_stays, world_filled}
-use Rattle.rl_read.proofs.MakingKeepsNames.{able_vector, making_vector, put_live}
+use Rattle.rl_read.proofs.MakingKeepsNames.{able_vector, length_changed, making_vector, put_live}
 use Rattle.rl_read.proofs.MakingStays.{pair_stays}
 use Rattle.rl_read.proofs.make.fill.Goals as goal
 
@@ -54,15 +54,14 @@ loop-i-preserved c =
           c.loop-i.invariant.places c.loop-i-test.true c.loop-i.invariant.rest);
     }
 
-pub returns-clause-able : goal.returns-clause-able
-returns-clause-able c =
+pub returns-clause-none : goal.returns-clause-none
+returns-clause-none c =
     rw c.loop-i.invariant.world
-    (able_vector c.making_is_kept.ensures c.args.w.now c.args.v (vector_of c.loop-i.w.cells.cells c.args.v) c.requires.vector (c.loop-i.invariant.places ∙ sym c.requires.places) c.requires.able)
-
-pub returns-clause-making : goal.returns-clause-making
-returns-clause-making c =
-    rw c.loop-i.invariant.world
-    (making_vector c.making_is_kept.ensures.kept c.making_is_kept.ensures.leave c.args.w.now c.args.v (vector_of c.loop-i.w.cells.cells c.args.v) c.requires.vector (c.loop-i.invariant.places ∙ sym c.requires.places) c.requires.able.table)
+    (record {
+      same = length_changed c.args.w.now.cells.cells c.args.v (VectorCell (vector_of c.loop-i.w.cells.cells c.args.v));
+      able = able_vector c.making_is_kept.ensures c.args.w.now c.args.v (vector_of c.loop-i.w.cells.cells c.args.v) c.requires.vector (c.loop-i.invariant.places ∙ sym c.requires.places) c.requires.able;
+      making = making_vector c.making_is_kept.ensures.kept c.making_is_kept.ensures.leave c.args.w.now c.args.v (vector_of c.loop-i.w.cells.cells c.args.v) c.requires.vector (c.loop-i.invariant.places ∙ sym c.requires.places) c.requires.able.table;
+    })
 
 pub returns-clause-filled : goal.returns-clause-filled
 returns-clause-filled c =

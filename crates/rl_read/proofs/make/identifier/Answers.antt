@@ -1,11 +1,16 @@
+use Rattle.std.proofs.Common.{refl}
+use Rattle.rl_read.proofs.CallsFollow.{makes_same}
+use Rattle.rl_read.proofs.MakingStays.{making_refl}
 use Rattle.rl_read.proofs.NameFound.{identifier_found, identifier_free}
 use Rattle.rl_read.proofs.make.identifier.Goals as goal
 
-pub returns-in-Some-clause-ok : goal.returns-in-Some-clause-ok
-returns-in-Some-clause-ok c = identifier_found c.args.w.now c.args.name.now c.in-Some.id c.requires.able.table c.in-Some.ensures.found
+pub returns-in-Some : goal.returns-in-Some
+returns-in-Some c = record {
+  means = identifier_found c.args.w.now c.args.name.now c.in-Some.id c.requires.able.table c.in-Some.ensures.found;
+  sound = c.in-Some.ensures.live c.in-Some.id refl;
+  able = c.requires.able;
+  making = making_refl c.args.w.now;
+}
 
-pub returns-clause-ok : goal.returns-clause-ok
-returns-clause-ok c = rw (identifier_free c.args.w.now c.args.name.now c.in_default.ensures.found) c.new_identifier.ensures.ok
-
-pub returns-clause-stop : goal.returns-clause-stop
-returns-clause-stop c = rw (identifier_free c.args.w.now c.args.name.now c.in_default.ensures.found) c.new_identifier.ensures.stop
+pub returns : goal.returns
+returns c = makes_same c.new_identifier.ensures (identifier_free c.args.w.now c.args.name.now c.in_default.ensures.found)

@@ -17,8 +17,8 @@ use Rattle.rl_read.proofs.MakingStays.{steady_refl, steady_trans}
 use Rattle.rl_read.proofs.ToldByCalls.{told_first, told_same, told_same_cut, told_waits}
 use Rattle.rl_read.proofs.ReadingKeeps.{keeps_refl, keeps_trans, keeps_given, keeps_back, keeps_levels, keeps_read, levels_back, steady_as, read_input, read_waiting, left_input, left_waiting}
 use Rattle.rl_read.proofs.MakingTakesNoTurn.{goes_left, measure_falls, turns_fall}
-use Rattle.rl_read.proofs.ByteByByte.{going_first, kept_first, ready_first, passed_able, passed_levels, passed_ready, passed_same, told_on, told_done, told_before, told_refused, told_halted, told_whole, told_none, told_end_refused, told_end_stopped, told_wants, wanted_is_counted, not_a_read, not_a_write, stop_same}
-use Rattle.rl_read.proofs.TextEnds.{levels_left, same_place}
+use Rattle.rl_read.proofs.ByteByByte.{going_first, kept_first, ready_first, passed_able, passed_levels, passed_ready, passed_same, told_on, told_done, told_before, told_refused, told_halted, told_whole, told_none, told_end_refused, told_end_stopped, told_wants, wanted_is_counted, not_a_read, not_a_write}
+use Rattle.rl_read.proofs.TextEnds.{levels_left, same_place, stop_same}
 use Rattle.rl_read.proofs.WhatStands.{answer_stands, byte_stands, end_stands, fit_of, given_stands, stood_levels}
 use Rattle.rl_read.proofs.ElementEnds.{ok_mapped as ok_then}
 use Rattle.rl_read.proofs.read.read_form.Goals as goal
@@ -120,7 +120,10 @@ pub read_byte-requires-clause-ready : goal.read_byte-requires-clause-ready
 read_byte-requires-clause-ready g c = passed_ready c.bounds_are_kept.ensures (g.T.Bytes.takes_turns c.loop-b.text) c.walk_len-base.result c.loop-b.w c.next.new.w c.loop-b.group c.in-Ok-Some.field-0 c.in-Ok-Some.ensures.turn c.next.ensures.world c.loop-b.invariant.ready
 
 pub returns-in-Err-read_byte-clause-stop : goal.returns-in-Err-read_byte-clause-stop
-returns-in-Err-read_byte-clause-stop g c = λ s e not. subst (λ (s : Stop). TakesBytes (g.T.Bytes.unread c.args.text.now c.args.w.now.input) (g.T.Bytes.unread c.next.new.self c.read_byte.new.w.input) (λ before now. IsStoppedText (g.T.Bytes.takes_turns c.args.text.now) c.args.w.now c.read_byte.new.w before now s)) (stop_same c.in-Err-read_byte.s s e) (told_halted (g.T.Bytes.takes_turns c.args.text.now) (g.T.Bytes.takes_turns c.loop-b.text) c.loop-b.invariant.turns c.args.w.now c.loop-b.w c.next.new.w c.walk_len-base.result (mode_of c.loop-b.mode c.loop-b.word.items) c.loop-b.group c.loop-b.k (g.T.Bytes.unread c.args.text.now c.args.w.now.input) (g.T.Bytes.unread c.loop-b.text c.loop-b.w.input) (λ i. g.T.Bytes.unread c.next.new.self i) c.loop-b.invariant.goes c.next.ensures.world c.in-Ok-Some.field-0 c.in-Ok-Some.ensures.gives c.in-Ok-Some.ensures.turn c.in-Ok-Some.b c.in-Ok-Some.field-0-is c.read_byte.new.w.input (read_input c.walk_len-base.result c.next.new.w c.read_byte.new.w c.read_byte.ensures.reading) c.read_byte.new.w c.in-Err-read_byte.s (c.in-Err-read_byte.ensures.stop (g.T.Bytes.takes_turns c.args.text.now)))
+returns-in-Err-read_byte-clause-stop g c = λ s e not. subst (λ (s : Stop). TakesBytes (g.T.Bytes.unread c.args.text.now c.args.w.now.input) (g.T.Bytes.unread c.next.new.self c.read_byte.new.w.input) (λ before now. IsStoppedText (g.T.Bytes.takes_turns c.args.text.now) c.args.w.now c.read_byte.new.w before now s)) (stop_same c.in-Err-read_byte.s s e) (told_halted (g.T.Bytes.takes_turns c.args.text.now) (g.T.Bytes.takes_turns c.loop-b.text) c.loop-b.invariant.turns c.args.w.now c.loop-b.w c.next.new.w c.walk_len-base.result (mode_of c.loop-b.mode c.loop-b.word.items) c.loop-b.group c.loop-b.k (g.T.Bytes.unread c.args.text.now c.args.w.now.input) (g.T.Bytes.unread c.loop-b.text c.loop-b.w.input) (λ i. g.T.Bytes.unread c.next.new.self i) c.loop-b.invariant.goes c.next.ensures.world c.in-Ok-Some.field-0 c.in-Ok-Some.ensures.gives c.in-Ok-Some.ensures.turn c.in-Ok-Some.b c.in-Ok-Some.field-0-is c.read_byte.new.w.input (read_input c.walk_len-base.result c.next.new.w c.read_byte.new.w c.read_byte.ensures.reading) c.read_byte.new.w c.in-Err-read_byte.s (c.in-Err-read_byte.ensures.means (g.T.Bytes.takes_turns c.args.text.now)))
+
+pub returns-in-Err-read_byte-clause-counted : goal.returns-in-Err-read_byte-clause-counted
+returns-in-Err-read_byte-clause-counted g c = λ s e not. subst (λ (s : Stop). is_counted s ≡ true) (stop_same c.in-Err-read_byte.s s e) c.in-Err-read_byte.ensures.sound
 
 pub returns-in-Err-read_byte-clause-printed : goal.returns-in-Err-read_byte-clause-printed
 returns-in-Err-read_byte-clause-printed g c = λ not. told_waits (λ waiting. g.T.Bytes.printed c.next.new.self waiting) (g.T.Bytes.printed c.args.text.now c.args.w.now.output.waiting) (g.T.Bytes.printed c.loop-b.text c.loop-b.w.output.waiting) c.next.new.w.output.waiting c.read_byte.new.w.output.waiting (read_waiting c.walk_len-base.result c.next.new.w c.read_byte.new.w c.read_byte.ensures.reading) c.loop-b.invariant.printed (c.in-Ok-Some.ensures.printed (λ e. cc))
@@ -128,7 +131,7 @@ returns-in-Err-read_byte-clause-printed g c = λ not. told_waits (λ waiting. g.
 pub returns-in-Err-read_byte-clause-stands : goal.returns-in-Err-read_byte-clause-stands
 returns-in-Err-read_byte-clause-stands g c =
     let at = (given_stands c.counts_are_taken.ensures (stock_of c.args.w.now) (g.T.Bytes.takes_turns c.loop-b.text) c.walk_len-base.result c.loop-b.w c.next.new.w c.loop-b.group c.in-Ok-Some.field-0 c.in-Ok-Some.ensures.turn c.next.ensures.world (c.loop-b.invariant.stands, c.loop-b.invariant.behind)) in
-    byte_stands c.reading_keeps_cells.ensures (stock_of c.args.w.now) (g.T.Bytes.takes_turns c.args.text.now) (mode_of c.loop-b.mode c.loop-b.word.items) c.in-Ok-Some.b (frames_in c.walk_len-base.result c.next.new.w c.loop-b.group) (stock_of c.next.new.w) _ (fit_of c.loop-b.mode c.loop-b.word.items c.loop-b.invariant.word) at.1 at.0 (c.in-Err-read_byte.ensures.stop (g.T.Bytes.takes_turns c.args.text.now))
+    byte_stands c.reading_keeps_cells.ensures (stock_of c.args.w.now) (g.T.Bytes.takes_turns c.args.text.now) (mode_of c.loop-b.mode c.loop-b.word.items) c.in-Ok-Some.b (frames_in c.walk_len-base.result c.next.new.w c.loop-b.group) (stock_of c.next.new.w) _ (fit_of c.loop-b.mode c.loop-b.word.items c.loop-b.invariant.word) at.1 at.0 (c.in-Err-read_byte.ensures.means (g.T.Bytes.takes_turns c.args.text.now))
 
 pub returns-in-Err-read_byte-clause-keeps : goal.returns-in-Err-read_byte-clause-keeps
 returns-in-Err-read_byte-clause-keeps g c = (keeps_trans c.args.w.now c.next.new.w c.read_byte.new.w (keeps_trans c.args.w.now c.loop-b.w c.next.new.w c.loop-b.invariant.keeps (keeps_given c.loop-b.w c.next.new.w c.next.ensures.world)) (keeps_read c.walk_len-base.result c.next.new.w c.read_byte.new.w c.read_byte.ensures.reading))
@@ -137,9 +140,9 @@ pub returns-in-Done-clause-ok : goal.returns-in-Done-clause-ok
 returns-in-Done-clause-ok g c = elim c.if-not-used.branch [
   | then-not-used w ↦ subst (λ (x : World). TakesBytes (g.T.Bytes.unread c.args.text.now c.args.w.now.input) (g.T.Bytes.unread c.if-not-used.text x.input) (λ before now. read_by (in_stock (g.T.Bytes.takes_turns c.args.text.now)) (stock_of c.args.w.now) before ≡ Read c.in-Done.v (stock_of x) now)) (sym w.w-is)
       (subst (λ (t : g.row.T.Denot). TakesBytes (g.T.Bytes.unread c.args.text.now c.args.w.now.input) (g.T.Bytes.unread t w.back.new.w.input) (λ before now. read_by (in_stock (g.T.Bytes.takes_turns c.args.text.now)) (stock_of c.args.w.now) before ≡ Read c.in-Done.v (stock_of w.back.new.w) now)) (sym w.text-is) (subst (λ (k : Stock). TakesBytes (g.T.Bytes.unread c.args.text.now c.args.w.now.input) (g.T.Bytes.unread w.back.new.self w.back.new.w.input) (λ before now. read_by (in_stock (g.T.Bytes.takes_turns c.args.text.now)) (stock_of c.args.w.now) before ≡ Read c.in-Done.v k now)) (sym (ap (λ (x : World). stock_of x) w.back.ensures.world))
-      (told_before (g.T.Bytes.takes_turns c.args.text.now) (g.T.Bytes.takes_turns c.loop-b.text) c.loop-b.invariant.turns c.args.w.now c.loop-b.w c.next.new.w c.walk_len-base.result (mode_of c.loop-b.mode c.loop-b.word.items) c.loop-b.group c.loop-b.k (g.T.Bytes.unread c.args.text.now c.args.w.now.input) (g.T.Bytes.unread c.loop-b.text c.loop-b.w.input) (λ i. g.T.Bytes.unread c.next.new.self i) c.loop-b.invariant.goes c.next.ensures.world c.in-Ok-Some.field-0 c.in-Ok-Some.ensures.gives c.in-Ok-Some.ensures.turn c.in-Ok-Some.b c.in-Ok-Some.field-0-is c.read_byte.new.w.input (read_input c.walk_len-base.result c.next.new.w c.read_byte.new.w c.read_byte.ensures.reading) c.in-Done.v (stock_of c.read_byte.new.w) (g.T.Bytes.unread w.back.new.self w.back.new.w.input) (c.in-Ok.ensures.ok (g.T.Bytes.takes_turns c.args.text.now) ∙ ap (λ x. step_of c.walk_len-base.result c.read_byte.new.w c.read_byte.new.word.items x) c.in-Done.is ∙ ap (λ (u : Bool). reader.Done c.in-Done.v u (stock_of c.read_byte.new.w)) w.if-not-used.true) w.back.ensures.back)))
+      (told_before (g.T.Bytes.takes_turns c.args.text.now) (g.T.Bytes.takes_turns c.loop-b.text) c.loop-b.invariant.turns c.args.w.now c.loop-b.w c.next.new.w c.walk_len-base.result (mode_of c.loop-b.mode c.loop-b.word.items) c.loop-b.group c.loop-b.k (g.T.Bytes.unread c.args.text.now c.args.w.now.input) (g.T.Bytes.unread c.loop-b.text c.loop-b.w.input) (λ i. g.T.Bytes.unread c.next.new.self i) c.loop-b.invariant.goes c.next.ensures.world c.in-Ok-Some.field-0 c.in-Ok-Some.ensures.gives c.in-Ok-Some.ensures.turn c.in-Ok-Some.b c.in-Ok-Some.field-0-is c.read_byte.new.w.input (read_input c.walk_len-base.result c.next.new.w c.read_byte.new.w c.read_byte.ensures.reading) c.in-Done.v (stock_of c.read_byte.new.w) (g.T.Bytes.unread w.back.new.self w.back.new.w.input) (c.in-Ok.ensures.means (g.T.Bytes.takes_turns c.args.text.now) ∙ ap (λ x. step_of c.walk_len-base.result c.read_byte.new.w c.read_byte.new.word.items x) c.in-Done.is ∙ ap (λ (u : Bool). reader.Done c.in-Done.v u (stock_of c.read_byte.new.w)) w.if-not-used.true) w.back.ensures.back)))
   | else-not-used w ↦ subst (λ (x : World). TakesBytes (g.T.Bytes.unread c.args.text.now c.args.w.now.input) (g.T.Bytes.unread c.if-not-used.text x.input) (λ before now. read_by (in_stock (g.T.Bytes.takes_turns c.args.text.now)) (stock_of c.args.w.now) before ≡ Read c.in-Done.v (stock_of x) now)) (sym w.w-is)
-      (subst (λ (t : g.row.T.Denot). TakesBytes (g.T.Bytes.unread c.args.text.now c.args.w.now.input) (g.T.Bytes.unread t c.read_byte.new.w.input) (λ before now. read_by (in_stock (g.T.Bytes.takes_turns c.args.text.now)) (stock_of c.args.w.now) before ≡ Read c.in-Done.v (stock_of c.read_byte.new.w) now)) (sym w.text-is) (told_done (g.T.Bytes.takes_turns c.args.text.now) (g.T.Bytes.takes_turns c.loop-b.text) c.loop-b.invariant.turns c.args.w.now c.loop-b.w c.next.new.w c.walk_len-base.result (mode_of c.loop-b.mode c.loop-b.word.items) c.loop-b.group c.loop-b.k (g.T.Bytes.unread c.args.text.now c.args.w.now.input) (g.T.Bytes.unread c.loop-b.text c.loop-b.w.input) (λ i. g.T.Bytes.unread c.next.new.self i) c.loop-b.invariant.goes c.next.ensures.world c.in-Ok-Some.field-0 c.in-Ok-Some.ensures.gives c.in-Ok-Some.ensures.turn c.in-Ok-Some.b c.in-Ok-Some.field-0-is c.read_byte.new.w.input (read_input c.walk_len-base.result c.next.new.w c.read_byte.new.w c.read_byte.ensures.reading) c.in-Done.v (stock_of c.read_byte.new.w) (c.in-Ok.ensures.ok (g.T.Bytes.takes_turns c.args.text.now) ∙ ap (λ x. step_of c.walk_len-base.result c.read_byte.new.w c.read_byte.new.word.items x) c.in-Done.is ∙ ap (λ (u : Bool). reader.Done c.in-Done.v u (stock_of c.read_byte.new.w)) w.if-not-used.false)))
+      (subst (λ (t : g.row.T.Denot). TakesBytes (g.T.Bytes.unread c.args.text.now c.args.w.now.input) (g.T.Bytes.unread t c.read_byte.new.w.input) (λ before now. read_by (in_stock (g.T.Bytes.takes_turns c.args.text.now)) (stock_of c.args.w.now) before ≡ Read c.in-Done.v (stock_of c.read_byte.new.w) now)) (sym w.text-is) (told_done (g.T.Bytes.takes_turns c.args.text.now) (g.T.Bytes.takes_turns c.loop-b.text) c.loop-b.invariant.turns c.args.w.now c.loop-b.w c.next.new.w c.walk_len-base.result (mode_of c.loop-b.mode c.loop-b.word.items) c.loop-b.group c.loop-b.k (g.T.Bytes.unread c.args.text.now c.args.w.now.input) (g.T.Bytes.unread c.loop-b.text c.loop-b.w.input) (λ i. g.T.Bytes.unread c.next.new.self i) c.loop-b.invariant.goes c.next.ensures.world c.in-Ok-Some.field-0 c.in-Ok-Some.ensures.gives c.in-Ok-Some.ensures.turn c.in-Ok-Some.b c.in-Ok-Some.field-0-is c.read_byte.new.w.input (read_input c.walk_len-base.result c.next.new.w c.read_byte.new.w c.read_byte.ensures.reading) c.in-Done.v (stock_of c.read_byte.new.w) (c.in-Ok.ensures.means (g.T.Bytes.takes_turns c.args.text.now) ∙ ap (λ x. step_of c.walk_len-base.result c.read_byte.new.w c.read_byte.new.word.items x) c.in-Done.is ∙ ap (λ (u : Bool). reader.Done c.in-Done.v u (stock_of c.read_byte.new.w)) w.if-not-used.false)))
 ]
 
 pub returns-in-Done-clause-printed : goal.returns-in-Done-clause-printed
@@ -169,57 +172,57 @@ returns-in-Done-clause-kept g c = elim c.if-not-used.branch [
 ]
 
 pub returns-in-Done-clause-live : goal.returns-in-Done-clause-live
-returns-in-Done-clause-live g c = let whole = (subst (λ x. IsStep c.walk_len-base.result c.read_byte.new.w c.read_byte.new.word.items x) c.in-Done.is c.in-Ok.ensures.step) in subst (λ (x : World). IsTrue (is_live x.cells.cells c.in-Done.v)) (sym (done_world g c)) whole.live
+returns-in-Done-clause-live g c = let whole = (subst (λ x. IsStep c.walk_len-base.result c.read_byte.new.w c.read_byte.new.word.items x) c.in-Done.is c.in-Ok.ensures.sound) in subst (λ (x : World). IsTrue (is_live x.cells.cells c.in-Done.v)) (sym (done_world g c)) whole.live
 
 pub returns-in-Done-clause-able : goal.returns-in-Done-clause-able
 returns-in-Done-clause-able g c = subst (λ (x : World). CanMake x) (sym (done_world g c)) c.read_byte.ensures.able
 
 pub returns-in-Done-clause-levels : goal.returns-in-Done-clause-levels
-returns-in-Done-clause-levels g c = λ u. let whole = (subst (λ x. IsStep c.walk_len-base.result c.read_byte.new.w c.read_byte.new.word.items x) c.in-Done.is c.in-Ok.ensures.step) in ap (λ (x : World). x.levels) (done_world g c) ∙ levels_back c.walk_len-base.result c.args.w.now.levels c.read_byte.new.w.levels c.walk_len-base.ensures (whole.ready.root refl) (steady_trans c.walk_len-base.result c.args.w.now.levels c.next.new.w.levels c.read_byte.new.w.levels (steady_as c.walk_len-base.result c.args.w.now.levels c.loop-b.w c.next.new.w (sym (passed_levels c.loop-b.w c.next.new.w c.next.ensures.world)) c.loop-b.invariant.steady) c.read_byte.ensures.reading.steady)
+returns-in-Done-clause-levels g c = λ u. let whole = (subst (λ x. IsStep c.walk_len-base.result c.read_byte.new.w c.read_byte.new.word.items x) c.in-Done.is c.in-Ok.ensures.sound) in ap (λ (x : World). x.levels) (done_world g c) ∙ levels_back c.walk_len-base.result c.args.w.now.levels c.read_byte.new.w.levels c.walk_len-base.ensures (whole.ready.root refl) (steady_trans c.walk_len-base.result c.args.w.now.levels c.next.new.w.levels c.read_byte.new.w.levels (steady_as c.walk_len-base.result c.args.w.now.levels c.loop-b.w c.next.new.w (sym (passed_levels c.loop-b.w c.next.new.w c.next.ensures.world)) c.loop-b.invariant.steady) c.read_byte.ensures.reading.steady)
 
 pub returns-in-Done-clause-stands : goal.returns-in-Done-clause-stands
 returns-in-Done-clause-stands g c =
     let at = (given_stands c.counts_are_taken.ensures (stock_of c.args.w.now) (g.T.Bytes.takes_turns c.loop-b.text) c.walk_len-base.result c.loop-b.w c.next.new.w c.loop-b.group c.in-Ok-Some.field-0 c.in-Ok-Some.ensures.turn c.next.ensures.world (c.loop-b.invariant.stands, c.loop-b.invariant.behind)) in
     subst (λ (x : World). LeavesWhatStood (stock_of c.args.w.now) (stock_of x)) (sym (done_world g c))
-    (byte_stands c.reading_keeps_cells.ensures (stock_of c.args.w.now) (g.T.Bytes.takes_turns c.args.text.now) (mode_of c.loop-b.mode c.loop-b.word.items) c.in-Ok-Some.b (frames_in c.walk_len-base.result c.next.new.w c.loop-b.group) (stock_of c.next.new.w) _ (fit_of c.loop-b.mode c.loop-b.word.items c.loop-b.invariant.word) at.1 at.0 (c.in-Ok.ensures.ok (g.T.Bytes.takes_turns c.args.text.now) ∙ ap (λ x. step_of c.walk_len-base.result c.read_byte.new.w c.read_byte.new.word.items x) c.in-Done.is))
+    (byte_stands c.reading_keeps_cells.ensures (stock_of c.args.w.now) (g.T.Bytes.takes_turns c.args.text.now) (mode_of c.loop-b.mode c.loop-b.word.items) c.in-Ok-Some.b (frames_in c.walk_len-base.result c.next.new.w c.loop-b.group) (stock_of c.next.new.w) _ (fit_of c.loop-b.mode c.loop-b.word.items c.loop-b.invariant.word) at.1 at.0 (c.in-Ok.ensures.means (g.T.Bytes.takes_turns c.args.text.now) ∙ ap (λ x. step_of c.walk_len-base.result c.read_byte.new.w c.read_byte.new.word.items x) c.in-Done.is))
 
 pub returns-in-Done-clause-keeps : goal.returns-in-Done-clause-keeps
 returns-in-Done-clause-keeps g c = keeps_trans c.args.w.now c.read_byte.new.w c.if-not-used.w (keeps_trans c.args.w.now c.next.new.w c.read_byte.new.w (keeps_trans c.args.w.now c.loop-b.w c.next.new.w c.loop-b.invariant.keeps (keeps_given c.loop-b.w c.next.new.w c.next.ensures.world)) (keeps_read c.walk_len-base.result c.next.new.w c.read_byte.new.w c.read_byte.ensures.reading)) (keeps_back c.read_byte.new.w c.if-not-used.w (done_world g c))
 
 pub returns-in-Refuses-clause-syntax : goal.returns-in-Refuses-clause-syntax
-returns-in-Refuses-clause-syntax g c = λ k is. subst (λ (k : ℕ). TakesBytes (g.T.Bytes.unread c.args.text.now c.args.w.now.input) (g.T.Bytes.unread c.next.new.self c.refused.new.w.input) (λ before now. IsRefusedText (g.T.Bytes.takes_turns c.args.text.now) c.args.w.now c.refused.new.w before now k)) (sym (same_place c.refused.result k c.loop-b.k c.refused.ensures.syntax is)) (told_refused (g.T.Bytes.takes_turns c.args.text.now) (g.T.Bytes.takes_turns c.loop-b.text) c.loop-b.invariant.turns c.args.w.now c.loop-b.w c.next.new.w c.walk_len-base.result (mode_of c.loop-b.mode c.loop-b.word.items) c.loop-b.group c.loop-b.k (g.T.Bytes.unread c.args.text.now c.args.w.now.input) (g.T.Bytes.unread c.loop-b.text c.loop-b.w.input) (λ i. g.T.Bytes.unread c.next.new.self i) c.loop-b.invariant.goes c.next.ensures.world c.in-Ok-Some.field-0 c.in-Ok-Some.ensures.gives c.in-Ok-Some.ensures.turn c.in-Ok-Some.b c.in-Ok-Some.field-0-is c.refused.new.w.input (left_input c.read_byte.new.w c.refused.new.w c.refused.ensures.world ∙ read_input c.walk_len-base.result c.next.new.w c.read_byte.new.w c.read_byte.ensures.reading) (stock_of c.read_byte.new.w) c.refused.new.w (c.in-Ok.ensures.ok (g.T.Bytes.takes_turns c.args.text.now) ∙ ap (λ x. step_of c.walk_len-base.result c.read_byte.new.w c.read_byte.new.word.items x) c.in-Refuses.is) (levels_left c.read_byte.new.w c.refused.new.w c.refused.ensures.world))
+returns-in-Refuses-clause-syntax g c = λ k is. subst (λ (k : ℕ). TakesBytes (g.T.Bytes.unread c.args.text.now c.args.w.now.input) (g.T.Bytes.unread c.next.new.self c.refused.new.w.input) (λ before now. IsRefusedText (g.T.Bytes.takes_turns c.args.text.now) c.args.w.now c.refused.new.w before now k)) (sym (same_place c.refused.result k c.loop-b.k c.refused.ensures.syntax is)) (told_refused (g.T.Bytes.takes_turns c.args.text.now) (g.T.Bytes.takes_turns c.loop-b.text) c.loop-b.invariant.turns c.args.w.now c.loop-b.w c.next.new.w c.walk_len-base.result (mode_of c.loop-b.mode c.loop-b.word.items) c.loop-b.group c.loop-b.k (g.T.Bytes.unread c.args.text.now c.args.w.now.input) (g.T.Bytes.unread c.loop-b.text c.loop-b.w.input) (λ i. g.T.Bytes.unread c.next.new.self i) c.loop-b.invariant.goes c.next.ensures.world c.in-Ok-Some.field-0 c.in-Ok-Some.ensures.gives c.in-Ok-Some.ensures.turn c.in-Ok-Some.b c.in-Ok-Some.field-0-is c.refused.new.w.input (left_input c.read_byte.new.w c.refused.new.w c.refused.ensures.levels.world ∙ read_input c.walk_len-base.result c.next.new.w c.read_byte.new.w c.read_byte.ensures.reading) (stock_of c.read_byte.new.w) c.refused.new.w (c.in-Ok.ensures.means (g.T.Bytes.takes_turns c.args.text.now) ∙ ap (λ x. step_of c.walk_len-base.result c.read_byte.new.w c.read_byte.new.word.items x) c.in-Refuses.is) (levels_left c.read_byte.new.w c.refused.new.w c.refused.ensures.levels.world))
 
 pub returns-in-Refuses-clause-printed : goal.returns-in-Refuses-clause-printed
-returns-in-Refuses-clause-printed g c = λ not. told_waits (λ waiting. g.T.Bytes.printed c.next.new.self waiting) (g.T.Bytes.printed c.args.text.now c.args.w.now.output.waiting) (g.T.Bytes.printed c.loop-b.text c.loop-b.w.output.waiting) c.next.new.w.output.waiting c.refused.new.w.output.waiting (left_waiting c.read_byte.new.w c.refused.new.w c.refused.ensures.world ∙ read_waiting c.walk_len-base.result c.next.new.w c.read_byte.new.w c.read_byte.ensures.reading) c.loop-b.invariant.printed (c.in-Ok-Some.ensures.printed (λ e. cc))
+returns-in-Refuses-clause-printed g c = λ not. told_waits (λ waiting. g.T.Bytes.printed c.next.new.self waiting) (g.T.Bytes.printed c.args.text.now c.args.w.now.output.waiting) (g.T.Bytes.printed c.loop-b.text c.loop-b.w.output.waiting) c.next.new.w.output.waiting c.refused.new.w.output.waiting (left_waiting c.read_byte.new.w c.refused.new.w c.refused.ensures.levels.world ∙ read_waiting c.walk_len-base.result c.next.new.w c.read_byte.new.w c.read_byte.ensures.reading) c.loop-b.invariant.printed (c.in-Ok-Some.ensures.printed (λ e. cc))
 
 pub returns-in-Refuses-clause-levels : goal.returns-in-Refuses-clause-levels
-returns-in-Refuses-clause-levels g c = λ whole. levels_back c.walk_len-base.result c.args.w.now.levels c.refused.new.w.levels c.walk_len-base.ensures c.refused.ensures.left (steady_trans c.walk_len-base.result c.args.w.now.levels c.read_byte.new.w.levels c.refused.new.w.levels (steady_trans c.walk_len-base.result c.args.w.now.levels c.next.new.w.levels c.read_byte.new.w.levels (steady_as c.walk_len-base.result c.args.w.now.levels c.loop-b.w c.next.new.w (sym (passed_levels c.loop-b.w c.next.new.w c.next.ensures.world)) c.loop-b.invariant.steady) c.read_byte.ensures.reading.steady) c.refused.ensures.steady)
+returns-in-Refuses-clause-levels g c = λ whole. levels_back c.walk_len-base.result c.args.w.now.levels c.refused.new.w.levels c.walk_len-base.ensures c.refused.ensures.left (steady_trans c.walk_len-base.result c.args.w.now.levels c.read_byte.new.w.levels c.refused.new.w.levels (steady_trans c.walk_len-base.result c.args.w.now.levels c.next.new.w.levels c.read_byte.new.w.levels (steady_as c.walk_len-base.result c.args.w.now.levels c.loop-b.w c.next.new.w (sym (passed_levels c.loop-b.w c.next.new.w c.next.ensures.world)) c.loop-b.invariant.steady) c.read_byte.ensures.reading.steady) c.refused.ensures.levels.steady)
 
 pub returns-in-Refuses-clause-stands : goal.returns-in-Refuses-clause-stands
 returns-in-Refuses-clause-stands g c =
     let at = (given_stands c.counts_are_taken.ensures (stock_of c.args.w.now) (g.T.Bytes.takes_turns c.loop-b.text) c.walk_len-base.result c.loop-b.w c.next.new.w c.loop-b.group c.in-Ok-Some.field-0 c.in-Ok-Some.ensures.turn c.next.ensures.world (c.loop-b.invariant.stands, c.loop-b.invariant.behind)) in
-    stood_levels (stock_of c.args.w.now) (stock_of c.read_byte.new.w) (stock_of c.refused.new.w) _ (levels_left c.read_byte.new.w c.refused.new.w c.refused.ensures.world)
-    (byte_stands c.reading_keeps_cells.ensures (stock_of c.args.w.now) (g.T.Bytes.takes_turns c.args.text.now) (mode_of c.loop-b.mode c.loop-b.word.items) c.in-Ok-Some.b (frames_in c.walk_len-base.result c.next.new.w c.loop-b.group) (stock_of c.next.new.w) _ (fit_of c.loop-b.mode c.loop-b.word.items c.loop-b.invariant.word) at.1 at.0 (c.in-Ok.ensures.ok (g.T.Bytes.takes_turns c.args.text.now) ∙ ap (λ x. step_of c.walk_len-base.result c.read_byte.new.w c.read_byte.new.word.items x) c.in-Refuses.is))
+    stood_levels (stock_of c.args.w.now) (stock_of c.read_byte.new.w) (stock_of c.refused.new.w) _ (levels_left c.read_byte.new.w c.refused.new.w c.refused.ensures.levels.world)
+    (byte_stands c.reading_keeps_cells.ensures (stock_of c.args.w.now) (g.T.Bytes.takes_turns c.args.text.now) (mode_of c.loop-b.mode c.loop-b.word.items) c.in-Ok-Some.b (frames_in c.walk_len-base.result c.next.new.w c.loop-b.group) (stock_of c.next.new.w) _ (fit_of c.loop-b.mode c.loop-b.word.items c.loop-b.invariant.word) at.1 at.0 (c.in-Ok.ensures.means (g.T.Bytes.takes_turns c.args.text.now) ∙ ap (λ x. step_of c.walk_len-base.result c.read_byte.new.w c.read_byte.new.word.items x) c.in-Refuses.is))
 
 pub returns-in-Refuses-clause-keeps : goal.returns-in-Refuses-clause-keeps
-returns-in-Refuses-clause-keeps g c = keeps_trans c.args.w.now c.read_byte.new.w c.refused.new.w (keeps_trans c.args.w.now c.next.new.w c.read_byte.new.w (keeps_trans c.args.w.now c.loop-b.w c.next.new.w c.loop-b.invariant.keeps (keeps_given c.loop-b.w c.next.new.w c.next.ensures.world)) (keeps_read c.walk_len-base.result c.next.new.w c.read_byte.new.w c.read_byte.ensures.reading)) (keeps_levels c.read_byte.new.w c.refused.new.w c.refused.ensures.world)
+returns-in-Refuses-clause-keeps g c = keeps_trans c.args.w.now c.read_byte.new.w c.refused.new.w (keeps_trans c.args.w.now c.next.new.w c.read_byte.new.w (keeps_trans c.args.w.now c.loop-b.w c.next.new.w c.loop-b.invariant.keeps (keeps_given c.loop-b.w c.next.new.w c.next.ensures.world)) (keeps_read c.walk_len-base.result c.next.new.w c.read_byte.new.w c.read_byte.ensures.reading)) (keeps_levels c.read_byte.new.w c.refused.new.w c.refused.ensures.levels.world)
 
 pub loop-b-smaller : goal.loop-b-smaller
 loop-b-smaller g c = measure_falls (g.T.Bytes.takes_turns c.loop-b.text) (g.T.Bytes.takes_turns c.next.new.self) (count_turns_left c.loop-b.w.counts) (count_turns_left c.read_byte.new.w.counts) (g.T.Bytes.number c.loop-b.text c.loop-b.w.input) (g.T.Bytes.number c.next.new.self c.read_byte.new.w.input) c.next.ensures.same
     (λ takes. turns_fall (g.T.Bytes.takes_turns c.loop-b.text) c.loop-b.w c.next.new.w c.read_byte.new.w c.in-Ok-Some.field-0 c.in-Ok-Some.b c.in-Ok-Some.field-0-is takes c.in-Ok-Some.ensures.turn
-    (goes_left (g.T.Bytes.takes_turns c.args.text.now) (mode_of c.loop-b.mode c.loop-b.word.items) (mode_of c.in-Goes.next c.read_byte.new.word.items) c.in-Ok-Some.b (frames_in c.walk_len-base.result c.next.new.w c.loop-b.group) (frames_in c.walk_len-base.result c.read_byte.new.w c.in-Goes.inside) (stock_of c.next.new.w) (stock_of c.read_byte.new.w) (c.in-Ok.ensures.ok (g.T.Bytes.takes_turns c.args.text.now) ∙ ap (λ x. step_of c.walk_len-base.result c.read_byte.new.w c.read_byte.new.word.items x) c.in-Goes.is)))
+    (goes_left (g.T.Bytes.takes_turns c.args.text.now) (mode_of c.loop-b.mode c.loop-b.word.items) (mode_of c.in-Goes.next c.read_byte.new.word.items) c.in-Ok-Some.b (frames_in c.walk_len-base.result c.next.new.w c.loop-b.group) (frames_in c.walk_len-base.result c.read_byte.new.w c.in-Goes.inside) (stock_of c.next.new.w) (stock_of c.read_byte.new.w) (c.in-Ok.ensures.means (g.T.Bytes.takes_turns c.args.text.now) ∙ ap (λ x. step_of c.walk_len-base.result c.read_byte.new.w c.read_byte.new.word.items x) c.in-Goes.is)))
     (λ none. subst (λ (i : Input). g.T.Bytes.number c.next.new.self i < g.T.Bytes.number c.loop-b.text c.loop-b.w.input) (sym (read_input c.walk_len-base.result c.next.new.w c.read_byte.new.w c.read_byte.ensures.reading)) (c.in-Ok-Some.ensures.lower (subst (λ (o : Option ℕ). IsSome o) (sym c.in-Ok-Some.field-0-is) refl) none))
 
 pub loop-b-preserved : goal.loop-b-preserved
-loop-b-preserved g c = let is = subst (λ x. IsStep c.walk_len-base.result c.read_byte.new.w c.read_byte.new.word.items x) c.in-Goes.is c.in-Ok.ensures.step in
+loop-b-preserved g c = let is = subst (λ x. IsStep c.walk_len-base.result c.read_byte.new.w c.read_byte.new.word.items x) c.in-Goes.is c.in-Ok.ensures.sound in
     let at = (given_stands c.counts_are_taken.ensures (stock_of c.args.w.now) (g.T.Bytes.takes_turns c.loop-b.text) c.walk_len-base.result c.loop-b.w c.next.new.w c.loop-b.group c.in-Ok-Some.field-0 c.in-Ok-Some.ensures.turn c.next.ensures.world (c.loop-b.invariant.stands, c.loop-b.invariant.behind)) in
-    let on = byte_stands c.reading_keeps_cells.ensures (stock_of c.args.w.now) (g.T.Bytes.takes_turns c.args.text.now) (mode_of c.loop-b.mode c.loop-b.word.items) c.in-Ok-Some.b (frames_in c.walk_len-base.result c.next.new.w c.loop-b.group) (stock_of c.next.new.w) _ (fit_of c.loop-b.mode c.loop-b.word.items c.loop-b.invariant.word) at.1 at.0 (c.in-Ok.ensures.ok (g.T.Bytes.takes_turns c.args.text.now) ∙ ap (λ x. step_of c.walk_len-base.result c.read_byte.new.w c.read_byte.new.word.items x) c.in-Goes.is) in
+    let on = byte_stands c.reading_keeps_cells.ensures (stock_of c.args.w.now) (g.T.Bytes.takes_turns c.args.text.now) (mode_of c.loop-b.mode c.loop-b.word.items) c.in-Ok-Some.b (frames_in c.walk_len-base.result c.next.new.w c.loop-b.group) (stock_of c.next.new.w) _ (fit_of c.loop-b.mode c.loop-b.word.items c.loop-b.invariant.word) at.1 at.0 (c.in-Ok.ensures.means (g.T.Bytes.takes_turns c.args.text.now) ∙ ap (λ x. step_of c.walk_len-base.result c.read_byte.new.w c.read_byte.new.word.items x) c.in-Goes.is) in
     record {
       base = c.loop-b.invariant.base;
       ready = is.0;
       word = is.1;
       turns = c.next.ensures.same ∙ c.loop-b.invariant.turns;
-      goes = told_on (g.T.Bytes.takes_turns c.args.text.now) (g.T.Bytes.takes_turns c.loop-b.text) c.loop-b.invariant.turns c.args.w.now c.loop-b.w c.next.new.w c.walk_len-base.result (mode_of c.loop-b.mode c.loop-b.word.items) c.loop-b.group c.loop-b.k (g.T.Bytes.unread c.args.text.now c.args.w.now.input) (g.T.Bytes.unread c.loop-b.text c.loop-b.w.input) (λ i. g.T.Bytes.unread c.next.new.self i) c.loop-b.invariant.goes c.next.ensures.world c.in-Ok-Some.field-0 c.in-Ok-Some.ensures.gives c.in-Ok-Some.ensures.turn c.in-Ok-Some.b c.in-Ok-Some.field-0-is c.read_byte.new.w.input (read_input c.walk_len-base.result c.next.new.w c.read_byte.new.w c.read_byte.ensures.reading) (mode_of c.in-Goes.next c.read_byte.new.word.items) (frames_in c.walk_len-base.result c.read_byte.new.w c.in-Goes.inside) (stock_of c.read_byte.new.w) c.saturating_add-k.result (c.in-Ok.ensures.ok (g.T.Bytes.takes_turns c.args.text.now) ∙ ap (λ x. step_of c.walk_len-base.result c.read_byte.new.w c.read_byte.new.word.items x) c.in-Goes.is) c.saturating_add-k.ensures;
+      goes = told_on (g.T.Bytes.takes_turns c.args.text.now) (g.T.Bytes.takes_turns c.loop-b.text) c.loop-b.invariant.turns c.args.w.now c.loop-b.w c.next.new.w c.walk_len-base.result (mode_of c.loop-b.mode c.loop-b.word.items) c.loop-b.group c.loop-b.k (g.T.Bytes.unread c.args.text.now c.args.w.now.input) (g.T.Bytes.unread c.loop-b.text c.loop-b.w.input) (λ i. g.T.Bytes.unread c.next.new.self i) c.loop-b.invariant.goes c.next.ensures.world c.in-Ok-Some.field-0 c.in-Ok-Some.ensures.gives c.in-Ok-Some.ensures.turn c.in-Ok-Some.b c.in-Ok-Some.field-0-is c.read_byte.new.w.input (read_input c.walk_len-base.result c.next.new.w c.read_byte.new.w c.read_byte.ensures.reading) (mode_of c.in-Goes.next c.read_byte.new.word.items) (frames_in c.walk_len-base.result c.read_byte.new.w c.in-Goes.inside) (stock_of c.read_byte.new.w) c.saturating_add-k.result (c.in-Ok.ensures.means (g.T.Bytes.takes_turns c.args.text.now) ∙ ap (λ x. step_of c.walk_len-base.result c.read_byte.new.w c.read_byte.new.word.items x) c.in-Goes.is) c.saturating_add-k.ensures;
       printed = told_waits (λ waiting. g.T.Bytes.printed c.next.new.self waiting) (g.T.Bytes.printed c.args.text.now c.args.w.now.output.waiting) (g.T.Bytes.printed c.loop-b.text c.loop-b.w.output.waiting) c.next.new.w.output.waiting c.read_byte.new.w.output.waiting (read_waiting c.walk_len-base.result c.next.new.w c.read_byte.new.w c.read_byte.ensures.reading) c.loop-b.invariant.printed (c.in-Ok-Some.ensures.printed (λ e. cc));
       reads = c.in-Ok-Some.ensures.steady_reads (λ e. cc) ∙ c.loop-b.invariant.reads;
       writes = c.in-Ok-Some.ensures.steady_writes (λ e. cc) ∙ c.loop-b.invariant.writes;

@@ -1,36 +1,54 @@
-use Rattle.std.proofs.Common.{arith, ap, subst}
+use Rattle.std.proofs.Common.{◌∷◌, ap, arith, refl, sym}
 use Rattle.rl_text.specs.Reader as reader
-use Rattle.rl_read.specs.Stock.{in_stock, stock_of}
-use Rattle.rl_read.specs.Frames.{IsReadyToRead, frames_in}
-use Rattle.rl_read.specs.declared.frames.Group.{Group}
+use Rattle.rl_read.specs.Stock.{stock_of}
+use Rattle.rl_read.specs.Frames.{chain_of, frames_kept}
 use Rattle.rl_read.specs.declared.frames.Group.TheVariants as group
+use Rattle.rl_read.specs.declared.step.Ended.TheVariants as how
+use Rattle.rl_world.specs.Walks.{kept_above}
 use Rattle.rl_read.proofs.MakingStays.{chain_stays, ready_made}
-use Rattle.rl_read.proofs.ElementEnds.{ends_same, group_in_place, lacks_same, root_ended, root_frames}
+use Rattle.rl_read.proofs.CallsFollow.{made_ends, made_lacks, reads_here}
+use Rattle.rl_read.proofs.ElementEnds.{group_in_place, kept_same, root_ended, root_frames}
 use Rattle.rl_read.proofs.step.in_place.Goals as goal
 
-pub returns-in-Ok-clause-ended : goal.returns-in-Ok-clause-ended
-returns-in-Ok-clause-ended c base ready =
-    ready_made base c.args.w.now c.extended.new.w c.args.group (group.Vector c.in-Ok.c) ready c.extended.ensures.making c.extended.ensures.able c.in-Ok.ensures.chain (λ e. absurd cc)
+-- an element of a vector hangs a pair in the list of its elements
+pub returns-in-Ok-clause-ends : goal.returns-in-Ok-clause-ends
+returns-in-Ok-clause-ends c base ready =
+    let m = c.in-Ok.ensures.made.making in
+    let fs = frames_kept (kept_above base c.args.w.now.levels) in
+    rw c.in-Vector.is
+    (made_ends base (group.Vector c.in-Vector.c) (λ m fs k. reader.value_ended m c.args.v fs k) (λ t l k. reader.Inside (reader.Vectoring l ∷ fs) k) (how.Inside (group.Vector c.in-Ok.c)) c.in-Ok.ensures.made (λ t. refl)
+    (λ t. ap (λ fs. reader.Inside (reader.Vectoring (chain_of c.in-Ok.c) ∷ fs) (stock_of c.extended.new.w)) (sym (kept_same base c.args.w.now c.extended.new.w m)))
+    (ready_made base c.args.w.now c.extended.new.w c.args.group (group.Vector c.in-Ok.c) ready m c.in-Ok.ensures.made.able c.in-Ok.ensures.made.sound (λ e. absurd cc)))
 
-pub returns-in-Ok-extended-clause-ended : goal.returns-in-Ok-extended-clause-ended
-returns-in-Ok-extended-clause-ended c base ready =
-    let m = c.extended-in-VectorBehind.ensures.making in
-    let is = group_in_place base c.args.w.now c.args.group (group.VectorBehind c.in-VectorBehind.c c.in-VectorBehind.l c.in-VectorBehind.owed) ready c.in-VectorBehind.is in
-    ready_made base c.args.w.now c.extended-in-VectorBehind.new.w c.args.group (group.VectorBehind c.in-Ok-extended.c c.in-VectorBehind.l c.in-VectorBehind.owed) ready m c.extended-in-VectorBehind.ensures.able
-    (c.in-Ok-extended.ensures.chain, chain_stays c.args.w.now.cells.cells c.extended-in-VectorBehind.new.w.cells.cells c.in-VectorBehind.l m.live is.1, omega (arith, is.2, m.longer))
-    (λ e. absurd cc)
+pub returns-in-Err-clause-ends : goal.returns-in-Err-clause-ends
+returns-in-Err-clause-ends c base ready =
+    let fs = frames_kept (kept_above base c.args.w.now.levels) in
+    rw c.in-Vector.is (made_lacks base (group.Vector c.in-Vector.c) (λ m fs k. reader.value_ended m c.args.v fs k) (λ t l k. reader.Inside (reader.Vectoring l ∷ fs) k) c.in-Err.ensures.made (λ t. refl))
 
-pub returns-in-List-clause-ok : goal.returns-in-List-clause-ok
-returns-in-List-clause-ok c base ready =
-    ends_same base c.in_list.new.w c.in_list.result _ _ (λ t. ap (λ (g : Group). reader.value_ended (in_stock t) c.args.v (frames_in base c.args.w.now g) (stock_of c.args.w.now)) c.in-List.is) (c.in_list.ensures.ok base (subst (λ (g : Group). IsReadyToRead base c.args.w.now g) c.in-List.is ready))
+pub returns-in-Ok-extended-clause-ends : goal.returns-in-Ok-extended-clause-ends
+returns-in-Ok-extended-clause-ends c base ready =
+    let m = c.in-Ok-extended.ensures.made.making in
+    let was = c.in-VectorBehind in
+    let fs = reader.Listing (chain_of was.l) was.owed reader.Dotted ∷ frames_kept (kept_above base c.args.w.now.levels) in
+    let is = group_in_place base c.args.w.now c.args.group (group.VectorBehind was.c was.l was.owed) ready was.is in
+    rw was.is
+    (made_ends base (group.VectorBehind was.c was.l was.owed) (λ m fs k. reader.value_ended m c.args.v fs k) (λ t l k. reader.Inside (reader.Vectoring l ∷ fs) k) (how.Inside (group.VectorBehind c.in-Ok-extended.c was.l was.owed)) c.in-Ok-extended.ensures.made (λ t. refl)
+    (λ t. ap (λ fs. reader.Inside (reader.Vectoring (chain_of c.in-Ok-extended.c) ∷ reader.Listing (chain_of was.l) was.owed reader.Dotted ∷ fs) (stock_of c.extended-in-VectorBehind.new.w)) (sym (kept_same base c.args.w.now c.extended-in-VectorBehind.new.w m)))
+    (ready_made base c.args.w.now c.extended-in-VectorBehind.new.w c.args.group (group.VectorBehind c.in-Ok-extended.c was.l was.owed) ready m c.in-Ok-extended.ensures.made.able
+    (c.in-Ok-extended.ensures.made.sound, chain_stays c.args.w.now.cells.cells c.extended-in-VectorBehind.new.w.cells.cells was.l m.live is.1, omega (arith, is.2, m.longer))
+    (λ e. absurd cc)))
 
-pub returns-in-List-clause-stop : goal.returns-in-List-clause-stop
-returns-in-List-clause-stop c base ready =
-    lacks_same c.in_list.result _ _ _ (λ t. ap (λ (g : Group). reader.value_ended (in_stock t) c.args.v (frames_in base c.args.w.now g) (stock_of c.args.w.now)) c.in-List.is) (c.in_list.ensures.stop base (subst (λ (g : Group). IsReadyToRead base c.args.w.now g) c.in-List.is ready))
+pub returns-in-Err-extended-clause-ends : goal.returns-in-Err-extended-clause-ends
+returns-in-Err-extended-clause-ends c base ready =
+    let was = c.in-VectorBehind in
+    let fs = reader.Listing (chain_of was.l) was.owed reader.Dotted ∷ frames_kept (kept_above base c.args.w.now.levels) in
+    rw was.is (made_lacks base (group.VectorBehind was.c was.l was.owed) (λ m fs k. reader.value_ended m c.args.v fs k) (λ t l k. reader.Inside (reader.Vectoring l ∷ fs) k) c.in-Err-extended.ensures.made (λ t. refl))
 
-pub returns-in_default-clause-ok : goal.returns-in_default-clause-ok
-returns-in_default-clause-ok c base ready t =
-    root_ended t base c.args.w.now c.args.v c.args.group ready (root_frames base c.args.w.now c.args.group ready c.requires.place c.in_default.not-Vector c.in_default.not-List c.in_default.not-VectorBehind)
+pub returns-in-List-clause-ends : goal.returns-in-List-clause-ends
+returns-in-List-clause-ends c base ready = rw c.in-List.is (c.in_list.ensures.ends base (rw c.in-List.is at ready))
 
-pub returns-in-List-clause-ended : goal.returns-in-List-clause-ended
-returns-in-List-clause-ended c base ready = c.in_list.ensures.ended base (subst (λ (g : Group). IsReadyToRead base c.args.w.now g) c.in-List.is ready)
+-- nothing is around
+pub returns-in_default-clause-ends : goal.returns-in_default-clause-ends
+returns-in_default-clause-ends c base ready =
+    let root = root_frames base c.args.w.now c.args.group ready c.requires.place c.in_default.not-Vector c.in_default.not-List c.in_default.not-VectorBehind in
+    reads_here base c.args.w.now c.args.group ready (λ t. root_ended t base c.args.w.now c.args.v c.args.group ready root) (record { ready = rw root at ready; live = c.requires.live })

@@ -3,13 +3,9 @@ use Rattle.rl_tags.specs.Tagged.{Tagged}
 use Rattle.rl_text.specs.Reader as reader
 use Rattle.rl_read.specs.Stock.{in_stock, stock_of}
 use Rattle.rl_read.specs.Frames.{frames_in}
-use Rattle.rl_read.proofs.ElementEnds.{ends_same, lacks_same}
+use Rattle.rl_read.proofs.CallsFollow.{reads_same}
 use Rattle.rl_read.proofs.step.number_ended.Goals as goal
 
-pub returns-clause-ok : goal.returns-clause-ok
-returns-clause-ok c =
-    ends_same c.args.base c.value_ended.new.w c.value_ended.result _ _ (λ t. ap (λ (v : Tagged). reader.value_ended (in_stock t) v (frames_in c.args.base c.args.w.now c.args.group) (stock_of c.args.w.now)) (sym c.number.ensures)) c.value_ended.ensures.ok
-
-pub returns-clause-stop : goal.returns-clause-stop
-returns-clause-stop c =
-    lacks_same c.value_ended.result _ _ _ (λ t. ap (λ (v : Tagged). reader.value_ended (in_stock t) v (frames_in c.args.base c.args.w.now c.args.group) (stock_of c.args.w.now)) (sym c.number.ensures)) c.value_ended.ensures.stop
+pub returns : goal.returns
+returns c =
+    reads_same c.value_ended.ensures (λ t. ap (λ (v : Tagged). reader.value_ended (in_stock t) v (frames_in c.args.base c.args.w.now c.args.group) (stock_of c.args.w.now)) (sym c.number.ensures))
