@@ -28,7 +28,6 @@ mod OneRunWalks
 mod OneRunHolding
 mod OneRunVariables
 mod OneRunPrinting
-mod OneRunReader
 mod OneRunReading
 mod OneRunNatives
 mod OneRunEvaluation
@@ -48,6 +47,7 @@ mod HeadsObjects
 mod HeadsStays
 mod HeadsRests
 mod OneRunHeads
+mod OneRunTogether
 mod PlainWays
 mod PlainObjects
 mod PlainNatives

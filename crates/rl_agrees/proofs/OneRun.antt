@@ -13,7 +13,7 @@ use Rattle.rl_meaning.specs.Variables.{with_nearest, with_oldest}
 use Rattle.rl_meaning.specs.Copying.{with_object}
 use Rattle.rl_meaning.specs.Definitions.{with_definition}
 use Rattle.rl_meaning.specs.Printing.{with_page, turns_taken, note}
-use Rattle.rl_meaning.specs.Input.{with_input}
+use Rattle.rl_meaning.specs.Input.{with_input, read_bytes}
 use Rattle.rl_meaning.specs.Evaluation.{Position, Statement, Inside, with_expansion, without_expansion}
 use Rattle.rl_meaning.specs.Opening.{state_of}
 use Rattle.rl_agrees.specs.Later.{IsMore}
@@ -89,6 +89,10 @@ Moves P r o = LeadsAt P Statement r o
 
 abbrev pub Leads : {A : Type 0} → (State → State → Type 0) → State → Outcome A → Type 0
 Leads P r o = LeadsAt P Inside r o
+
+-- and what reading does
+pub record ReadsLead (P : State → State → Type 0) : Type 0 where
+  pub leads : (turns : Bool) (levels : Levels) (bytes : List ℕ) (s : State) → Leads P s (read_bytes turns levels bytes s)
 
 -- what the value of an outcome has, in its state
 abbrev pub DoneWith : {A : Type 0} → (A → State → Type 0) → Outcome A → Type 0

@@ -16,12 +16,12 @@ use Rattle.rl_meaning.specs.Natives.{argument}
 use Rattle.rl_meaning.specs.Evaluation.{Position, Statement, Inside, Here, Job, Run, Onward, Call_, From, In, Rec, longest_chain, bad_form, misplaced_at, deeper_here, kind_of_definition, with_expansion, closed, print_unless_nil, caught, Target, Function_, Lambda, Undefined, WrongType, target_of, with_arguments, held_applied, form_evaluated, evaluated, errorset, list_applied, applied_to, apply_target, apply, native_applied, counted, called_as, function_applied, applied, name_applied, called, fexpr_called, expansion_of, expanded_body, macro_called, in_chain, jumped, in_prog, function_defined, define_function, going, quoted, function_named}
 use Rattle.rl_meaning.specs.Compiling.{Compiler, no_compiler}
 use Rattle.rl_agrees.specs.Heads.{IsWalk}
-use Rattle.rl_agrees.proofs.OneRun.{StepsAt, Prints, IsBehind, LeadsAt, Moves, Leads, follows_same, follows_then, leads_from, anywhere, done_leads, failed_leads, went_leads, returned_leads, stopped_leads, then_leads, turn_leads, deeper_leads}
+use Rattle.rl_agrees.proofs.OneRun.{StepsAt, Prints, ReadsLead, IsBehind, LeadsAt, Moves, Leads, follows_same, follows_then, leads_from, anywhere, done_leads, failed_leads, went_leads, returned_leads, stopped_leads, then_leads, turn_leads, deeper_leads}
 use Rattle.rl_agrees.proofs.OneRunObjects.{leading, fail_leads, reading_follows, reading_pair_follows}
 use Rattle.rl_agrees.proofs.OneRunHolding.{hold_form_leads, hold_expansion_leads, elements_lead, copied_leads, hold_part_leads}
 use Rattle.rl_agrees.proofs.OneRunVariables.{mark_follows, restored_leads}
 use Rattle.rl_agrees.proofs.OneRunPrinting.{note_follows, print_error_leads}
-use Rattle.rl_agrees.proofs.OneRunNatives.{define_follows, own_name_leads, hold_lambda_leads, native_leads, any_prints}
+use Rattle.rl_agrees.proofs.OneRunNatives.{define_follows, own_name_leads, hold_lambda_leads, native_leads, any_needs}
 
 -- ---- what is asked of compilation, and of the jobs that are asked for
 
@@ -31,6 +31,7 @@ pub record CompilerLeads (P : State → State → Type 0) (c : Compiler) : Type 
   pub names : (vs : List Value) (s : State) → Leads P s (c.compile_names vs s)
   pub writes : (vs : List Value) (s : State) → Leads P s (c.write_file vs s)
   pub loads : (vs : List Value) (s : State) → Leads P s (c.load_file vs s)
+  pub reads : ReadsLead P
 
 -- only a statement of a PROG may leave by GO or RETURN
 abbrev pub position_of : Job → Position
@@ -59,13 +60,14 @@ pub walk_asked : {P : State → State → Type 0} (rec : Rec) (freely : Bool) �
 walk_asked rec true h j s w = h j s
 walk_asked rec false h j s w = h j s w
 
-pub no_compiler_leads : {freely : Bool} {P : State → State → Type 0} → StepsAt freely P → CompilerLeads P no_compiler
-no_compiler_leads steps = record {
+pub no_compiler_leads : {freely : Bool} {P : State → State → Type 0} → StepsAt freely P → ReadsLead P → CompilerLeads P no_compiler
+no_compiler_leads steps reads = record {
   taken = λ name s. steps.same s;
   behind = λ v s. steps.same s;
   names = λ vs s. stopped_leads _ s (follows_same steps s);
   writes = λ vs s. stopped_leads _ s (follows_same steps s);
   loads = λ vs s. stopped_leads _ s (follows_same steps s);
+  reads = reads;
 }
 
 -- ---- what asks for no job
@@ -161,7 +163,7 @@ module _ {freely : Bool} {P : State → State → Type 0} {rec : Rec} (keeps : R
   native_applied_leads Compile levels vs s h = leads_from keeps.steps r s _ h (keeps.compiler.names vs s)
   native_applied_leads Faslout levels vs s h = leads_from keeps.steps r s _ h (keeps.compiler.writes vs s)
   native_applied_leads Load levels vs s h = leads_from keeps.steps r s _ h (keeps.compiler.loads vs s)
-  native_applied_leads other levels vs s h = native_leads keeps.steps other levels vs s (any_prints P other keeps.prints) h
+  native_applied_leads other levels vs s h = native_leads keeps.steps other levels vs s (any_needs P other keeps.prints keeps.compiler.reads) h
 
   pub function_applied_leads : (name : Option ℕ) (levels : Levels) (p : Pointer) (function : Function) (vs : List Value) (s : State) → IsBehind P r s → Leads P r (function_applied rec name levels p function vs s)
   function_applied_leads name levels p (SpecialForm form) vs s h = fail_leads keeps.steps wrong_type (called_as rec name p) s h

@@ -17,7 +17,7 @@ use Rattle.rl_meaning.specs.Jobs.{job, the_compiler}
 use Rattle.rl_meaning.specs.Opening.{state_of}
 use Rattle.rl_agrees.specs.Later.{IsMore, IsMemberOf, further, Later}
 use Rattle.rl_agrees.specs.Heads.{IsWalk, shape, IsBelow, RestsOn, Stays, HeadsStayIn}
-use Rattle.rl_agrees.proofs.OneRun.{StepsAt, Prints}
+use Rattle.rl_agrees.proofs.OneRun.{StepsAt, Prints, ReadsLead}
 use Rattle.rl_agrees.proofs.OneRunLater.{later_steps, later_prints}
 use Rattle.rl_agrees.proofs.OneRunPrinting.{more_same}
 use Rattle.rl_agrees.proofs.LaterLists.{set_definition, appended_definition}
@@ -48,7 +48,7 @@ runs_below s t below p h =
 
 -- ---- the instance
 
-record Heads (s t : State) : Type 0 where
+pub record Heads (s t : State) : Type 0 where
   pub marks : Marks s t
   pub later : Later s t
   pub stays : s.compilation.runs_code ≡ false → t.watched.event ≡ None → (p : Pointer) → IsMemberOf p (running s.bindings) → (i : ℕ) (through : Bool) → RestsOn s t (function_at s p) i through → Stays t through (symbol_at s i).definition (symbol_at t i).definition
@@ -153,7 +153,7 @@ also_heads s t u h m l still more event same = record {
   stays = λ walks none p run i through r. stays_then t u more through _ _ _ (h.stays walks (event ∙ none) p run i through (rests_before s t u still (function_at s p) i through r)) (stays_same u through _ _ (same i));
 }
 
-heads_steps : StepsAt false Heads
+pub heads_steps : StepsAt false Heads
 heads_steps = record {
   same = λ s. untold s s (marks_steps.same s) (later_steps.same s) (λ i. refl);
   and_then = heads_then;
@@ -211,8 +211,8 @@ pub heads_on : (s t u : State) → Later s t → Later t u → HeadsStayIn s t �
 heads_on s t u h k a b = heads_in s u (later_steps.and_then s t u h k) (λ p run. b.runs p (a.runs p run)) (λ p run i through r.
     stays_then t u k.functions through _ _ _ (a.stays p run i through (rests_before s t u (noted_still s t u h k) (function_at s p) i through r)) (b.stays p (a.runs p run) i through (rests_more s t u h k p (a.stays p run) i through r)))
 
-pub job_heads : (j : Job) (s : State) → IsWalk j → s.compilation.runs_code ≡ false → (state_of (job the_compiler j s)).watched.event ≡ None → HeadsStayIn s (state_of (job the_compiler j s))
-job_heads j s w walks none = stay (walk_leads heads_steps heads_prints heads_idle j s w).moves
+pub job_heads : ReadsLead Heads → ReadsLead Later → (j : Job) (s : State) → IsWalk j → s.compilation.runs_code ≡ false → (state_of (job the_compiler j s)).watched.event ≡ None → HeadsStayIn s (state_of (job the_compiler j s))
+job_heads reads later j s w walks none = stay (walk_leads heads_steps heads_prints reads heads_idle later j s w).moves
   where
     t : State
     t = state_of (job the_compiler j s)

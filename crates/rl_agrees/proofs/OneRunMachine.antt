@@ -16,7 +16,7 @@ use Rattle.rl_meaning.specs.Machine as machine
 use Rattle.rl_meaning.specs.Machine.{as_list, proper_elements, register, with_register, after_link, with_slot, allocated, deallocated, content, bound, freed, undone, one_more, frame_ended, at_entry, is_same, behind, behind_entry, part_linked, list_linked, definition_linked, form_linked, function_linked, linked_to, linked, again, run, seek, run_code}
 use Rattle.rl_meaning.specs.Compiling.{Compiler}
 use Rattle.rl_meaning.specs.Jobs.{run_held, code_of, job_done, rank, job_at, job, jobs, the_compiler}
-use Rattle.rl_agrees.proofs.OneRun.{Steps, Prints, IsBehind, LeadsAt, Leads, follows_same, follows_then, leads_from, stopped_leads, done_leads, then_leads, choose_leads, turn_leads, deeper_leads}
+use Rattle.rl_agrees.proofs.OneRun.{Steps, Prints, ReadsLead, IsBehind, LeadsAt, Leads, follows_same, follows_then, leads_from, stopped_leads, done_leads, then_leads, choose_leads, turn_leads, deeper_leads}
 use Rattle.rl_agrees.proofs.OneRunObjects.{leading, fail_leads}
 use Rattle.rl_agrees.proofs.OneRunHolding.{hold_function_leads, copied_leads}
 use Rattle.rl_agrees.proofs.OneRunVariables.{mark_follows, variable_leads, assigned_leads, bind_all_leads, restored_leads}
@@ -153,5 +153,5 @@ module _ {P : State → State → Type 0} (steps : Steps P) (prints : Prints P) 
   pub jobs_keep : RecLeads P (jobs c)
   jobs_keep = record { steps = steps; prints = prints; compiler = compiles; asks = job_leads }
 
-pub the_jobs_keep : {P : State → State → Type 0} → Steps P → Prints P → RecLeads P (jobs the_compiler)
-the_jobs_keep steps prints = jobs_keep steps prints the_compiler (no_compiler_leads steps)
+pub the_jobs_keep : {P : State → State → Type 0} → Steps P → Prints P → ReadsLead P → RecLeads P (jobs the_compiler)
+the_jobs_keep steps prints reads = jobs_keep steps prints the_compiler (no_compiler_leads steps reads)

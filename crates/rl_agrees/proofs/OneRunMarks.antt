@@ -15,7 +15,7 @@ use Rattle.rl_meaning.specs.Jobs.{job, the_compiler}
 use Rattle.rl_meaning.specs.Opening.{state_of}
 use Rattle.rl_agrees.specs.Later.{Later}
 use Rattle.rl_agrees.specs.Heads.{IsWalk, outline, shape, IsBelow}
-use Rattle.rl_agrees.proofs.OneRun.{StepsAt, Prints}
+use Rattle.rl_agrees.proofs.OneRun.{StepsAt, Prints, ReadsLead}
 use Rattle.rl_agrees.proofs.OneRunLater.{later_steps, later_prints}
 use Rattle.rl_agrees.proofs.OneRunWalking.{Idles, walk_leads}
 
@@ -152,5 +152,5 @@ marks_idle = record { idle = λ s t e l. record { objects = l.objects; walked = 
     both : true ≡ false → ⊥
     both e = absurd (cc)
 
-pub job_below : (j : Job) (s : State) → IsWalk j → s.compilation.runs_code ≡ false → IsBelow s (state_of (job the_compiler j s))
-job_below j s w e = ((walk_leads marks_steps marks_prints marks_idle j s w).moves.walked e).below
+pub job_below : ReadsLead Marks → ReadsLead Later → (j : Job) (s : State) → IsWalk j → s.compilation.runs_code ≡ false → IsBelow s (state_of (job the_compiler j s))
+job_below reads later j s w e = ((walk_leads marks_steps marks_prints reads marks_idle later j s w).moves.walked e).below

@@ -14,7 +14,7 @@ use Rattle.rl_meaning.specs.Properties.{PropertyPlace, look_for, with_properties
 use Rattle.rl_meaning.specs.Definitions.{with_definition, define, definition_pair, getd, FunctionBody, Given, Lambda, kind_of, with_kind, body_in, with_body, own_name, hold_lambda, function_of, putd, remd, declared, declare, fluid, global, undeclare, unfluid, set}
 use Rattle.rl_meaning.specs.Natives.{argument, native}
 use Rattle.rl_meaning.specs.Evaluation.{Position}
-use Rattle.rl_agrees.proofs.OneRun.{StepsAt, Prints, IsBehind, LeadsAt, follows_then, then_leads}
+use Rattle.rl_agrees.proofs.OneRun.{StepsAt, Prints, ReadsLead, IsBehind, LeadsAt, follows_then, then_leads}
 use Rattle.rl_agrees.proofs.OneRunObjects.{leading, pair_leads, chained_none, made_list_leads, made_follows, changed_follows, cdr_changed_follows, reading_pair_follows}
 use Rattle.rl_agrees.proofs.OneRunWalks.{walk_leads, equal_leads}
 use Rattle.rl_agrees.proofs.OneRunHolding.{hold_function_leads}
@@ -24,20 +24,22 @@ use Rattle.rl_agrees.proofs.OneRunReading.{read_leads, readch_leads}
 
 -- ---- states
 
--- what a native asks of the preorder for what it prints
-abbrev pub NeedsPrints : (State → State → Type 0) → Native → Type 0
-NeedsPrints P Prin1 = Prints P
-NeedsPrints P Prin2 = Prints P
-NeedsPrints P Print = Prints P
-NeedsPrints P Terpri = Prints P
-NeedsPrints P other = Unit {0}
+-- what a native asks of the preorder for what it prints and reads
+abbrev pub NeedsOf : (State → State → Type 0) → Native → Type 0
+NeedsOf P Prin1 = Prints P
+NeedsOf P Prin2 = Prints P
+NeedsOf P Print = Prints P
+NeedsOf P Terpri = Prints P
+NeedsOf P Read = ReadsLead P
+NeedsOf P other = Unit {0}
 
-pub any_prints : (P : State → State → Type 0) (n : Native) → Prints P → NeedsPrints P n
-any_prints P Prin1 p = p
-any_prints P Prin2 p = p
-any_prints P Print p = p
-any_prints P Terpri p = p
-any_prints P other p = tt
+pub any_needs : (P : State → State → Type 0) (n : Native) → Prints P → ReadsLead P → NeedsOf P n
+any_needs P Prin1 p q = p
+any_needs P Prin2 p q = p
+any_needs P Print p q = p
+any_needs P Terpri p q = p
+any_needs P Read p q = q
+any_needs P other p q = tt
 
 module _ {freely : Bool} {P : State → State → Type 0} (steps : StepsAt freely P) {r : State} where
   pub gensyms_follow : (n : ℕ) (s : State) → IsBehind P r s → IsBehind P r (record s { gensyms = n })
@@ -249,9 +251,9 @@ module _ {freely : Bool} {P : State → State → Type 0} (steps : StepsAt freel
   pub set_leads : (u x : Value) (s : State) → IsBehind P r s → LeadsAt P position r (set u x s)
   set_leads u x s h = search (with_identifier_leads, by_name_leads)
 
-  -- ---- each native; those that print ask for more of the preorder
+  -- ---- each native; those that print or read ask for more of the preorder
 
-  pub native_leads : (n : Native) (levels : Levels) (vs : List Value) (s : State) → NeedsPrints P n → IsBehind P r s → LeadsAt P position r (native n levels vs s)
+  pub native_leads : (n : Native) (levels : Levels) (vs : List Value) (s : State) → NeedsOf P n → IsBehind P r s → LeadsAt P position r (native n levels vs s)
   native_leads (Tests t) levels vs s p h = search leading
   native_leads Eq levels vs s p h = search leading
   native_leads Equal levels vs s p h = search (leading, equal_leads)
@@ -295,6 +297,6 @@ module _ {freely : Bool} {P : State → State → Type 0} (steps : StepsAt freel
   native_leads Terpri levels vs s p h = search (leading, end_of_line_follows)
   native_leads Posn levels vs s p h = search leading
   native_leads Linelength levels vs s p h = linelength_leads steps (argument vs 0) s h
-  native_leads Read levels vs s p h = read_leads steps levels s h
+  native_leads Read levels vs s p h = read_leads steps p levels s h
   native_leads Readch levels vs s p h = readch_leads steps s h
   native_leads other levels vs s p h = search leading

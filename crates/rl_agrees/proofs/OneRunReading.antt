@@ -2,7 +2,7 @@
 use Rattle.std.proofs.Common.{◌+◌, drop, ℕ, Bool, true, false, List, [], ◌∷◌, Some, None}
 use Rattle.rl_tree.specs.Value.{Value}
 use Rattle.rl_text.specs.Word as word
-use Rattle.rl_text.specs.Reader.{read_by}
+use Rattle.rl_text.specs.Keeping.{MakerKeeps, MadeKept, made_kept, wants_kept, IsKeptByMaker, OutcomeKept, read_kept, none_kept, refused_kept, stopped_kept, KeptAlongText}
 use Rattle.rl_text.specs.Reader as reader
 use Rattle.rl_meaning.specs.State.{State}
 use Rattle.rl_meaning.specs.Outcome.{Outcome, Done, Failed, Went, Returned, Stopped, Stop, Levels, deeper}
@@ -10,9 +10,8 @@ use Rattle.rl_meaning.specs.Lists.{Chain}
 use Rattle.rl_meaning.specs.Errors.{unreadable}
 use Rattle.rl_meaning.specs.Input.{with_input, byte_number, ReadingPlace, made_in, made_atom, byte_turn, entered_from, enter, ended_chain, vector_of_chain, quoted_value, in_state, FormReading, Form, End, Unreadable, form_reading_of, read_bytes, read_ended, read, readch_of, readch}
 use Rattle.rl_meaning.specs.Evaluation.{Position, Inside}
-use Rattle.rl_agrees.proofs.OneRun.{StepsAt, IsBehind, LeadsAt, Leads, Makes, follows_then, done_leads, stopped_leads, makes_any, deeper_leads}
+use Rattle.rl_agrees.proofs.OneRun.{StepsAt, IsBehind, LeadsAt, Leads, Makes, ReadsLead, follows_same, follows_then, leads_from, anywhere, done_leads, stopped_leads, makes_any, deeper_leads}
 use Rattle.rl_agrees.proofs.OneRunObjects.{leading, fail_leads, Chained, chained_none, cdr_set_follows, extended_makes}
-use Rattle.rl_agrees.proofs.OneRunReader.{Gives, IsKept, Reads, reads}
 
 pub input_follows : {freely : Bool} {P : State → State → Type 0} (steps : StepsAt freely P) {r : State} (rest : List ℕ) (s : State) → IsBehind P r s → IsBehind P r (with_input rest s)
 input_follows steps {r} rest s h = follows_then steps r s _ h (steps.input rest s)
@@ -39,61 +38,65 @@ module _ {freely : Bool} {P : State → State → Type 0} (steps : StepsAt freel
 
 -- ---- what is made in a state
 
+abbrev Any : {A : Type 0} → A → Type 0
+Any a = Unit {0}
+
+-- what making in a state keeps behind a state: that each state follows it, and that lists that are not whole yet end in a pair that is newer
+abbrev pub making_follows : (P : State → State → Type 0) → State → MakerKeeps ReadingPlace Value Chain Stop
+making_follows P r = record { states = λ place. IsBehind P r place.state; values = λ v. Unit {0}; lists = λ chain. Chained r chain; wants = λ why place. IsBehind P r place.state }
+
 module _ (P : State → State → Type 0) (r : State) where
-  abbrev pub Kept : ReadingPlace → Type 0
-  Kept place = IsBehind P r place.state
+  made_gives : {A : Type 0} (has : A → Type 0) (levels : Levels) (o : Outcome A) → Makes P Inside r (λ a t. has a) o → MadeKept (making_follows P r) has (made_in levels o)
+  made_gives has levels (Done a s) h = made_kept a _ h.good (record { is = h.leads.moves })
+  made_gives has levels (Failed n m s) h = wants_kept _ _ (record { is = h.leads.moves })
+  made_gives has levels (Went l s) h = wants_kept _ _ (record { is = h.leads.moves })
+  made_gives has levels (Returned v s) h = wants_kept _ _ (record { is = h.leads.moves })
+  made_gives has levels (Stopped why s) h = wants_kept _ _ (record { is = h.leads.moves })
 
-  abbrev pub Good : Chain → Type 0
-  Good chain = Chained r chain
+  entered_gives : (levels : Levels) (o : Outcome Levels) → Leads P r o → MadeKept (making_follows P r) {A = Unit {0}} Any (entered_from levels o)
+  entered_gives levels (Done a s) h = made_kept tt _ tt (record { is = h.moves })
+  entered_gives levels (Failed n m s) h = wants_kept _ _ (record { is = h.moves })
+  entered_gives levels (Went l s) h = wants_kept _ _ (record { is = h.moves })
+  entered_gives levels (Returned v s) h = wants_kept _ _ (record { is = h.moves })
+  entered_gives levels (Stopped why s) h = wants_kept _ _ (record { is = h.moves })
 
-  pub made_gives : {A : Type 0} (With : A → Type 0) (levels : Levels) (o : Outcome A) → Makes P Inside r (λ a t. With a) o → Gives Kept Good With (made_in levels o)
-  made_gives With levels (Done a s) h = record { is = (record { is = h.leads.moves }, h.good) }
-  made_gives With levels (Failed n m s) h = record { is = record { is = h.leads.moves } }
-  made_gives With levels (Went l s) h = record { is = record { is = h.leads.moves } }
-  made_gives With levels (Returned v s) h = record { is = record { is = h.leads.moves } }
-  made_gives With levels (Stopped why s) h = record { is = record { is = h.leads.moves } }
-
-  pub entered_gives : (levels : Levels) (o : Outcome Levels) → Leads P r o → Gives Kept Good (λ (u : Unit {0}). Unit {0}) (entered_from levels o)
-  entered_gives levels (Done a s) h = record { is = (record { is = h.moves }, tt) }
-  entered_gives levels (Failed n m s) h = record { is = record { is = h.moves } }
-  entered_gives levels (Went l s) h = record { is = record { is = h.moves } }
-  entered_gives levels (Returned v s) h = record { is = record { is = h.moves } }
-  entered_gives levels (Stopped why s) h = record { is = record { is = h.moves } }
-
-  pub reading_leads : {position : Position} (bytes : List ℕ) (o : reader.ReaderOutcome ReadingPlace Value Stop) → Reads Kept Good o → LeadsAt P position r (form_reading_of bytes o)
-  reading_leads bytes (reader.Read v place rest) h = done_leads _ _ h.is
-  reading_leads bytes (reader.NoneLeft place) h = done_leads _ _ h.is
-  reading_leads bytes (reader.Refused place from) h = done_leads _ _ h.is
-  reading_leads bytes (reader.Stopped why place rest) h = stopped_leads _ _ h.is
+  reading_leads : (bytes : List ℕ) (o : reader.ReaderOutcome ReadingPlace Value Stop) → OutcomeKept (making_follows P r) o → Leads P r (form_reading_of bytes o)
+  reading_leads bytes o (read_kept v place rest e h) = done_leads _ _ h
+  reading_leads bytes o (none_kept place h) = done_leads _ _ h
+  reading_leads bytes o (refused_kept place from h) = done_leads _ _ h
+  reading_leads bytes o (stopped_kept why place rest h) = stopped_leads _ _ h
 
 module _ {freely : Bool} {P : State → State → Type 0} (steps : StepsAt freely P) (r : State) where
-  pub enter_gives : (place : ReadingPlace) → IsBehind P r place.state → Gives (Kept P r) (Good P r) (λ (u : Unit {0}). Unit {0}) (enter place)
+  enter_gives : (place : ReadingPlace) → IsBehind P r place.state → MadeKept (making_follows P r) {A = Unit {0}} Any (enter place)
   enter_gives place h = entered_gives P r place.levels (deeper 1 place.levels place.state (λ levels. Done levels place.state)) (deeper_leads steps 1 place.levels place.state _ h (λ l. search leading))
 
-  pub in_state_kept : (turns : Bool) → IsKept (Kept P r) (Good P r) (in_state turns)
-  in_state_kept turns = record {
-    empty = chained_none r;
-    turn = λ place h. made_gives P r _ place.levels _ (makes_any _ (byte_leads steps turns place.state h));
+  in_state_follows : (turns : Bool) → IsKeptByMaker (making_follows P r) (in_state turns)
+  in_state_follows turns = record {
+    turn = λ place h. made_gives P r Any place.levels _ (makes_any _ (byte_leads steps turns place.state h));
     enter = λ place h. enter_gives place h;
     leave = λ place h. h;
-    atom = λ a place h. made_gives P r _ place.levels _ (makes_any _ (atom_leads steps a place.state h));
-    extended = λ chain v place good h. made_gives P r (Good P r) place.levels _ (extended_makes steps chain v place.state good h);
-    ended = λ chain v place good h. made_gives P r (Good P r) place.levels _ (ended_chain_makes steps chain v place.state good h);
-    vector = λ chain place h. made_gives P r _ place.levels _ (makes_any _ (vector_of_leads steps chain place.state h));
-    quoted = λ v place h. made_gives P r _ place.levels _ (makes_any _ (quoted_leads steps v place.state h));
+    atom = λ a is place h. made_gives P r Any place.levels _ (makes_any _ (atom_leads steps a place.state h));
+    nil = tt;
+    empty = chained_none r;
+    extended = λ chain v place good e h. made_gives P r (Chained r) place.levels _ (extended_makes steps chain v place.state good h);
+    ended = λ chain v place good e h. made_gives P r (Chained r) place.levels _ (ended_chain_makes steps chain v place.state good h);
+    list = λ chain good. tt;
+    vector = λ chain place good h. made_gives P r Any place.levels _ (makes_any _ (vector_of_leads steps chain place.state h));
+    quoted = λ v place e h. made_gives P r Any place.levels _ (makes_any _ (quoted_leads steps v place.state h));
   }
 
-module _ {freely : Bool} {P : State → State → Type 0} (steps : StepsAt freely P) {position : Position} {r : State} where
-  pub read_bytes_leads : (turns : Bool) (levels : Levels) (bytes : List ℕ) (s : State) → IsBehind P r s → LeadsAt P position r (read_bytes turns levels bytes s)
-  read_bytes_leads turns levels bytes s h = reading_leads P r bytes _ (reads (Kept P r) (Good P r) (in_state turns) (in_state_kept steps r turns) (record { state = s; levels = levels }) bytes h)
+-- what making keeps, reading keeps
+abbrev pub ReadingFollows : (State → State → Type 0) → Type 0
+ReadingFollows P = (r : State) → KeptAlongText (making_follows P r)
 
+pub reads_lead : {freely : Bool} {P : State → State → Type 0} → StepsAt freely P → ReadingFollows P → ReadsLead P
+reads_lead {P = P} steps law = record { leads = λ turns levels bytes s. reading_leads P s bytes _ ((law s).text (in_state turns) (in_state_follows steps s turns) (record { state = s; levels = levels }) bytes (follows_same steps s)) }
+
+module _ {freely : Bool} {P : State → State → Type 0} (steps : StepsAt freely P) {position : Position} {r : State} where
   pub read_ended_leads : (taken : ℕ) (reading : FormReading) (s : State) → IsBehind P r s → LeadsAt P position r (read_ended taken reading s)
   read_ended_leads taken (Form v rest) s h = search (leading, input_follows)
   read_ended_leads taken End s h = search (leading, input_follows)
   read_ended_leads taken (Unreadable k from) s h = fail_leads steps unreadable (byte_number (taken + k)) (with_input (drop 1 from) s) (input_follows steps (drop 1 from) s h)
-
-  pub read_leads : (levels : Levels) (s : State) → IsBehind P r s → LeadsAt P position r (read levels s)
-  read_leads levels s h = search (leading, read_bytes_leads, read_ended_leads)
 
   pub readch_of_leads : (bytes : List ℕ) (s : State) → IsBehind P r s → LeadsAt P position r (readch_of bytes s)
   readch_of_leads [] s h = search leading
@@ -101,3 +104,10 @@ module _ {freely : Bool} {P : State → State → Type 0} (steps : StepsAt freel
 
   pub readch_leads : (s : State) → IsBehind P r s → LeadsAt P position r (readch s)
   readch_leads s h = readch_of_leads s.outside.input s h
+
+module _ {freely : Bool} {P : State → State → Type 0} (steps : StepsAt freely P) (reads : ReadsLead P) {position : Position} {r : State} where
+  pub read_bytes_leads : (turns : Bool) (levels : Levels) (bytes : List ℕ) (s : State) → IsBehind P r s → LeadsAt P position r (read_bytes turns levels bytes s)
+  read_bytes_leads turns levels bytes s h = anywhere position _ (leads_from steps r s _ h (reads.leads turns levels bytes s))
+
+  pub read_leads : (levels : Levels) (s : State) → IsBehind P r s → LeadsAt P position r (read levels s)
+  read_leads levels s h = search (leading, read_bytes_leads, read_ended_leads)

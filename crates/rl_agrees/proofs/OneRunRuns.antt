@@ -12,18 +12,18 @@ use Rattle.rl_meaning.specs.Printing.{page_of}
 use Rattle.rl_meaning.specs.Input.{FormReading, Form, End, Unreadable}
 use Rattle.rl_meaning.specs.Evaluation.{longest_chain, Inside}
 use Rattle.rl_meaning.specs.Run.{Ran, held_evaluated, statement, after_statement, print_atom, print_unreadable, behind_line, run_goes_on, read_and_run, run_within, run_bytes, source_of, run_file}
-use Rattle.rl_agrees.proofs.OneRun.{Steps, Prints, IsBehind, Leads, done_leads, stopped_leads, then_leads}
+use Rattle.rl_agrees.proofs.OneRun.{Steps, Prints, ReadsLead, IsBehind, Leads, done_leads, stopped_leads, then_leads}
 use Rattle.rl_agrees.proofs.OneRunHolding.{hold_form_leads}
 use Rattle.rl_agrees.proofs.OneRunPrinting.{more_same, atom_more, page_follows, print_mark_follows, end_of_line_follows, fresh_line_follows, print_error_leads}
 use Rattle.rl_agrees.proofs.OneRunReading.{read_bytes_leads}
 use Rattle.rl_agrees.proofs.OneRunForms.{eval_leads}
 use Rattle.rl_agrees.proofs.OneRunMachine.{the_jobs_keep}
 
-module _ {P : State → State → Type 0} (steps : Steps P) (prints : Prints P) {r : State} where
+module _ {P : State → State → Type 0} (steps : Steps P) (prints : Prints P) (reads : ReadsLead P) {r : State} where
   -- ---- a statement
 
   pub held_evaluated_leads : (levels : Levels) (f : ℕ) (function : Function) (s : State) → IsBehind P r s → Leads P r (held_evaluated levels f function s)
-  held_evaluated_leads levels f (HeldFunction held) s h = eval_leads (the_jobs_keep steps prints) (record { levels = levels; chain = longest_chain; kept = held.kept; holder = f }) Inside held.body s h
+  held_evaluated_leads levels f (HeldFunction held) s h = eval_leads (the_jobs_keep steps prints reads) (record { levels = levels; chain = longest_chain; kept = held.kept; holder = f }) Inside held.body s h
   held_evaluated_leads levels f (SpecialForm form) s h = done_leads nil_value_of_state s h
   held_evaluated_leads levels f (NativeFunction native) s h = done_leads nil_value_of_state s h
 
@@ -63,7 +63,7 @@ module _ {P : State → State → Type 0} (steps : Steps P) (prints : Prints P) 
   pub run_within_follows : (n : ℕ) (levels : Levels) (size : ℕ) (bytes : List ℕ) (s : State) → IsBehind P r s → IsBehind P r (run_within n levels size bytes s).state
   run_within_follows zero levels size bytes s h = h
   run_within_follows (suc n) levels size bytes s h =
-      goes_on_follows _ _ (read_bytes_leads steps false levels bytes s h) (λ reading t h. read_and_run_follows levels size _ (λ rest t h. run_within_follows n levels size rest t h) reading t h)
+      goes_on_follows _ _ (read_bytes_leads steps reads false levels bytes s h) (λ reading t h. read_and_run_follows levels size _ (λ rest t h. run_within_follows n levels size rest t h) reading t h)
 
   pub run_bytes_follows : (levels : Levels) (bytes : List ℕ) (s : State) → IsBehind P r s → IsBehind P r (run_bytes levels bytes s).state
   run_bytes_follows levels bytes s h = run_within_follows (suc (length bytes)) levels (length bytes) bytes s h

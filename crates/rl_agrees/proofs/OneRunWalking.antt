@@ -7,7 +7,7 @@ use Rattle.rl_meaning.specs.Evaluation.{Job, Run, Onward, Call_, From, In, Rec, 
 use Rattle.rl_meaning.specs.Jobs.{code_of, code_outside, run_held, rank, job_at, job, the_compiler}
 use Rattle.rl_agrees.specs.Later.{Later}
 use Rattle.rl_agrees.specs.Heads.{IsWalk}
-use Rattle.rl_agrees.proofs.OneRun.{StepsAt, Prints, LeadsAt, follows_same, stopped_leads}
+use Rattle.rl_agrees.proofs.OneRun.{StepsAt, Prints, ReadsLead, LeadsAt, follows_same, stopped_leads}
 use Rattle.rl_agrees.proofs.OneRunEvaluation.{RecLeadsAt, position_of, no_compiler_leads, applied_leads}
 use Rattle.rl_agrees.proofs.OneRunForms.{eval_leads, statements_lead, walked_leads}
 use Rattle.rl_agrees.proofs.OneRunMachine.{job_at_leads}
@@ -26,7 +26,7 @@ no_code (Some i) f s e = outside s.counts.expansion
 pub record Idles (P : State → State → Type 0) : Type 0 where
   pub idle : (s t : State) → s.compilation.runs_code ≡ true → Later s t → P s t
 
-module _ {P : State → State → Type 0} (steps : StepsAt false P) (prints : Prints P) (idles : Idles P) where
+module _ {P : State → State → Type 0} (steps : StepsAt false P) (prints : Prints P) (reads : ReadsLead P) (idles : Idles P) (reads_later : ReadsLead Later) where
   -- jobs with one more round, from those that they ask for
   walk_done : (n : ℕ) → ((k : Job) (t : State) → IsWalk k → LeadsAt P (position_of k) t (job_at the_compiler n k t)) → (j : Job) (s : State) → IsWalk j → LeadsAt P (position_of j) s (job_at the_compiler (suc n) j s)
   walk_done n asked j s w = done j w
@@ -35,11 +35,11 @@ module _ {P : State → State → Type 0} (steps : StepsAt false P) (prints : Pr
       rec = record { compiler = the_compiler; ask = λ k t. job_at the_compiler n k t }
 
       keeps : RecLeadsAt false P rec
-      keeps = record { steps = steps; prints = prints; compiler = no_compiler_leads steps; asks = asked }
+      keeps = record { steps = steps; prints = prints; compiler = no_compiler_leads steps reads; asks = asked }
 
       applied : (name : Option ℕ) (levels : Levels) (holder : ℕ) (f : Option Pointer) (held : Held) (vs : List Value) (b : Bool) → s.compilation.runs_code ≡ b → LeadsAt P Inside s (job_at the_compiler (suc n) (Run name levels holder f held vs) s)
       applied name levels holder f held vs true e =
-          let l : LeadsAt Later Inside s (job_at the_compiler (suc n) (Run name levels holder f held vs) s) = job_at_leads later_steps later_prints the_compiler (no_compiler_leads later_steps) (suc n) (Run name levels holder f held vs) s in
+          let l : LeadsAt Later Inside s (job_at the_compiler (suc n) (Run name levels holder f held vs) s) = job_at_leads later_steps later_prints the_compiler (no_compiler_leads later_steps reads_later) (suc n) (Run name levels holder f held vs) s in
           record { moves = idles.idle s _ e l.moves; plain = l.plain }
       applied name levels holder f held vs false e = subst (λ (o : Option Code). LeadsAt P Inside s (run_held rec o levels holder f held vs s)) (sym (no_code name f s e)) (walked_leads keeps levels holder f held vs s (follows_same steps s))
 

@@ -5,7 +5,7 @@ use Rattle.rl_tree.specs.Value.{Value, Int, Id, Ref}
 use Rattle.rl_tree.specs.declared.held.Kind.{Kind}
 use Rattle.rl_tree.specs.declared.held.Kind.TheVariants.{Expr, Fexpr, Macro}
 use Rattle.rl_meaning.specs.Names.{Native, Special, arguments_of, Eval, Errorset, Apply, Putd, Compile, Faslout, Load}
-use Rattle.rl_meaning.specs.State.{State, Tree, Held, Pointer, Definition, Symbol, Function, Expansion}
+use Rattle.rl_meaning.specs.State.{State, Tree, Held, Pointer, Definition, Function, Expansion}
 use Rattle.rl_meaning.specs.Outcome.{Outcome, Done, Failed, Went, Returned, Stopped, Expands, then_do, Levels, deeper, made_pair}
 use Rattle.rl_meaning.specs.Opening.{state_of}
 use Rattle.rl_meaning.specs.Symbols.{nil_value_of_state, is_nil, lambda_number, pair_at}
@@ -26,7 +26,7 @@ use Rattle.rl_meaning.specs.Forms.{after_label}
 use Rattle.rl_meaning.specs.Compiling.{Compiler}
 use Rattle.rl_meaning.specs.Evaluation.{Position, Statement, Inside, Here, longest_chain, Run, Call_, From, In, Rec, misplaced_at, opened_expansion, with_expansion, closed_expansion, without_expansion, print_unless_nil, caught, Target, Function_, Lambda, Undefined, WrongType, target_function, target_definition, target_pair, target_of, with_arguments, kind_of_definition, held_applied, form_evaluated, evaluated, errorset, list_applied, applied_to, apply_target, apply, native_applied, counted, called_as, function_applied, applied, name_applied, called, fexpr_called, expansion_of, expanded_body, macro_called, in_chain, jumped, in_prog, function_defined, define_function}
 use Rattle.rl_meaning.specs.TwoRunsLinks.{Linked}
-use Rattle.rl_meaning.specs.TwoRunsValues.{Names, Grows, Maybe, nothing, just, Each, end, more, SameValue, same_int, same_id, same_str, same_ref, same_fun, SameParts, same_parts, SameTree, same_atom, same_node, SameHeld, same_held, SameFunction, same_special, same_native, same_held_function, SamePointer, same_pointer, SameNumber, SameDefinition, same_definition, SameSymbol, same_symbol}
+use Rattle.rl_meaning.specs.TwoRunsValues.{Names, Grows, Maybe, nothing, just, Each, end, more, SameValue, same_int, same_id, same_str, same_ref, same_fun, SameParts, same_parts, SameTree, same_atom, same_node, SameHeld, same_held, SameFunction, same_special, same_native, same_held_function, SamePointer, same_pointer, SameNumber, SameDefinition, same_definition}
 use Rattle.rl_meaning.specs.TwoRunsStates.{Bounds, EntryPlace, BothMark, SameExpansion, same_none, same_open, Like, Roomier}
 use Rattle.rl_meaning.specs.TwoRunsEnds.{done, failed, went, returned, stopped, parted}
 use Rattle.rl_agrees.specs.TwoRunsJobs.{same_here, same_run, same_call, same_from, same_in}

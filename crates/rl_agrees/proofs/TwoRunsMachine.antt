@@ -9,7 +9,7 @@ use Rattle.rl_meaning.specs.State.{State, Code, Counts, Expansion, Tree, Kept, H
 use Rattle.rl_meaning.specs.CMacros.{Operand, CMacro, Alloc, Dealloc, Load, Store, SetVar, Move, Copy, Link, LinkE, Self, CallNative, Jump, JumpNil, JumpT, JumpEq, JumpNe, Label, GoTo, Bind, ProgBind, Free, Exit, Raise}
 use Rattle.rl_meaning.specs.CMacros as macros
 use Rattle.rl_meaning.specs.Outcome.{Outcome, Done, Stopped, Stop, Turns, Depth, Expands, then_do, choose, run_turn, expansion_turn, turn_of, turn, Levels, in_levels, deeper}
-use Rattle.rl_meaning.specs.Symbols.{nil_value_of_state, nil_number, same, is_constant, symbol_at}
+use Rattle.rl_meaning.specs.Symbols.{nil_value_of_state, nil_number, same, is_constant}
 use Rattle.rl_meaning.specs.System.{is_system}
 use Rattle.rl_meaning.specs.Errors.{fail, wrong_count, wrong_type, badly_formed, not_bindable, system_name}
 use Rattle.rl_meaning.specs.Holding.{function_number, kept_kind, hold_function, form_at}

@@ -24,7 +24,7 @@ use Rattle.rl_agrees.proofs.TwoRunsNumbers.{truth_same, with_integer_related, op
 use Rattle.rl_agrees.proofs.TwoRunsAtoms.{holds_same, mkvect_related, getv_related, putv_related, upbv_related, gensym_related, intern_related, explode_related, compress_related}
 use Rattle.rl_agrees.proofs.TwoRunsProperties.{get_related, flagp_related, put_related, remprop_related, flag_related, remflag_related}
 use Rattle.rl_agrees.proofs.TwoRunsPrinting.{printing_related, print_related, mark_like}
-use Rattle.rl_agrees.proofs.TwoRunsReading.{read_related, readch_related}
+use Rattle.rl_agrees.proofs.TwoRunsReading.{ReadsBeside, read_related, readch_related}
 
 -- ---- the natives that define and declare, which are taken as given here
 
@@ -98,7 +98,7 @@ abbrev pub sets : Native → Bool
 sets Set = true
 sets other = false
 
-module _ {bounds : Bounds} (d : DefinitionsAgree bounds) where
+module _ {bounds : Bounds} (d : DefinitionsAgree bounds) (reads : ReadsBeside) where
   pub native_related : (n : Names) (ps : List EntryPlace) (o : Native) (l m : Levels) (xs ys : List Value) (s t : State) → prints o ≡ false → sets o ≡ false → Roomier bounds l m → Each (SameValue n) xs ys → Like bounds n ps s t → Beside bounds SameValue n ps (native o l xs s) (native o m ys t)
   native_related n ps (Tests test) l m xs ys s t p q r h e = tested_related n ps test _ _ s t (argument_same n xs ys 0 h) e
   native_related n ps Eq l m xs ys s t p q r h e = eq_related n ps _ _ _ _ s t (argument_same n xs ys 0 h) (argument_same n xs ys 1 h) e
@@ -139,7 +139,7 @@ module _ {bounds : Bounds} (d : DefinitionsAgree bounds) where
   native_related n ps Terpri l m xs ys s t p q r h e = terpri_related n ps s t e
   native_related n ps Posn l m xs ys s t p q r h e = posn_related n ps s t e
   native_related n ps Linelength l m xs ys s t p q r h e = linelength_related n ps _ _ s t (argument_same n xs ys 0 h) e
-  native_related n ps Read l m xs ys s t p q r h e = read_related n ps l m s t r e
+  native_related n ps Read l m xs ys s t p q r h e = read_related reads n ps l m s t r e
   native_related n ps Readch l m xs ys s t p q r h e = readch_related n ps s t e
   native_related n ps Set l m xs ys s t p q r h e = absurd (cc)
   native_related n ps Prin1 l m xs ys s t p q r h e = absurd (cc)

@@ -30,7 +30,6 @@ use Rattle.rl_read.specs.declared.read.ReadFault.TheVariants as fault
 use Rattle.rl_read.specs.declared.word.Mode as word
 use Rattle.rl_read.specs.declared.word.Mode.TheVariants as mode
 use Rattle.rl_read.specs.ReadingKeepsCells.{CellsStay, LeavesWhatStood, IsChainBehind, keeping_what_stood, ReadingKeepsCells}
-use Rattle.rl_read.specs.Stock as stock
 use Rattle.rl_read.specs.Stock.{Stock, PairChain, and_then_made, atom_made, chain_ended, chain_extended, chain_hung, elements_of, entered, entered_at, identifier_at, identifier_made, in_stock, named_among, object_made, pair_made, quote_made, stock_with_cdr, stock_of, turned, turned_at, vector_made, with_room, with_room_at}
 use Rattle.rl_read.proofs.ByteByByte.{IsPassed, passed_frames, passed_same, passed_stock}
 

@@ -1,10 +1,10 @@
 -- What each operation of a maker keeps, reading keeps: the maker is related to that of data, which wants nothing, whatever this makes.
-use Rattle.std.proofs.Common.{ℕ, List, [], ◌∷◌}
+use Rattle.std.proofs.Common.{List, [], ◌∷◌}
 use Rattle.rl_text.specs.Datum.{Datum}
 use Rattle.rl_text.specs.Maker.{Made, Has, Maker}
-use Rattle.rl_text.specs.Makers.{IsFit, MakerRelations, MadeRelated, both_have, first_wants, AreMakersRelated, FramesRelated, no_frames, listing, vectoring, quoting, StepsRelated, both_go, both_end, both_have_no_place, both_halt, first_halts, second_halts, OutcomesRelated, both_read, both_find_none, both_refuse, both_stop, first_stops, second_stops, EndRelated}
+use Rattle.rl_text.specs.Makers.{MakerRelations, MadeRelated, both_have, first_wants, AreMakersRelated, FramesRelated, no_frames, listing, vectoring, quoting, StepsRelated, both_go, both_end, both_have_no_place, both_halt, first_halts, second_halts, OutcomesRelated, both_read, both_find_none, both_refuse, both_stop, first_stops, second_stops}
 use Rattle.rl_text.specs.Keeping.{MakerKeeps, MadeKept, made_kept, wants_kept, IsKeptByMaker, FramesKept, StepKept, goes_kept, done_kept, refuses_kept, halts_kept, OutcomeKept, read_kept, none_kept, refused_kept, stopped_kept, KeptAlongText}
-use Rattle.rl_text.specs.Reader.{ReaderFrame, Listing, Vectoring, Quoting, Mode, ReaderStep, reader_step, ReaderOutcome, at_end, read_by}
+use Rattle.rl_text.specs.Reader.{ReaderFrame, Listing, Vectoring, Quoting, ReaderStep, ReaderOutcome}
 use Rattle.rl_text.specs.Reading.{Items, plain}
 use Rattle.rl_text.proofs.RelatedMakers.{ends_related}
 

@@ -6,7 +6,7 @@ use Rattle.rl_text.specs.Byte.{Mark, Open, Close, Dot, Quote, OpenVector, CloseV
 use Rattle.rl_text.specs.Word.{Atom, Integer, Identifier, String, signed}
 use Rattle.rl_text.specs.Maker.{Made, Maker}
 use Rattle.rl_text.specs.Makers.{IsSpellable, IsFit, MakerRelations, AreNamesGrowing, MadeRelated, both_have, both_want, first_wants, second_wants, AreMakersRelated, FramesRelated, no_frames, listing, vectoring, quoting, StepsRelated, both_go, both_end, both_have_no_place, both_halt, first_halts, second_halts, OutcomesRelated, both_read, both_find_none, both_refuse, both_stop, first_stops, second_stops, EndRelated}
-use Rattle.rl_text.specs.Reader.{Phase, Begun, Going, Dotted, Shut, ReaderFrame, Listing, Vectoring, Quoting, Mode, Gap, Comment, InName, InEscape, AfterSign, InNumber, InText, AfterQuote, is_inner, admits, Ended, Whole, Inside, Lacks, ended_with, left, value_ended, ReaderStep, Goes, Refuses, goes_with, goes_after, group_begins, open_list, close_list, dot, close_vector, at_mark, atom_ended, in_word, at_class, goes_before, atom_before, reader_step, ReaderOutcome, Refused, ends_after, at_end_between, at_end, after_step, after_turn, read_from}
+use Rattle.rl_text.specs.Reader.{Phase, Begun, Going, Dotted, Shut, ReaderFrame, Listing, Quoting, Mode, Gap, Comment, InName, InEscape, AfterSign, InNumber, InText, AfterQuote, is_inner, admits, Ended, Whole, Inside, Lacks, ended_with, left, value_ended, ReaderStep, Goes, Refuses, goes_with, goes_after, group_begins, open_list, close_list, dot, close_vector, at_mark, atom_ended, in_word, at_class, goes_before, atom_before, reader_step, ReaderOutcome, Refused, ends_after, at_end_between, at_end, after_step, after_turn, read_from}
 
 comment_fit : (b : Bool) → IsFit (if b then Gap else Comment)
 comment_fit true = tt

@@ -2,7 +2,7 @@
 use Rattle.std.specs.Prelude.{◌≤◌, ℕ, Bool, List, [], ◌∷◌, length}
 use Rattle.rl_text.specs.Word.{Atom, Identifier}
 use Rattle.rl_text.specs.Maker.{Made, Has, Wants, Maker}
-use Rattle.rl_text.specs.Reader.{Phase, ReaderFrame, Listing, Vectoring, Quoting, Mode, Gap, InName, InEscape, ReaderStep, Goes, Done, Refuses, Halts, reader_step, ReaderOutcome, Read, NoneLeft, Refused, Stopped, at_end, read_by}
+use Rattle.rl_text.specs.Reader.{Phase, ReaderFrame, Listing, Vectoring, Quoting, Mode, InName, InEscape, ReaderStep, Goes, Done, Refuses, Halts, reader_step, ReaderOutcome, Read, NoneLeft, Refused, Stopped, at_end, read_by}
 
 -- an atom that a text can spell: a name has 1 to 255 bytes
 abbrev pub IsSpellable : Atom → Type 0
