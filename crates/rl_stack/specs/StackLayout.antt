@@ -41,5 +41,5 @@ pub record HasStackRoom (nest waiting : ℕ) (frames : Vec heads.FrameHead) (wor
   pub levels : levels_laid (reverse frames.items) ≤ nest
   pub heads_room : nest ≤ vec_capacity frames
   pub words_room : 64 * nest + 32 ≤ vec_capacity words
-  pub saved_room : 16 * nest ≤ vec_capacity saves
+  pub saved_room : 16 * nest + 16 ≤ vec_capacity saves
   pub registers : length fifteen ≡ 15

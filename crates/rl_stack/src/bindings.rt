@@ -31,7 +31,7 @@ impl Stack {
         requires live { IsStackLive w.old.cells.cells self.old }
         requires id { IsVariable w.old.cells.cells id }
         requires v_live { IsTrue (is_live w.old.cells.cells v) }
-        requires room { length self.old.saved < 16 * w.old.levels.level }
+        requires room { length self.old.saved < 16 * w.old.levels.level + 16 }
         requires entered { levels + levels_of_frames self.old.frames + levels_of_saved self.old.saved + length w.old.levels.walk ≤ w.old.levels.level }
         ensures shows { (s : State) → ShowsStack w.old self.old s → ShowsStack w.new self.new (with_binding (number_in w.old.cells.cells id) (scope_kept k) (value_of w.old.cells.cells v) s) }
         ensures saves { SavesOne levels self.old self.new }
@@ -53,7 +53,7 @@ impl Stack {
         requires stands { StandsIn w.now self.old }
         requires live { IsStackLive w.now.cells.cells self.old }
         requires f_live { ForSome f (λ v. IsTrue (is_live w.now.cells.cells v)) }
-        requires room { length self.old.saved < 16 * w.now.levels.level }
+        requires room { length self.old.saved < 16 * w.now.levels.level + 16 }
         ensures shows { (s : State) → ShowsStack w.now self.old s → ShowsStack w.now self.new (with_mark (mark_shown w.now.cells.cells f) s) }
         ensures saves { SavesOne 0 self.old self.new }
         ensures stands { StandsIn w.now self.new }

@@ -1,6 +1,7 @@
 //! The stack of a run: frames, bindings and registers.
 #![tactic(auto)]
 
+mod answer;
 mod bindings;
 pub mod laws;
 mod saved;
@@ -8,4 +9,5 @@ mod stack;
 mod steps;
 mod tops;
 
+pub use answer::IStep;
 pub use stack::Stack;

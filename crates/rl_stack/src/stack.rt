@@ -13,7 +13,7 @@ use std::marker::Model;
 
 /// How many words a level has.
 const WORDS_A_LEVEL: usize = 64;
-/// How many bindings and marks a level has.
+/// How many bindings and marks a level has, and how many there may be at the level 0.
 const SAVED_A_LEVEL: usize = 16;
 /// How many values may wait on none, and more than fit on the newest frame.
 const SPARE_WORDS: usize = 32;
@@ -68,7 +68,7 @@ impl Stack {
         let levels = nest as usize;
         let heads = Vec::with_capacity(alloc, levels)?;
         let words = Vec::with_capacity(alloc, WORDS_A_LEVEL * levels + SPARE_WORDS)?;
-        let saved = Vec::with_capacity(alloc, SAVED_A_LEVEL * levels)?;
+        let saved = Vec::with_capacity(alloc, SAVED_A_LEVEL * levels + SAVED_A_LEVEL)?;
         Ok(Stack {
             nest,
             heads,
@@ -220,7 +220,7 @@ impl Stack {
 
     /// One more binding.
     pub(crate) fn save_binding(&mut self, id: Val, local: bool, hid: Option<Val>, levels: u32)
-        requires { length self.old.saved < 16 * self.old.nest }
+        requires { length self.old.saved < 16 * self.old.nest + 16 }
         ensures { self.new ≡ record self.old { saved = saved.Binding id local hid levels ∷ self.old.saved } }
     {
         self.saved
@@ -229,7 +229,7 @@ impl Stack {
 
     /// One more mark.
     pub(crate) fn save_mark(&mut self, f: Option<Val>)
-        requires { length self.old.saved < 16 * self.old.nest }
+        requires { length self.old.saved < 16 * self.old.nest + 16 }
         ensures { self.new ≡ record self.old { saved = saved.Mark f ∷ self.old.saved } }
     {
         self.saved.push_reserved(Saved::Mark(f));
