@@ -62,7 +62,7 @@ id_kept w x v g h = id_by_tag x.cells.cells v (id_tagged w.cells.cells v h) (g.l
 pub number_kept : (w x : World) (v : Tagged) → WorldGrows w x → is_id w.cells.cells v ≡ true → number_in x.cells.cells v ≡ number_in w.cells.cells v
 number_kept w x v g h =
     let same : Id (number_in x.cells.cells v) ≡ Id (number_in w.cells.cells v) =
-        sym (id_means x.cells.cells v (id_kept w x v g h)) ∙ g.values v (id_lives w.cells.cells v h) ∙ id_means w.cells.cells v h in
+    sym (id_means x.cells.cells v (id_kept w x v g h)) ∙ g.values v (id_lives w.cells.cells v h) ∙ id_means w.cells.cells v h in
     cc
 
 pub nil_means : (w : World) → IsWorld w → value_of w.cells.cells nil_id ≡ nil_value_of_state

@@ -79,7 +79,7 @@ module _ (w0 : World) (what : Wanted) (p : Tagged) (s : State) where
         → ((t : State) → ShowsState w t → MeansDone t (turn t (λ t. Done (tt {0}) t)) (Err why) x) → MeansPlace s (look_for test_for (value_of w0.cells.cells list) s) (Err why) x
     looks_to_stop law w x before at list here why same k is takes =
         let e = wants_turn (looking test_for) law (looking_gives test_for) (IsShownBeside w s) (StaysBeside s) (search_of list) (so_far (option_value_in w0.cells.cells before)) (value_of w0.cells.cells at) (value_of w0.cells.cells here.0, value_of w0.cells.cells here.1) (stop_in x.cells.cells why) k (parts_known w at (Some here) same is)
-            (λ t h. record { state = (takes t h.shows).state; is = (takes t h.shows).is; good = follow.stays s t (takes t h.shows).state h.stays (takes t h.shows).good }) in
+        (λ t h. record { state = (takes t h.shows).state; is = (takes t h.shows).is; good = follow.stays s t (takes t h.shows).state h.stays (takes t h.shows).good }) in
         record { state = e.state; is = ap (λ (o : Outcome (Walked PropertyPlace)). then_do o result_of) e.is; good = e.good }
 
     pub looks_on : (o : Outcome (Walked PropertyPlace)) (x : World) (before : Option Tagged) (at : Tagged) (here : Tagged × Tagged) → x.cells ≡ w0.cells → LookingAt x o before at here
@@ -93,7 +93,7 @@ module _ (w0 : World) (what : Wanted) (p : Tagged) (s : State) where
     looks_to_find x before at list here same k is =
         let found : PropertyPlace = record { before = option_value_in w0.cells.cells before; at = Some (value_of w0.cells.cells at) } in
         let e = ends_so (looking test_for) (IsShownBeside x s) (IsShownBeside x s) (search_of list) (so_far (option_value_in w0.cells.cells before)) found (value_of w0.cells.cells at) (value_of w0.cells.cells here.0, value_of w0.cells.cells here.1) k
-            (looked follow test_for x s (so_far (option_value_in w0.cells.cells before)) (value_of w0.cells.cells at) (value_of w0.cells.cells here.0) true (tested x here.0 true same is)) in
+        (looked follow test_for x s (so_far (option_value_in w0.cells.cells before)) (value_of w0.cells.cells at) (value_of w0.cells.cells here.0) true (tested x here.0 true same is)) in
         record { state = e.state; is = ap (λ (o : Outcome (Walked PropertyPlace)). then_do o result_of) e.is ∙ ap (λ (c : CellStore). Done (place_shown c.cells (record { before = before; at = Some at })) e.state) (sym same); good = e.good }
 
     pub looks_to_end : AreWalksUnbounded PropertyPlace → (w : World) (before : Option Tagged) (at list : Tagged) → w.cells ≡ w0.cells → Looking w (search_of list) before at

@@ -115,7 +115,7 @@ chain_hangs follow objects w x y c e p i g h chain live made sets s shown =
     let last = cdr_set_then t _ y (λ u. Done (Some (f, v)) u) set in
     subst (λ z. EndsShown t (Done (Some (f, v)) (cdr_set z v t)) (λ t. Done (chain_in y.cells.cells (Some (c.0, p))) t) y) (g.values c.1 l_live)
     (subst (λ z. EndsShown t (Done (Some (f, v)) (cdr_set (value_of x.cells.cells c.1) v t)) (λ t. Done z t) y)
-        (ap (λ z. Some (f, z)) (sym (h.values p live)) ∙ ap (λ z. Some (z, value_of y.cells.cells p)) (sym (h.values c.0 (g.live c.0 f_live) ∙ g.values c.0 f_live)))
+    (ap (λ z. Some (f, z)) (sym (h.values p live)) ∙ ap (λ z. Some (z, value_of y.cells.cells p)) (sym (h.values c.0 (g.live c.0 f_live) ∙ g.values c.0 f_live)))
     last)))
 
 pub chain_begins : (w x : World) (e p : Tagged) → IsWorld w → MakesPair w e nil_id p x → (s : State) → ShowsState w s → MeansChain s (list_extended None (value_of w.cells.cells e) s) (Ok (Some (p, p))) x

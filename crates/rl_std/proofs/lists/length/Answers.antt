@@ -31,7 +31,7 @@ loop-p-preserved c =
       comes = λ s shown.
           let o = list_length (value_of c.args.w.now.cells.cells c.args.u) s in
           let gone = passes_pair counting counted follow c.walks_are_unbounded.ensures counting_gives s o c.loop-p.w c.turn.new.w c.turn.new.w c.loop-p.n (suc c.loop-p.n) c.loop-p.at c.in-Some.p (c.loop-p.invariant.comes s shown) c.in-Some.ensures.means c.in_default-turn.ensures.means
-              (λ t shown. begins follow t (λ u. Done (Goes (suc c.loop-p.n)) u) c.turn.new.w shown) (c.turn.ensures.grows.values c.in-Some.p.1 live) in
+          (λ t shown. begins follow t (λ u. Done (Goes (suc c.loop-p.n)) u) c.turn.new.w shown) (c.turn.ensures.grows.values c.in-Some.p.1 live) in
           subst (λ n. EndsShown s o (walking counting counted n (value_of c.turn.new.w.cells.cells c.in-Some.p.1)) c.turn.new.w) next gone;
     }
 

@@ -37,8 +37,8 @@ loop-p-preserved c =
       last = λ p e. let same : c.loop-p.at ≡ p = cc in subst (λ p. is_pair x.cells.cells p ≡ true) same here;
       comes = λ s shown.
           let gone = passes_pair lasting (joining u v) follow c.walks_are_unbounded.ensures lasting_gives s (nconc u v s) w x x (option_value_in w.cells.cells c.loop-p.last) (Some (value_of w.cells.cells c.loop-p.at)) c.loop-p.at c.in-Some.p
-              (c.loop-p.invariant.comes s shown) c.in-Some.ensures.means c.in_default-turn.ensures.means
-              (λ t shown_t. begins follow t (λ u. Done (Goes (Some (value_of w.cells.cells c.loop-p.at))) u) x shown_t) (c.turn.ensures.grows.values c.in-Some.p.1 lives.1) in
+          (c.loop-p.invariant.comes s shown) c.in-Some.ensures.means c.in_default-turn.ensures.means
+          (λ t shown_t. begins follow t (λ u. Done (Goes (Some (value_of w.cells.cells c.loop-p.at))) u) x shown_t) (c.turn.ensures.grows.values c.in-Some.p.1 lives.1) in
           subst (λ l. EndsShown s (nconc u v s) (walking lasting (joining u v) (Some l) (value_of x.cells.cells c.in-Some.p.1)) x) (sym (c.turn.ensures.grows.values c.loop-p.at (pair_live w.cells.cells c.loop-p.at pair))) gone;
     }
 
@@ -69,7 +69,7 @@ returns-in-Some-last-clause-means c s shown =
     goes_on c.steps_follow.ensures s (nconc u v s) (joined u (Some (value_of c.loop-p.w.cells.cells c.in-Some-last.p)) v) (λ t. Done (value_of c.set_cdr.new.w.cells.cells c.args.u) t) c.loop-p.w c.set_cdr.new.w
     (subst (λ l. EndsShown s (nconc u v s) (joined u (option_value_in c.loop-p.w.cells.cells l) v) c.loop-p.w) c.in-Some-last.is over)
     (joins c.steps_follow.ensures c.objects_are_shown.ensures c.loop-p.w c.set_cdr.new.w c.in-Some-last.p c.args.v u v c.args.u (c.loop-p.invariant.last c.in-Some-last.p c.in-Some-last.is)
-        (sym (c.set_cdr.ensures.grows.values c.args.u (way.grows.live c.args.u c.requires.u_live) ∙ way.grows.values c.args.u c.requires.u_live)) (sym (way.grows.values c.args.v c.requires.v_live)) c.set_cdr.ensures.shows)
+    (sym (c.set_cdr.ensures.grows.values c.args.u (way.grows.live c.args.u c.requires.u_live) ∙ way.grows.values c.args.u c.requires.u_live)) (sym (way.grows.values c.args.v c.requires.v_live)) c.set_cdr.ensures.shows)
 
 pub returns-in-Some-last-clause-live : goal.returns-in-Some-last-clause-live
 returns-in-Some-last-clause-live c = c.set_cdr.ensures.grows.live c.args.u (c.loop-p.invariant.way.grows.live c.args.u c.requires.u_live)
