@@ -31,7 +31,7 @@ pub record IsStatementAt (bytes : List ℕ) (at : ℕ) (what : What) (separator 
   pub ends : separator ≡ separator_kind ending
 
 -- the text is refused at the byte at k, or at its end
-pub record IsRefusedAt (bytes : List ℕ) (at k : ℕ) : Type 0 where
+pub record IsRefusedAtByte (bytes : List ℕ) (at k : ℕ) : Type 0 where
   pub after : at ≤ k
   pub within : k ≤ length bytes
   pub is : IsUnreadable (drop at bytes) (drop k bytes)
@@ -45,7 +45,7 @@ IsNothingHere bytes at Nothing = IsBlankText (drop at bytes)
 IsNothingHere bytes at r = Unit {0}
 
 abbrev pub IsSyntaxHere : List ℕ → ℕ → Recognized → Type 0
-IsSyntaxHere bytes at (Syntax k) = IsRefusedAt bytes at k
+IsSyntaxHere bytes at (Syntax k) = IsRefusedAtByte bytes at k
 IsSyntaxHere bytes at r = Unit {0}
 
 -- ---- a text that begins with a token

@@ -18,7 +18,7 @@ use Rattle.rl_state.specs.Ending.{EndsShown, MeansValue, StopsWith, stop_in}
 use Rattle.rl_state.specs.ShownState.{ShowsState}
 use Rattle.rl_state.specs.StepLaws.{ObjectsAreShown, StepsFollow}
 use Rattle.rl_state.specs.Worlds.{IsWorld, WorldGrows}
-use Rattle.rl_std.specs.Chains.{IsChain, MeansChain, chain_in}
+use Rattle.rl_std.specs.Chains.{IsListChain, MeansChain, list_chain_in}
 use Rattle.rl_std.proofs.Coming.{ends_then, goes_on, stops_then}
 use Rattle.rl_std.proofs.Parting.{cdr_set_is, pair_live, pair_stays}
 use Rattle.rl_std.proofs.Visits.{copying, turning_round}
@@ -78,16 +78,16 @@ cdr_set_then s t x next h = record { state = h.state; is = ap next (same t h.sta
 
 -- ---- chains
 
-pub chain_same : (w x : World) (chain : Option (Tagged × Tagged)) → WorldGrows w x → IsChain w.cells.cells chain → chain_in x.cells.cells chain ≡ chain_in w.cells.cells chain
+pub chain_same : (w x : World) (chain : Option (Tagged × Tagged)) → WorldGrows w x → IsListChain w.cells.cells chain → list_chain_in x.cells.cells chain ≡ list_chain_in w.cells.cells chain
 chain_same w x None g h = refl
 chain_same w x (Some c) g h =
     let both = h c refl in
     ap (λ f. Some (f, value_of x.cells.cells c.1)) (g.values c.0 (pair_live w.cells.cells c.0 both.0)) ∙ ap (λ l. Some (value_of w.cells.cells c.0, l)) (g.values c.1 (pair_live w.cells.cells c.1 both.1))
 
-pub chain_stays : (w x : World) (chain : Option (Tagged × Tagged)) → WorldGrows w x → IsChain w.cells.cells chain → IsChain x.cells.cells chain
+pub chain_stays : (w x : World) (chain : Option (Tagged × Tagged)) → WorldGrows w x → IsListChain w.cells.cells chain → IsListChain x.cells.cells chain
 chain_stays w x chain g h = λ c e. (pair_stays w.cells.cells x.cells.cells c.0 g.live (h c e).0, pair_stays w.cells.cells x.cells.cells c.1 g.live (h c e).1)
 
-pub one_chain : (w : World) (f l : Tagged) → is_pair w.cells.cells f ≡ true → is_pair w.cells.cells l ≡ true → IsChain w.cells.cells (Some (f, l))
+pub one_chain : (w : World) (f l : Tagged) → is_pair w.cells.cells f ≡ true → is_pair w.cells.cells l ≡ true → IsListChain w.cells.cells (Some (f, l))
 one_chain w f l hf hl = λ c e. go c e
   where
     first : (p q : Tagged × Tagged) → Some p ≡ Some q → p ≡ q
@@ -97,8 +97,8 @@ one_chain w f l hf hl = λ c e. go c e
     go c e = subst (λ (c : Tagged × Tagged). (is_pair w.cells.cells c.0 ≡ true) × (is_pair w.cells.cells c.1 ≡ true)) (first (f, l) c e) (hf, hl)
 
 -- what a list that is not whole yet comes to, where its last pair gets this one as CDR
-pub chain_hangs : (follow : StepsFollow) (objects : ObjectsAreShown) (w x y : World) (c : Tagged × Tagged) (e p : Tagged) → IsWorld w → WorldGrows w x → WorldGrows x y → IsChain w.cells.cells (Some c) → is_live x.cells.cells p ≡ true → MakesPair w e nil_id p x → SetsCdr x c.1 p y
-    → (s : State) → ShowsState w s → MeansChain s (list_extended (chain_in w.cells.cells (Some c)) (value_of w.cells.cells e) s) (Ok (Some (c.0, p))) y
+pub chain_hangs : (follow : StepsFollow) (objects : ObjectsAreShown) (w x y : World) (c : Tagged × Tagged) (e p : Tagged) → IsWorld w → WorldGrows w x → WorldGrows x y → IsListChain w.cells.cells (Some c) → is_live x.cells.cells p ≡ true → MakesPair w e nil_id p x → SetsCdr x c.1 p y
+    → (s : State) → ShowsState w s → MeansChain s (list_extended (list_chain_in w.cells.cells (Some c)) (value_of w.cells.cells e) s) (Ok (Some (c.0, p))) y
 chain_hangs follow objects w x y c e p i g h chain live made sets s shown =
     let f = value_of w.cells.cells c.0 in
     let l = value_of w.cells.cells c.1 in
@@ -109,11 +109,11 @@ chain_hangs follow objects w x y c e p i g h chain live made sets s shown =
     let hung : Value → State → Outcome Chain = λ p t. Done (Some (f, p)) (cdr_set l p t) in
     let first = ends_then s _ (λ t. Done v t) hung x (made s shown) in
     let nil = ap (λ n. then_do (made_pair (value_of w.cells.cells e) n s) hung) (nil_is w i) in
-    subst (λ o. EndsShown s o (λ t. Done (chain_in y.cells.cells (Some (c.0, p))) t) y) nil
-    (goes_on follow s _ (hung v) (λ t. Done (chain_in y.cells.cells (Some (c.0, p))) t) x y first (λ t shown_x.
+    subst (λ o. EndsShown s o (λ t. Done (list_chain_in y.cells.cells (Some (c.0, p))) t) y) nil
+    (goes_on follow s _ (hung v) (λ t. Done (list_chain_in y.cells.cells (Some (c.0, p))) t) x y first (λ t shown_x.
     let set = cdr_is_set follow objects x y c.1 p (pair_stays w.cells.cells x.cells.cells c.1 g.live both.1) sets t shown_x in
     let last = cdr_set_then t _ y (λ u. Done (Some (f, v)) u) set in
-    subst (λ z. EndsShown t (Done (Some (f, v)) (cdr_set z v t)) (λ t. Done (chain_in y.cells.cells (Some (c.0, p))) t) y) (g.values c.1 l_live)
+    subst (λ z. EndsShown t (Done (Some (f, v)) (cdr_set z v t)) (λ t. Done (list_chain_in y.cells.cells (Some (c.0, p))) t) y) (g.values c.1 l_live)
     (subst (λ z. EndsShown t (Done (Some (f, v)) (cdr_set (value_of x.cells.cells c.1) v t)) (λ t. Done z t) y)
     (ap (λ z. Some (f, z)) (sym (h.values p live)) ∙ ap (λ z. Some (z, value_of y.cells.cells p)) (sym (h.values c.0 (g.live c.0 f_live) ∙ g.values c.0 f_live)))
     last)))
@@ -121,7 +121,7 @@ chain_hangs follow objects w x y c e p i g h chain live made sets s shown =
 pub chain_begins : (w x : World) (e p : Tagged) → IsWorld w → MakesPair w e nil_id p x → (s : State) → ShowsState w s → MeansChain s (list_extended None (value_of w.cells.cells e) s) (Ok (Some (p, p))) x
 chain_begins w x e p i made s shown =
     let hung : Value → State → Outcome Chain = λ p t. Done (Some (p, p)) t in
-    subst (λ n. EndsShown s (then_do (made_pair (value_of w.cells.cells e) n s) hung) (λ t. Done (chain_in x.cells.cells (Some (p, p))) t) x) (nil_is w i)
+    subst (λ n. EndsShown s (then_do (made_pair (value_of w.cells.cells e) n s) hung) (λ t. Done (list_chain_in x.cells.cells (Some (p, p))) t) x) (nil_is w i)
     (ends_then s _ (λ t. Done (value_of x.cells.cells p) t) hung x (made s shown))
 
 pub chain_stops : (w x : World) (chain : Chain) (e : Tagged) (why : stops.Stop) → IsWorld w → MakesNoPair w e nil_id why x → (s : State) → ShowsState w s → StopsWith s (list_extended chain (value_of w.cells.cells e) s) (stop_in x.cells.cells why)
@@ -130,8 +130,8 @@ chain_stops w x chain e why i made s shown =
     subst (λ n. StopsWith s (then_do (made_pair (value_of w.cells.cells e) n s) hung) (stop_in x.cells.cells why)) (nil_is w i) (stops_then s _ hung (stop_in x.cells.cells why) (made s shown))
 
 -- the list is whole
-pub chain_ends : (follow : StepsFollow) (objects : ObjectsAreShown) (w x : World) (c : Tagged × Tagged) (v : Tagged) → WorldGrows w x → IsChain w.cells.cells (Some c) → SetsCdr w c.1 v x
-    → (s : State) → ShowsState w s → EndsShown s (list_ended (chain_in w.cells.cells (Some c)) (value_of w.cells.cells v) s) (λ t. Done (value_of x.cells.cells c.0) t) x
+pub chain_ends : (follow : StepsFollow) (objects : ObjectsAreShown) (w x : World) (c : Tagged × Tagged) (v : Tagged) → WorldGrows w x → IsListChain w.cells.cells (Some c) → SetsCdr w c.1 v x
+    → (s : State) → ShowsState w s → EndsShown s (list_ended (list_chain_in w.cells.cells (Some c)) (value_of w.cells.cells v) s) (λ t. Done (value_of x.cells.cells c.0) t) x
 chain_ends follow objects w x c v g chain sets s shown =
     let both = chain c refl in
     let f = value_of w.cells.cells c.0 in
@@ -140,20 +140,20 @@ chain_ends follow objects w x c v g chain sets s shown =
 
 -- ---- APPEND's visit
 
-pub copies : (w x y : World) (chain longer : Option (Tagged × Tagged)) (e : Tagged) (pair : Value) → WorldGrows w x → IsChain w.cells.cells chain → is_live w.cells.cells e ≡ true
-    → ((t : State) → ShowsState x t → MeansChain t (list_extended (chain_in x.cells.cells chain) (value_of x.cells.cells e) t) (Ok longer) y)
-    → (t : State) → ShowsState x t → EndsShown t (copying (chain_in w.cells.cells chain) pair (value_of w.cells.cells e) t) (λ u. Done (Goes (chain_in y.cells.cells longer)) u) y
+pub copies : (w x y : World) (chain longer : Option (Tagged × Tagged)) (e : Tagged) (pair : Value) → WorldGrows w x → IsListChain w.cells.cells chain → is_live w.cells.cells e ≡ true
+    → ((t : State) → ShowsState x t → MeansChain t (list_extended (list_chain_in x.cells.cells chain) (value_of x.cells.cells e) t) (Ok longer) y)
+    → (t : State) → ShowsState x t → EndsShown t (copying (list_chain_in w.cells.cells chain) pair (value_of w.cells.cells e) t) (λ u. Done (Goes (list_chain_in y.cells.cells longer)) u) y
 copies w x y chain longer e pair g hc he made t shown =
-    subst (λ l. EndsShown t (copying l pair (value_of w.cells.cells e) t) (λ u. Done (Goes (chain_in y.cells.cells longer)) u) y) (chain_same w x chain g hc)
-    (subst (λ z. EndsShown t (copying (chain_in x.cells.cells chain) pair z t) (λ u. Done (Goes (chain_in y.cells.cells longer)) u) y) (g.values e he)
-    (ends_then t _ (λ u. Done (chain_in y.cells.cells longer) u) (λ a s. Done (Goes a) s) y (made t shown)))
+    subst (λ l. EndsShown t (copying l pair (value_of w.cells.cells e) t) (λ u. Done (Goes (list_chain_in y.cells.cells longer)) u) y) (chain_same w x chain g hc)
+    (subst (λ z. EndsShown t (copying (list_chain_in x.cells.cells chain) pair z t) (λ u. Done (Goes (list_chain_in y.cells.cells longer)) u) y) (g.values e he)
+    (ends_then t _ (λ u. Done (list_chain_in y.cells.cells longer) u) (λ a s. Done (Goes a) s) y (made t shown)))
 
-pub stops_copying : (w x y : World) (chain : Option (Tagged × Tagged)) (e : Tagged) (why : stops.Stop) (pair : Value) → WorldGrows w x → IsChain w.cells.cells chain → is_live w.cells.cells e ≡ true
-    → ((t : State) → ShowsState x t → MeansChain t (list_extended (chain_in x.cells.cells chain) (value_of x.cells.cells e) t) (Err why) y)
-    → (t : State) → ShowsState x t → StopsWith t (copying (chain_in w.cells.cells chain) pair (value_of w.cells.cells e) t) (stop_in y.cells.cells why)
+pub stops_copying : (w x y : World) (chain : Option (Tagged × Tagged)) (e : Tagged) (why : stops.Stop) (pair : Value) → WorldGrows w x → IsListChain w.cells.cells chain → is_live w.cells.cells e ≡ true
+    → ((t : State) → ShowsState x t → MeansChain t (list_extended (list_chain_in x.cells.cells chain) (value_of x.cells.cells e) t) (Err why) y)
+    → (t : State) → ShowsState x t → StopsWith t (copying (list_chain_in w.cells.cells chain) pair (value_of w.cells.cells e) t) (stop_in y.cells.cells why)
 stops_copying w x y chain e why pair g hc he made t shown =
     subst (λ l. StopsWith t (copying l pair (value_of w.cells.cells e) t) (stop_in y.cells.cells why)) (chain_same w x chain g hc)
-    (subst (λ z. StopsWith t (copying (chain_in x.cells.cells chain) pair z t) (stop_in y.cells.cells why)) (g.values e he)
+    (subst (λ z. StopsWith t (copying (list_chain_in x.cells.cells chain) pair z t) (stop_in y.cells.cells why)) (g.values e he)
     (stops_then t _ (λ a s. Done (Goes a) s) (stop_in y.cells.cells why) (made t shown)))
 
 -- ---- NCONC's end

@@ -9,7 +9,7 @@ ghost use Rattle.rl_syms.specs.Contents.{value_of};
 ghost use Rattle.rl_state.specs.ShownState.{ShowsState};
 ghost use Rattle.rl_state.specs.Worlds.{IsWorld, WorldGrows, ObjectsAlone};
 ghost use Rattle.rl_state.specs.Ending.{IsAnswerLive, MeansAnswer};
-ghost use Rattle.rl_std.specs.Chains.{IsChain, MeansChain, chain_in};
+ghost use Rattle.rl_std.specs.Chains.{IsListChain, MeansChain, list_chain_in};
 ghost use Rattle.rl_tags.specs.Tagged.{Number};
 ghost use Rattle.rl_world.specs.declared.stop.NStep.TheVariants as step;
 
@@ -81,10 +81,10 @@ pub fn reverse(w: &mut World, u: Val) -> NStep
 /// A list with one more element behind the others, by its first and its last pair.
 fn extended(w: &mut World, chain: Option<(Val, Val)>, x: Val) -> Result<Option<(Val, Val)>, Stop>
     requires world { IsWorld w.old }
-    requires chain { IsChain w.old.cells.cells chain }
+    requires chain { IsListChain w.old.cells.cells chain }
     requires x_live { IsTrue (is_live w.old.cells.cells x) }
-    ensures means { (s : State) → ShowsState w.old s → MeansChain s (list_extended (chain_in w.old.cells.cells chain) (value_of w.old.cells.cells x) s) result w.new }
-    ensures chain { IfOk result (λ c. IsChain w.new.cells.cells c) }
+    ensures means { (s : State) → ShowsState w.old s → MeansChain s (list_extended (list_chain_in w.old.cells.cells chain) (value_of w.old.cells.cells x) s) result w.new }
+    ensures chain { IfOk result (λ c. IsListChain w.new.cells.cells c) }
     ensures grows { WorldGrows w.old w.new }
     ensures rest { ObjectsAlone w.old w.new }
 {
@@ -105,9 +105,9 @@ fn extended(w: &mut World, chain: Option<(Val, Val)>, x: Val) -> Result<Option<(
 /// The list, with this behind its last element.
 fn ended(w: &mut World, chain: Option<(Val, Val)>, v: Val) -> Val
     requires world { IsWorld w.old }
-    requires chain { IsChain w.old.cells.cells chain }
+    requires chain { IsListChain w.old.cells.cells chain }
     requires v_live { IsTrue (is_live w.old.cells.cells v) }
-    ensures means { (s : State) → ShowsState w.old s → MeansAnswer s (list_ended (chain_in w.old.cells.cells chain) (value_of w.old.cells.cells v) s) (step.Done result) w.new }
+    ensures means { (s : State) → ShowsState w.old s → MeansAnswer s (list_ended (list_chain_in w.old.cells.cells chain) (value_of w.old.cells.cells v) s) (step.Done result) w.new }
     ensures live { IsTrue (is_live w.new.cells.cells result) }
     ensures grows { WorldGrows w.old w.new }
     ensures rest { ObjectsAlone w.old w.new }

@@ -17,13 +17,13 @@ pub struct Words {
 
 impl Model for Words {
     ghost use Rattle.std.specs.Prelude.{ℕ, ◌-◌, ◌++◌, List, length, replicate};
-    ghost use Rattle.rl_words.specs.Written.{HasRoom};
+    ghost use Rattle.rl_words.specs.Written.{HasRoomForWords};
 
     ghost Value = { List ℕ };
 
     ghost view = { λ a. a.written.items ++ replicate (a.many - length a.written.items) 0 };
 
-    ghost invariant = { λ a. HasRoom a.written a.many };
+    ghost invariant = { λ a. HasRoomForWords a.written a.many };
 }
 
 impl Words {

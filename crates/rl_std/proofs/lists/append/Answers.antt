@@ -3,7 +3,7 @@ use Rattle.rl_world.specs.declared.stop.NStep.TheVariants as step
 use Rattle.rl_meaning.specs.Lists.{append, list_ended}
 use Rattle.rl_syms.specs.Contents.{value_of}
 use Rattle.rl_state.specs.Ending.{MeansAnswer, stop_in}
-use Rattle.rl_std.specs.Chains.{chain_in}
+use Rattle.rl_std.specs.Chains.{list_chain_in}
 use Rattle.rl_std.proofs.Along.{passes_pair, stops_at_pair, walk_is_over, wants_turn}
 use Rattle.rl_std.proofs.Coming.{answers_on, begins}
 use Rattle.rl_std.proofs.Listing.{chain_stays, copies, stops_copying}
@@ -28,7 +28,7 @@ loop-p-preserved c =
       way = way_goes follow c.args.w.now c.loop-p.w c.extended.new.w c.loop-p.at c.in-Some.p.1 c.loop-p.invariant.way both (follow.alone c.loop-p.w c.turn.new.w c.extended.new.w c.turn.ensures.rest c.extended.ensures.rest) (both.live c.in-Some.p.1 lives.1);
       chain = c.in-Ok.ensures.chain;
       comes = λ s shown.
-          passes_pair copying (behind (value_of c.args.w.now.cells.cells c.args.v)) follow c.walks_are_unbounded.ensures copying_gives s (append (value_of c.args.w.now.cells.cells c.args.u) (value_of c.args.w.now.cells.cells c.args.v) s) c.loop-p.w c.turn.new.w c.extended.new.w (chain_in c.loop-p.w.cells.cells c.loop-p.chain) (chain_in c.extended.new.w.cells.cells c.in-Ok.longer) c.loop-p.at c.in-Some.p
+          passes_pair copying (behind (value_of c.args.w.now.cells.cells c.args.v)) follow c.walks_are_unbounded.ensures copying_gives s (append (value_of c.args.w.now.cells.cells c.args.u) (value_of c.args.w.now.cells.cells c.args.v) s) c.loop-p.w c.turn.new.w c.extended.new.w (list_chain_in c.loop-p.w.cells.cells c.loop-p.chain) (list_chain_in c.extended.new.w.cells.cells c.in-Ok.longer) c.loop-p.at c.in-Some.p
           (c.loop-p.invariant.comes s shown) c.in-Some.ensures.means c.in_default-turn.ensures.means
           (copies c.loop-p.w c.turn.new.w c.extended.new.w c.loop-p.chain c.in-Ok.longer c.in-Some.p.0 (value_of c.loop-p.w.cells.cells c.loop-p.at) c.turn.ensures.grows c.loop-p.invariant.chain lives.0 c.in-Ok.ensures.means)
           (both.values c.in-Some.p.1 lives.1);
@@ -48,12 +48,12 @@ loop-p-smaller c =
 
 pub returns-in-Err-clause-means : goal.returns-in-Err-clause-means
 returns-in-Err-clause-means c s shown =
-    wants_turn copying (behind (value_of c.args.w.now.cells.cells c.args.v)) c.steps_follow.ensures c.walks_are_unbounded.ensures copying_gives s _ c.loop-p.w c.turn.new.w (chain_in c.loop-p.w.cells.cells c.loop-p.chain) c.loop-p.at c.in-Some.p c.in-Err.why (c.loop-p.invariant.comes s shown) c.in-Some.ensures.means c.in-Err.ensures.means
+    wants_turn copying (behind (value_of c.args.w.now.cells.cells c.args.v)) c.steps_follow.ensures c.walks_are_unbounded.ensures copying_gives s _ c.loop-p.w c.turn.new.w (list_chain_in c.loop-p.w.cells.cells c.loop-p.chain) c.loop-p.at c.in-Some.p c.in-Err.why (c.loop-p.invariant.comes s shown) c.in-Some.ensures.means c.in-Err.ensures.means
 
 pub returns-in-Err-extended-clause-means : goal.returns-in-Err-extended-clause-means
 returns-in-Err-extended-clause-means c s shown =
     let lives = c.in-Some.ensures.live c.in-Some.p refl in
-    stops_at_pair copying (behind (value_of c.args.w.now.cells.cells c.args.v)) c.steps_follow.ensures c.walks_are_unbounded.ensures copying_gives s _ c.loop-p.w c.turn.new.w (chain_in c.loop-p.w.cells.cells c.loop-p.chain) c.loop-p.at c.in-Some.p (stop_in c.extended.new.w.cells.cells c.in-Err-extended.why)
+    stops_at_pair copying (behind (value_of c.args.w.now.cells.cells c.args.v)) c.steps_follow.ensures c.walks_are_unbounded.ensures copying_gives s _ c.loop-p.w c.turn.new.w (list_chain_in c.loop-p.w.cells.cells c.loop-p.chain) c.loop-p.at c.in-Some.p (stop_in c.extended.new.w.cells.cells c.in-Err-extended.why)
     (c.loop-p.invariant.comes s shown) c.in-Some.ensures.means c.in_default-turn.ensures.means
     (stops_copying c.loop-p.w c.turn.new.w c.extended.new.w c.loop-p.chain c.in-Some.p.0 c.in-Err-extended.why (value_of c.loop-p.w.cells.cells c.loop-p.at) c.turn.ensures.grows c.loop-p.invariant.chain lives.0 c.in-Err-extended.ensures.means)
 
@@ -75,7 +75,7 @@ ended-requires-clause-v_live c = c.loop-p.invariant.way.grows.live c.args.v c.re
 pub returns-clause-means : goal.returns-clause-means
 returns-clause-means c s shown =
     let v = value_of c.args.w.now.cells.cells c.args.v in
-    let chain = chain_in c.loop-p.w.cells.cells c.loop-p.chain in
+    let chain = list_chain_in c.loop-p.w.cells.cells c.loop-p.chain in
     let over = walk_is_over copying (behind v) c.walks_are_unbounded.ensures s (append (value_of c.args.w.now.cells.cells c.args.u) v s) c.loop-p.w chain c.loop-p.at (c.loop-p.invariant.comes s shown) c.in_default.ensures.means in
     answers_on c.steps_follow.ensures s (append (value_of c.args.w.now.cells.cells c.args.u) v s) (λ t. list_ended chain v t) (step.Done c.ended.result) c.loop-p.w c.ended.new.w over
     (λ t shown_t. subst (λ z. MeansAnswer t (list_ended chain z t) (step.Done c.ended.result) c.ended.new.w) (c.loop-p.invariant.way.grows.values c.args.v c.requires.v_live) (c.ended.ensures.means t shown_t))

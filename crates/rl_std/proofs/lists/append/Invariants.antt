@@ -7,7 +7,7 @@ use Rattle.rl_meaning.specs.State.{State}
 use Rattle.rl_syms.specs.Contents.{value_of}
 use Rattle.rl_state.specs.Ending.{EndsShown}
 use Rattle.rl_state.specs.ShownState.{ShowsState, option_value_in}
-use Rattle.rl_std.specs.Chains.{IsChain, chain_in}
+use Rattle.rl_std.specs.Chains.{IsListChain, list_chain_in}
 use Rattle.rl_std.proofs.Along.{walking}
 use Rattle.rl_std.proofs.Visits.{behind, copying, joining, lasting, resulting, turning_round}
 use Rattle.rl_std.proofs.Ways.{IsOnWay}
@@ -19,8 +19,8 @@ ghosts-walks_are_unbounded a = record { what = Chain }
 abbrev pub invariant-loop-p : goal.invariant-loop-p
 invariant-loop-p l = record {
   way : IsOnWay l.fn.w l.w l.at;
-  chain : IsChain l.w.cells.cells l.chain;
-  comes : (s : State) → ShowsState l.fn.w s → EndsShown s (append (value_of l.fn.w.cells.cells l.fn.u) (value_of l.fn.w.cells.cells l.fn.v) s) (walking copying (behind (value_of l.fn.w.cells.cells l.fn.v)) (chain_in l.w.cells.cells l.chain) (value_of l.w.cells.cells l.at)) l.w;
+  chain : IsListChain l.w.cells.cells l.chain;
+  comes : (s : State) → ShowsState l.fn.w s → EndsShown s (append (value_of l.fn.w.cells.cells l.fn.u) (value_of l.fn.w.cells.cells l.fn.v) s) (walking copying (behind (value_of l.fn.w.cells.cells l.fn.v)) (list_chain_in l.w.cells.cells l.chain) (value_of l.w.cells.cells l.at)) l.w;
 }
 
 abbrev pub decreases-loop-p : goal.decreases-loop-p

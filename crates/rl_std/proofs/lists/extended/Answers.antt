@@ -1,7 +1,7 @@
 use Rattle.std.proofs.Common.{refl}
 use Rattle.rl_std.proofs.Listing.{chain_begins, chain_hangs, chain_stops, one_chain}
 use Rattle.rl_std.proofs.Parting.{pair_stays}
-use Rattle.rl_std.specs.Chains.{chain_in}
+use Rattle.rl_std.specs.Chains.{list_chain_in}
 use Rattle.rl_std.proofs.lists.extended.Goals as goal
 
 pub set_cdr-requires-clause-pair : goal.set_cdr-requires-clause-pair
@@ -33,4 +33,4 @@ pub returns-in-None-clause-chain : goal.returns-in-None-clause-chain
 returns-in-None-clause-chain c = one_chain c.pair.new.w c.in-Ok.p c.in-Ok.p c.in-Ok.ensures.pair c.in-Ok.ensures.pair
 
 pub returns-in-Err-clause-means : goal.returns-in-Err-clause-means
-returns-in-Err-clause-means c = chain_stops c.args.w.now c.pair.new.w (chain_in c.args.w.now.cells.cells c.args.chain) c.args.x c.in-Err.why c.requires.world c.in-Err.ensures.means
+returns-in-Err-clause-means c = chain_stops c.args.w.now c.pair.new.w (list_chain_in c.args.w.now.cells.cells c.args.chain) c.args.x c.in-Err.why c.requires.world c.in-Err.ensures.means

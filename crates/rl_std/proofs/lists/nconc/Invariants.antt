@@ -8,7 +8,7 @@ use Rattle.rl_meaning.specs.State.{State}
 use Rattle.rl_syms.specs.Contents.{value_of}
 use Rattle.rl_state.specs.Ending.{EndsShown}
 use Rattle.rl_state.specs.ShownState.{ShowsState, option_value_in}
-use Rattle.rl_std.specs.Chains.{IsChain, chain_in}
+use Rattle.rl_std.specs.Chains.{IsListChain, list_chain_in}
 use Rattle.rl_std.proofs.Along.{walking}
 use Rattle.rl_std.proofs.Visits.{behind, copying, joining, lasting, resulting, turning_round}
 use Rattle.rl_std.proofs.Ways.{IsOnWay}
