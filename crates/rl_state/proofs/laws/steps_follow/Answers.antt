@@ -15,7 +15,7 @@ returns c =
       grows = grows_trans;
       none = λ w. rest_refl law w w refl;
       alone = rest_trans law;
-      counted = λ w k t. record { rest = refl; counts = t };
+      counted = λ w k t. record { rest = refl; counts = t; functions = record { words = λ k. refl } };
       changed = λ w v o s h. record { shows = h; stays = stays_changed v o s };
       reading = λ w v s h. record { shows = shows_reading w v s h; stays = stays_reading v s };
       changing = λ w v o s h. record { shows = shows_changing w v _ h; stays = stays_changing v o s };
