@@ -259,7 +259,8 @@ const BINDINGS: &[(Call, Answer)] = &[
     (Call::Top(b"X"), Answer::Value(6)),
     (Call::SetTop(b"X", 7), Answer::Done),
     (Call::Lookup(b"X"), Answer::Value(7)),
-    (Call::Lookup(b"NIL"), Answer::Nil),
+    // As opening begins, no identifier has a value yet, and NIL has none either.
+    (Call::Lookup(b"NIL"), Answer::Unbound),
     (Call::Bind(b"EMSG*", 1, 0), Answer::Barred),
 ];
 
