@@ -16,4 +16,6 @@ mod printing;
 #[cfg(test)]
 mod reading;
 #[cfg(test)]
+mod stack;
+#[cfg(test)]
 mod world;
